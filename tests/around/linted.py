@@ -4,6 +4,7 @@ its forms are in forms.py."""
 import os
 import re
 
+from editors import on_terminal
 from harness import BAD, TOP, lines, put, quoted
 from modules import ALL, DECLARED, DEFAULT, GUIDE, MISSING, UNTYPED, UNUSED
 from modules import fault, link, report, run_parts, tree, unused
@@ -24,8 +25,10 @@ def run(group):
         comments,
         comments_and_the_rest,
         comments_asked_by_a_project,
+        lines_of_files,
+        many_lines_of_files,
     )
-    run_parts(group, parts, 191)
+    run_parts(group, parts, 198)
 
 
 def run_script(group):
@@ -426,3 +429,53 @@ def comments_asked_by_a_project(group, lint):
         put(top, {'o/.tfrules': text})
         wanted = 1, b'', lines('tfrules-all: error: o/.tfrules:' + said)
         group.check('a bad line: %r' % text, lint('o', cwd=top), wanted)
+
+
+def lines_of_files(group, lint):
+    """On a terminal the line of a file stands below what is said of a place in it, and nowhere else."""
+    top = tree(
+        group,
+        {
+            'a/a.tf': b'\n\tx = "\xe5\x90\x8d" # tflint-ignore: \x1b\n' + DECLARED,
+            'a/b.tf': b'variable "m" { type = string } #' + b'x' * 240 + b'\n',
+            'b/b.tf': b'x = 1\ny = ]\n',
+            'c/c.tf': b'x = "\xff"\n',
+        },
+    )
+    of_n = [UNUSED.replace('1:1', '3:1') % 'a/a.tf', '  variable "n" { type = string }', '  ^']
+    of_m = UNUSED.replace('"n"', '"m"') % 'a/b.tf'
+    of_comment = [unknown('a/a.tf:2:10', '\x1b'), '   x = "\u540d" # tflint-ignore:  ', '  ' + 10 * ' ' + '^']
+    of_fault = [fault('b/b.tf:2:5', 'unexpected token'), '  y = ]', '      ^']
+    no_text = fault('c/c.tf:1:6', 'invalid UTF-8')
+    found, told = lines('2 issue(s) found:', '', *of_n, of_m), lines(*of_comment, *of_fault, no_text)
+    plain_found = lines('2 issue(s) found:', '', of_n[0], of_m)
+    plain_told = lines(of_comment[0], of_fault[0], no_text)
+    words = ['--quiet', '--check-comments', '.']
+    said = on_terminal(group, [group.linted, *words], top).replace(b'\r\n', b'\n')
+    group.check('lines of files on a terminal', said, found + told)
+    group.check('and not in a file', lint(*words[1:], cwd=top), (1, plain_found, plain_told))
+    for name, shown, plain in (('err', found, plain_told), ('out', told, plain_found)):
+        command = '"$@" %s> %s' % ('2' if name == 'err' else '', name)
+        said = on_terminal(group, ['sh', '-c', command, 'sh', group.linted, *words], top).replace(b'\r\n', b'\n')
+        got = said, (top / name).read_bytes()
+        group.check('standard %s in a file' % ('error' if name == 'err' else 'output'), got, (shown, plain))
+    words.insert(0, '--format=github')
+    said = on_terminal(group, [group.linted, *words], top).replace(b'\r\n', b'\n')
+    form = group.call(group.linted, *words, cwd=top)[1]
+    group.check('a form is what it is elsewhere', sorted(said.splitlines()), sorted((form + told).splitlines()))
+
+
+def many_lines_of_files(group, lint):
+    """Each of many issues has its own line."""
+    names = ['v%d' % number for number in range(3000)]
+    declared = ['variable "%s" { type = string }' % name for name in names]
+    top = tree(group, {'a.tf': lines(*declared[:1500]), 'b.tf': lines(*declared[1500:])})
+    wanted = []
+    for number, name in enumerate(names):
+        place = '%s.tf:%d:1' % ('ab'[number // 1500], number % 1500 + 1)
+        wanted += [UNUSED.replace('%s:1:1', place).replace('"n"', '"%s"' % name), '  ' + declared[number], '  ^']
+    said = on_terminal(group, [group.linted, '--quiet'], top).replace(b'\r\n', b'\n')
+    wanted = lines('3000 issue(s) found:', '', *wanted)
+    group.holds('3000 lines on a terminal', said == wanted, [len(said), len(wanted)])
+    plain = b''.join(line for line in wanted.splitlines(True) if line[:2] != b'  ')
+    group.check('and not in a file', lint(cwd=top)[1] == plain, True)

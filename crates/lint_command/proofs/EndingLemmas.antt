@@ -24,6 +24,8 @@ use Rattle.tree_lint.specs.Runs.{IsLintRun, worse_status}
 use Rattle.tree_lint.specs.declared.counts.Counts.{Counts}
 use Rattle.tree_lint.specs.declared.policy.Governed.{Governed}
 use Rattle.tree_lint.specs.declared.run.RunEnd.{RunEnd}
+use Rattle.tree_lint.specs.declared.written.Manner.{Manner}
+use Rattle.tree_lint.specs.declared.written.Terminals.{Terminals}
 use Rattle.lint_config.specs.Options.{options_of}
 use Rattle.module_config.specs.Configs.{Configures}
 use Rattle.module_config.specs.Refusals.{configured_refusals}
@@ -64,22 +66,22 @@ or_true : (a b : Bool) → b ≡ true → (a || b) ≡ true
 or_true true b e = refl
 or_true false b e = e
 
-module _ (files : Files) (form : Option Form) (quiet : Bool) (c : Configured) (modules : List Governed) (faults : List Found) (was is : Faults) (ran : RunEnd) (between : End) (head : List ℕ) (same : modules ≡ c.governed.items) (first : head ≡ head_of form)
-    (linted : IsLintRun files form head modules was is between ran) where
-  linted' : IsLintRun files form (head_of form) c.governed.items was is between ran
-  linted' = subst (λ l. IsLintRun files form (head_of form) l was is between ran) same (subst (λ h. IsLintRun files form h modules was is between ran) first linted)
+module _ (files : Files) (manner : Manner) (quiet : Bool) (c : Configured) (modules : List Governed) (faults : List Found) (was is : Faults) (ran : RunEnd) (between : End) (head : List ℕ) (same : modules ≡ c.governed.items) (first : head ≡ head_of manner.form)
+    (linted : IsLintRun files manner head modules was is between ran) where
+  linted' : IsLintRun files manner (head_of manner.form) c.governed.items was is between ran
+  linted' = subst (λ l. IsLintRun files manner (head_of manner.form) l was is between ran) same (subst (λ h. IsLintRun files manner h modules was is between ran) first linted)
 
-  cut_here : (end : End) → is_cut between ≡ true → end.out ≡ between.out → Then between.err.failed between.err end.err (write_failed tree_linter) → end.status ≡ 1 → RunsThen files form quiet c faults was is end
+  cut_here : (end : End) → is_cut between ≡ true → end.out ≡ between.out → Then between.err.failed between.err end.err (write_failed tree_linter) → end.status ≡ 1 → RunsThen files manner quiet c faults was is end
   cut_here end bad out message exit = record { between = between; ran = ran; linted = linted'; ends = inl (record { cut = bad; output = out; message = message; exit = exit }) }
 
   -- standard error failed: nothing more is said
-  pub error_cut : (end : End) → between.err.failed ≡ true → end.out ≡ between.out → end.err ≡ between.err → end.status ≡ 1 → RunsThen files form quiet c faults was is end
+  pub error_cut : (end : End) → between.err.failed ≡ true → end.out ≡ between.out → end.err ≡ between.err → end.status ≡ 1 → RunsThen files manner quiet c faults was is end
   error_cut end bad out err exit =
       cut_here end (or_true between.out.failed between.err.failed bad) out (subst (λ w. Then between.err.failed between.err w (write_failed tree_linter)) (sym err) (then_failed between.err.failed between.err (write_failed tree_linter) bad)) exit
 
   -- standard output failed: that is said
   pub output_cut : (p : Program) (v : Bool) (end : End) → p ≡ tree_linter → between.err.failed ≡ false → between.out.failed ≡ true → end.out ≡ between.out → end.err.before ≡ between.err.before
-      → TookBy end.err.failed between.err.after end.err.after (if between.out.failed then write_failed p else []) → end.status ≡ (if v then p.failure else 1) → RunsThen files form quiet c faults was is end
+      → TookBy end.err.failed between.err.after end.err.after (if between.out.failed then write_failed p else []) → end.status ≡ (if v then p.failure else 1) → RunsThen files manner quiet c faults was is end
   output_cut p v end ep good bad out err took exit =
       cut_here end (ap (λ v. v || between.err.failed) bad) out
       (then_took between.err.failed between.err end.err (write_failed tree_linter) good err
@@ -92,7 +94,7 @@ module _ (files : Files) (form : Option Form) (quiet : Bool) (c : Configured) (m
 
   -- none failed
   pub closed_here : (out err : Writer) (end : End) → between.err.failed ≡ false → between.out.failed ≡ false → between.status ≡ ran.status → end.out ≡ record out { before = between.out.before; flushes_before = between.out.flushes_before } → end.err ≡ record err { before = between.err.before; flushes_before = between.err.flushes_before }
-      → out.before ≡ between.out.after → err.before ≡ between.err.after → (Untouched : Type 0) → (Untouched → end.out ≡ between.out) → Closes form quiet c faults ran out err Untouched end.status → RunsThen files form quiet c faults was is end
+      → out.before ≡ between.out.after → err.before ≡ between.err.after → (Untouched : Type 0) → (Untouched → end.out ≡ between.out) → Closes manner.form quiet c faults ran out err Untouched end.status → RunsThen files manner quiet c faults was is end
   closed_here out err end err_good out_good status eo ee bo be Untouched still closes = record { between = between; ran = ran; linted = linted'; ends = inr (by closes) }
     where
       whole : is_cut between ≡ false
@@ -101,12 +103,12 @@ module _ (files : Files) (form : Option Form) (quiet : Bool) (c : Configured) (m
       said : (text : List ℕ) → Took err text → Then false between.err end.err text
       said text took = subst (λ (w : Writer). Then false between.err w text) (sym ee) (refl, subst (λ b. TookBy err.failed b err.after text) be took)
 
-      by : Closes form quiet c faults ran out err Untouched end.status → EndsLost form between end ⊎ EndsWhole form quiet c faults ran between end
+      by : Closes manner.form quiet c faults ran out err Untouched end.status → EndsLost manner.form between end ⊎ EndsWhole manner.form quiet c faults ran between end
       by (inl (forms, same, took, exit)) = inl (record { forms = forms; whole = whole; output = still same; message = said _ took; exit = exit })
       by (inr (foot, is', wrote, took, exit)) = inr (record {
         whole = whole;
         foot = foot;
-        is = subst (λ s. IsFoot form (worse_status s (fault_status faults c.unlinted)) ran faults c foot) (sym status) is';
+        is = subst (λ s. IsFoot manner.form (worse_status s (fault_status faults c.unlinted)) ran faults c foot) (sym status) is';
         output = subst (λ (w : Writer). Then false between.out w foot) (sym eo) (refl, subst (λ b. TookBy out.failed b out.after foot) bo wrote);
         message = said (last_words quiet end.out.failed faults c ran.counts) (subst (λ (w : Writer). Took err (last_words quiet w.failed faults c ran.counts)) (sym eo) took);
         exit = exit ∙ ap (λ (s : ℕ). if out.failed || err.failed then 1 else worse_status s (fault_status faults c.unlinted)) (sym status)
@@ -138,16 +140,16 @@ form_ends items form status ran named whole faults c remarks slice (Ok v) first 
     (all.0, e ∙ ap (form_foot form status ran.has_output) (ap (map said_by) same ∙ said ∙ all.1))
 form_ends items form status ran named whole faults c remarks slice (Err f) first then' is said same e = tt
 
-pub lints_modules : (files later : Files) (job : Job) (modules : List Module) (faults slice : List Found) (was looked is : Faults) (c : Configured) (end : End) → later ≡ files → slice ≡ faults
-    → Configures files (options_of job.given.said) job.given.reads modules was looked c → RunsThen later job.form job.quiet c slice looked is end → LintsCollected (job_of job) modules faults files was is end
-lints_modules files later job modules faults slice was looked is c end same these h runs =
-    inr (record { config = c; looked = looked; configures = h; runs = subst (λ l. RunsThen files job.form job.quiet c l looked is end) these (subst (λ f. RunsThen f job.form job.quiet c slice looked is end) same runs) })
+pub lints_modules : (files later : Files) (terminals : Terminals) (job : Job) (modules : List Module) (faults slice : List Found) (was looked is : Faults) (c : Configured) (end : End) → later ≡ files → slice ≡ faults
+    → Configures files (options_of job.given.said) job.given.reads modules was looked c → RunsThen later (record { form = job.form; terminals = terminals }) job.quiet c slice looked is end → LintsCollected terminals (job_of job) modules faults files was is end
+lints_modules files later terminals job modules faults slice was looked is c end same these h runs =
+    inr (record { config = c; looked = looked; configures = h; runs = subst (λ l. RunsThen files (record { form = job.form; terminals = terminals }) job.quiet c l looked is end) these (subst (λ f. RunsThen f (record { form = job.form; terminals = terminals }) job.quiet c slice looked is end) same runs) })
 
-pub lints_collected : (files later : Files) (job : Line.Job) (paths : List Name) (modules : List Module) (faults : List Found) (was walked is : Faults) (end : End) → later ≡ files → Collects files job.shard paths was walked modules faults
-    → LintsCollected job modules faults later walked is end → LintsOr job paths files was is end
-lints_collected files later job paths modules faults was walked is end same c (inl memory) = inl memory
-lints_collected files later job paths modules faults was walked is end same c (inr lints) =
-    inr (record { modules = modules; faults = faults; walked = walked; collects = c; lints = subst (λ f. LintsModules job modules faults f walked is end) same lints })
+pub lints_collected : (files later : Files) (terminals : Terminals) (job : Line.Job) (paths : List Name) (modules : List Module) (faults : List Found) (was walked is : Faults) (end : End) → later ≡ files → Collects files job.shard paths was walked modules faults
+    → LintsCollected terminals job modules faults later walked is end → LintsOr terminals job paths files was is end
+lints_collected files later terminals job paths modules faults was walked is end same c (inl memory) = inl memory
+lints_collected files later terminals job paths modules faults was walked is end same c (inr lints) =
+    inr (record { modules = modules; faults = faults; walked = walked; collects = c; lints = subst (λ f. LintsModules terminals job modules faults f walked is end) same lints })
 
 -- ---- last words
 

@@ -31,6 +31,8 @@ use Rattle.tree_lint.specs.Runs.{IsLintRun, worse_status}
 use Rattle.tree_lint.specs.declared.counts.Counts.{Counts}
 use Rattle.tree_lint.specs.declared.kept.Kept.{Kept}
 use Rattle.tree_lint.specs.declared.run.RunEnd.{RunEnd}
+use Rattle.tree_lint.specs.declared.written.Manner.{Manner}
+use Rattle.tree_lint.specs.declared.written.Terminals.{Terminals}
 use Rattle.lint_command.specs.Explained.{explained, rule_list}
 use Rattle.lint_command.specs.Line.{Asking, Job, asking_of_texts, tfrules_all}
 use Rattle.lint_command.specs.LinterWords.{linter_words}
@@ -132,52 +134,52 @@ pub record EndsWhole (form : Option Form) (quiet : Bool) (config : Configured) (
   pub exit : end.status ≡ (if end.out.failed || end.err.failed then 1 else worse_status between.status (fault_status faults config.unlinted))
 
 -- EACH MODULE IS LINTED whose options are known, by its own, and the run ends
-pub record RunsThen (files : Files) (form : Option Form) (quiet : Bool) (config : Configured) (faults : List Found) (was is : Faults) (end : End) : Type 0 where
+pub record RunsThen (files : Files) (manner : Manner) (quiet : Bool) (config : Configured) (faults : List Found) (was is : Faults) (end : End) : Type 0 where
   pub between : End  -- when the modules were linted
   pub ran : RunEnd
-  pub linted : IsLintRun files form (head_of form) config.governed.items was is between ran
-  pub ends : EndsCut between end ⊎ (EndsLost form between end ⊎ EndsWhole form quiet config faults ran between end)
+  pub linted : IsLintRun files manner (head_of manner.form) config.governed.items was is between ran
+  pub ends : EndsCut between end ⊎ (EndsLost manner.form between end ⊎ EndsWhole manner.form quiet config faults ran between end)
 
 -- these modules are linted, and these names can't be looked at
-pub record LintsModules (job : Job) (modules : List Module) (faults : List Found) (files : Files) (was is : Faults) (end : End) : Type 0 where
+pub record LintsModules (terminals : Terminals) (job : Job) (modules : List Module) (faults : List Found) (files : Files) (was is : Faults) (end : End) : Type 0 where
   pub config : Configured
   pub looked : Faults  -- those of calls before the first module is linted
   pub configures : Configures files job.given.said job.given.reads modules was looked config
-  pub runs : RunsThen files job.form job.quiet config faults looked is end
+  pub runs : RunsThen files (record { form = job.form; terminals = terminals }) job.quiet config faults looked is end
 
 -- THE MODULES ARE LINTED of what these paths stand for, by a device that has had these faults before and after
-pub record Lints (job : Job) (paths : List Name) (files : Files) (was is : Faults) (end : End) : Type 0 where
+pub record Lints (terminals : Terminals) (job : Job) (paths : List Name) (files : Files) (was is : Faults) (end : End) : Type 0 where
   pub modules : List Module
   pub faults : List Found
   pub walked : Faults  -- those of calls before it is looked for files `.tfrules`
   pub collects : Collects files job.shard paths was walked modules faults
-  pub lints : LintsModules job modules faults files walked is end
+  pub lints : LintsModules terminals job modules faults files walked is end
 
 -- there is nothing but this row
 abbrev pub SaysOnly : Row → End → Type 0
 SaysOnly row end = Shows tree_linter row end
 
 -- memory ran out before a module was linted, or these were linted
-abbrev pub LintsCollected : Job → List Module → List Found → Files → Faults → Faults → End → Type 0
-LintsCollected job modules faults files was is end = SaysOnly (out_of_memory tree_linter) end ⊎ LintsModules job modules faults files was is end
+abbrev pub LintsCollected : Terminals → Job → List Module → List Found → Files → Faults → Faults → End → Type 0
+LintsCollected terminals job modules faults files was is end = SaysOnly (out_of_memory tree_linter) end ⊎ LintsModules terminals job modules faults files was is end
 
 -- the same of the modules of paths
-abbrev pub LintsOr : Job → List Name → Files → Faults → Faults → End → Type 0
-LintsOr job paths files was is end = SaysOnly (out_of_memory tree_linter) end ⊎ Lints job paths files was is end
+abbrev pub LintsOr : Terminals → Job → List Name → Files → Faults → Faults → End → Type 0
+LintsOr terminals job paths files was is end = SaysOnly (out_of_memory tree_linter) end ⊎ Lints terminals job paths files was is end
 
 -- the same where the paths are those of the line
-abbrev pub LintsNamed : Job → List Name → Files → Faults → Faults → End → Type 0
-LintsNamed job names files was is end = LintsOr job (paths_of_line names) files was is end
+abbrev pub LintsNamed : Terminals → Job → List Name → Files → Faults → Faults → End → Type 0
+LintsNamed terminals job names files was is end = LintsOr terminals job (paths_of_line names) files was is end
 
 abbrev pub read_failed : Row
 read_failed = fails_with tree_linter (codes "read failed")
 
 -- the same where they are read from standard input, which has these bytes where it tells them, unless its read failed
-abbrev pub ReadsAndLints : Job → Bool → Option (List ℕ) → Files → Faults → Faults → End → Type 0
-ReadsAndLints job failed input files was is end =
+abbrev pub ReadsAndLints : Terminals → Job → Bool → Option (List ℕ) → Files → Faults → Faults → End → Type 0
+ReadsAndLints terminals job failed input files was is end =
     SaysOnly (out_of_memory tree_linter) end
     ⊎ (((failed ≡ true) × (is ≡ was) × SaysOnly read_failed end)
-    ⊎ ((failed ≡ false) × (bytes : List ℕ) × Tells input bytes × Lints job (paths_of_input bytes) files was is end))
+    ⊎ ((failed ≡ false) × (bytes : List ℕ) × Tells input bytes × Lints terminals job (paths_of_input bytes) files was is end))
 
 -- ---- runs that look at no file
 
@@ -220,24 +222,24 @@ ShowsUsage texts usage end = SaysOnly (out_of_memory tree_linter) end ⊎ SaysOn
 -- ---- all runs
 
 -- how a run ends that was asked for this
-abbrev pub EndsBy : Bool → Job → List Name → Bool → Option (List ℕ) → Files → Faults → Faults → End → Type 0
-EndsBy true job names failed input files was is end = ReadsAndLints job failed input files was is end
-EndsBy false job names failed input files was is end = LintsNamed job names files was is end
+abbrev pub EndsBy : Terminals → Bool → Job → List Name → Bool → Option (List ℕ) → Files → Faults → Faults → End → Type 0
+EndsBy terminals true job names failed input files was is end = ReadsAndLints terminals job failed input files was is end
+EndsBy terminals false job names failed input files was is end = LintsNamed terminals job names files was is end
 
-abbrev pub EndsAsked : Asking → Bool → Option (List ℕ) → Files → Faults → Faults → End → Type 0
-EndsAsked asking failed input files was is end = EndsBy asking.null asking.job asking.names failed input files was is end
+abbrev pub EndsAsked : Terminals → Asking → Bool → Option (List ℕ) → Files → Faults → Faults → End → Type 0
+EndsAsked terminals asking failed input files was is end = EndsBy terminals asking.null asking.job asking.names failed input files was is end
 
 -- without options the device isn't called
-abbrev pub EndsFor : List Text → Result Asking Usage → Bool → Option (List ℕ) → Files → Faults → Faults → End → Type 0
-EndsFor texts (Ok asking) failed input files was is end = EndsAsked asking failed input files was is end
-EndsFor texts (Err usage) failed input files was is end = (is ≡ was) × ShowsUsage texts usage end
+abbrev pub EndsFor : Terminals → List Text → Result Asking Usage → Bool → Option (List ℕ) → Files → Faults → Faults → End → Type 0
+EndsFor terminals texts (Ok asking) failed input files was is end = EndsAsked terminals asking failed input files was is end
+EndsFor terminals texts (Err usage) failed input files was is end = (is ≡ was) × ShowsUsage texts usage end
 
 -- the end of a run with these texts, and these names beside them
-abbrev pub IsEndOf : List Text → List Name → Bool → Option (List ℕ) → Files → Faults → Faults → End → Type 0
-IsEndOf texts others failed input files was is end =
-    ((is ≡ was) × SaysOnly (out_of_memory tree_linter) end) ⊎ EndsFor texts (asking_of_texts texts others) failed input files was is end
+abbrev pub IsEndOf : Terminals → List Text → List Name → Bool → Option (List ℕ) → Files → Faults → Faults → End → Type 0
+IsEndOf terminals texts others failed input files was is end =
+    ((is ≡ was) × SaysOnly (out_of_memory tree_linter) end) ⊎ EndsFor terminals texts (asking_of_texts texts others) failed input files was is end
 
--- THE END of a run with these words, over these files, where standard input has these bytes and the device has had these faults
--- before and after: what the words ask for; or memory ran out before a file was looked at
-abbrev pub IsEnd : List (List ℕ) → Bool → Option (List ℕ) → Files → Faults → Faults → End → Type 0
-IsEnd words failed input files was is end = IsEndOf (texts_in (codes "tfrules-all") words) (others_in words) failed input files was is end
+-- THE END of a run with these words, over these files, where these outputs are read on terminals, standard input has these bytes
+-- and the device has had these faults before and after: what the words ask for; or memory ran out before a file was looked at
+abbrev pub IsEnd : Terminals → List (List ℕ) → Bool → Option (List ℕ) → Files → Faults → Faults → End → Type 0
+IsEnd terminals words failed input files was is end = IsEndOf terminals (texts_in (codes "tfrules-all") words) (others_in words) failed input files was is end

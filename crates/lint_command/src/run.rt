@@ -31,7 +31,7 @@ use tree_lint::counts::{Counts, tell_summary};
 use tree_lint::module_tree::ModuleTree;
 use tree_lint::refusal::tell_faults;
 use tree_lint::run::{RunEnd, run_over, worse_status};
-use tree_lint::written::Written;
+use tree_lint::written::{Manner, Terminals, Written};
 use tree_words::operands::{operands_in, operands_of, read_names};
 use tree_words::words::words_of;
 
@@ -176,7 +176,7 @@ fn finish<O: ByteSink, E: ByteSink>(
 struct Rest<'r> {
     /// Nothing is said of the run as a whole.
     quiet: bool,
-    form: Option<Form>,
+    manner: Manner,
     /// What can't be looked at.
     faults: &'r [Found],
     configured: &'r Configured,
@@ -221,14 +221,14 @@ fn foot_of(
     ran: &mut RunEnd,
     rest: Rest<'_>,
 ) -> Result<Vec<u8>, AllocError>
-    ensures foot { IfOk result (λ text. IsFoot rest.entry.form status ran.old
+    ensures foot { IfOk result (λ text. IsFoot rest.entry.manner.form status ran.old
         rest.entry.faults.now rest.entry.configured.now text.items) }
     // Without a form nothing is to be kept in memory.
-    ensures lost { IfErr result (λ _. is_some rest.entry.form ≡ true) }
+    ensures lost { IfErr result (λ _. is_some rest.entry.manner.form ≡ true) }
     ensures counts { ran.new.counts ≡ ran.old.counts }
     ensures status { ran.new.status ≡ ran.old.status }
 {
-    match rest.form {
+    match rest.manner.form {
         Some(form) => form_end(alloc, form, status, ran, rest),
         None => Ok(Vec::new(alloc)),
     }
@@ -255,7 +255,7 @@ fn close<O: ByteSink, E: ByteSink>(
 ) -> u8
     requires out { O.failed out.old ≡ false }
     requires err { E.failed err.old ≡ false }
-    ensures { Closes rest.entry.form rest.entry.quiet rest.entry.configured.now
+    ensures { Closes rest.entry.manner.form rest.entry.quiet rest.entry.configured.now
         rest.entry.faults.now ran.old (writer O.ByteSink out.old out.new)
         (writer E.ByteSink err.old err.new) (out.new ≡ out.old) result }
 {
@@ -282,8 +282,8 @@ fn lint_configured<T: Tree + Drop, O: ByteSink, E: ByteSink>(
     requires back { has_reader_out files.old ≡ false }
     requires out { O.failed out.old ≡ false }
     requires err { E.failed err.old ≡ false }
-    requires head { head.now ≡ head_of rest.form }
-    ensures ran { RunsThen (T.files files.old.tree) rest.entry.form rest.entry.quiet
+    requires head { head.now ≡ head_of rest.manner.form }
+    ensures ran { RunsThen (T.files files.old.tree) rest.entry.manner rest.entry.quiet
         rest.entry.configured.now rest.entry.faults.now
         (T.faults files.old.tree) (T.faults files.new.tree)
         (end_of O.ByteSink out.old out.new E.ByteSink err.old err.new result) }
@@ -292,7 +292,7 @@ fn lint_configured<T: Tree + Drop, O: ByteSink, E: ByteSink>(
     ensures back { has_reader_out files.new ≡ false }
 {
     let written = Written {
-        form: rest.form,
+        manner: rest.manner,
         head,
     };
     let governed = rest.configured.governed.as_slice();
@@ -306,10 +306,17 @@ fn lint_configured<T: Tree + Drop, O: ByteSink, E: ByteSink>(
     close(alloc, &mut ran, rest, out, err)
 }
 
+/// What is asked for, and which outputs are read on a terminal.
+#[derive(Clone, Copy)]
+struct Task {
+    job: Job,
+    terminals: Terminals,
+}
+
 /// Finds the options of modules and lints them, and says what can't be looked at.
 fn lint_collected<T: Tree + Drop, O: ByteSink, E: ByteSink>(
     alloc: Global,
-    job: Job,
+    task: Task,
     collected: Collected,
     files: &mut ModuleTree<T>,
     out: &mut O,
@@ -318,14 +325,15 @@ fn lint_collected<T: Tree + Drop, O: ByteSink, E: ByteSink>(
     requires back { has_reader_out files.old ≡ false }
     requires out { O.failed out.old ≡ false }
     requires err { E.failed err.old ≡ false }
-    ensures ends { LintsCollected (job_of job) collected.modules.items collected.faults.items
-        (T.files files.old.tree) (T.faults files.old.tree) (T.faults files.new.tree)
+    ensures ends { LintsCollected task.terminals (job_of task.job) collected.modules.items
+        collected.faults.items (T.files files.old.tree) (T.faults files.old.tree) (T.faults files.new.tree)
         (end_of O.ByteSink out.old out.new E.ByteSink err.old err.new result) }
     ensures files { T.files files.new.tree ≡ T.files files.old.tree }
     ensures asked { T.asked files.new.tree ≡ T.asked files.old.tree }
     ensures back { has_reader_out files.new ≡ false }
 {
     let Collected { modules, faults } = collected;
+    let job = task.job;
     let given = job.given;
     let Ok(configured) = configure(alloc, given.said, given.reads, modules, &mut files.tree) else {
         return tree_linter().tell_out_of_memory(out, err);
@@ -335,7 +343,10 @@ fn lint_collected<T: Tree + Drop, O: ByteSink, E: ByteSink>(
     };
     let rest = Rest {
         quiet: job.quiet,
-        form: job.form,
+        manner: Manner {
+            form: job.form,
+            terminals: task.terminals,
+        },
         faults: faults.as_slice(),
         configured: &configured,
     };
@@ -345,7 +356,7 @@ fn lint_collected<T: Tree + Drop, O: ByteSink, E: ByteSink>(
 /// Finds the modules and lints them.
 fn lint<T: Tree + Drop, O: ByteSink, E: ByteSink>(
     alloc: Global,
-    job: Job,
+    task: Task,
     operands: &[&[u8]],
     files: &mut ModuleTree<T>,
     out: &mut O,
@@ -354,15 +365,16 @@ fn lint<T: Tree + Drop, O: ByteSink, E: ByteSink>(
     requires back { has_reader_out files.old ≡ false }
     requires out { O.failed out.old ≡ false }
     requires err { E.failed err.old ≡ false }
-    ensures ends { LintsOr (job_of job) (map (λ operand. operand.now) operands.now)
+    ensures ends { LintsOr task.terminals (job_of task.job)
+        (map (λ operand. operand.now) operands.now)
         (T.files files.old.tree) (T.faults files.old.tree) (T.faults files.new.tree)
         (end_of O.ByteSink out.old out.new E.ByteSink err.old err.new result) }
     ensures files { T.files files.new.tree ≡ T.files files.old.tree }
     ensures asked { T.asked files.new.tree ≡ T.asked files.old.tree }
     ensures back { has_reader_out files.new ≡ false }
 {
-    match collect(alloc, job.shard, operands, &mut files.tree) {
-        Ok(collected) => lint_collected(alloc, job, collected, files, out, err),
+    match collect(alloc, task.job.shard, operands, &mut files.tree) {
+        Ok(collected) => lint_collected(alloc, task, collected, files, out, err),
         Err(_) => tree_linter().tell_out_of_memory(out, err),
     }
 }
@@ -370,7 +382,7 @@ fn lint<T: Tree + Drop, O: ByteSink, E: ByteSink>(
 /// Takes the names from a device.
 fn lint_null<T: Tree + Drop, R: ByteSource, O: ByteSink, E: ByteSink>(
     alloc: Global,
-    job: Job,
+    task: Task,
     input: &mut R,
     files: &mut ModuleTree<T>,
     out: &mut O,
@@ -380,7 +392,8 @@ fn lint_null<T: Tree + Drop, R: ByteSource, O: ByteSink, E: ByteSink>(
     requires input { R.failed input.old ≡ false }
     requires out { O.failed out.old ≡ false }
     requires err { E.failed err.old ≡ false }
-    ensures ends { ReadsAndLints (job_of job) (R.failed input.new) (R.left input.old)
+    ensures ends { ReadsAndLints task.terminals (job_of task.job) (R.failed input.new)
+        (R.left input.old)
         (T.files files.old.tree) (T.faults files.old.tree) (T.faults files.new.tree)
         (end_of O.ByteSink out.old out.new E.ByteSink err.old err.new result) }
     ensures files { T.files files.new.tree ≡ T.files files.old.tree }
@@ -395,7 +408,7 @@ fn lint_null<T: Tree + Drop, R: ByteSource, O: ByteSink, E: ByteSink>(
         return tree_linter().tell_out_of_memory(out, err);
     };
     match operands_in(alloc, names.as_slice()) {
-        Ok(operands) => lint(alloc, job, operands.as_slice(), files, out, err),
+        Ok(operands) => lint(alloc, task, operands.as_slice(), files, out, err),
         Err(_) => tree_linter().tell_out_of_memory(out, err),
     }
 }
@@ -403,7 +416,7 @@ fn lint_null<T: Tree + Drop, R: ByteSource, O: ByteSink, E: ByteSink>(
 /// Takes the names from the line.
 fn lint_named<T: Tree + Drop, O: ByteSink, E: ByteSink>(
     alloc: Global,
-    job: Job,
+    task: Task,
     names: &[&[u8]],
     files: &mut ModuleTree<T>,
     out: &mut O,
@@ -412,7 +425,7 @@ fn lint_named<T: Tree + Drop, O: ByteSink, E: ByteSink>(
     requires back { has_reader_out files.old ≡ false }
     requires out { O.failed out.old ≡ false }
     requires err { E.failed err.old ≡ false }
-    ensures ends { LintsNamed (job_of job) (map (λ name. name.now) names.now)
+    ensures ends { LintsNamed task.terminals (job_of task.job) (map (λ name. name.now) names.now)
         (T.files files.old.tree) (T.faults files.old.tree) (T.faults files.new.tree)
         (end_of O.ByteSink out.old out.new E.ByteSink err.old err.new result) }
     ensures files { T.files files.new.tree ≡ T.files files.old.tree }
@@ -420,7 +433,7 @@ fn lint_named<T: Tree + Drop, O: ByteSink, E: ByteSink>(
     ensures back { has_reader_out files.new ≡ false }
 {
     match operands_of(alloc, names) {
-        Ok(operands) => lint(alloc, job, operands.as_slice(), files, out, err),
+        Ok(operands) => lint(alloc, task, operands.as_slice(), files, out, err),
         Err(_) => tree_linter().tell_out_of_memory(out, err),
     }
 }
@@ -428,6 +441,7 @@ fn lint_named<T: Tree + Drop, O: ByteSink, E: ByteSink>(
 /// Does what is asked for.
 fn run_asked<T: Tree + Drop, R: ByteSource, O: ByteSink, E: ByteSink>(
     alloc: Global,
+    terminals: Terminals,
     options: &LintOptions<'_>,
     files: &mut ModuleTree<T>,
     input: &mut R,
@@ -438,8 +452,9 @@ fn run_asked<T: Tree + Drop, R: ByteSource, O: ByteSink, E: ByteSink>(
     requires input { R.failed input.old ≡ false }
     requires out { O.failed out.old ≡ false }
     requires err { E.failed err.old ≡ false }
-    ensures ends { EndsAsked (asking_of options.now) (R.failed input.new) (R.left input.old)
-        (T.files files.old.tree) (T.faults files.old.tree) (T.faults files.new.tree)
+    ensures ends { EndsAsked terminals (asking_of options.now) (R.failed input.new)
+        (R.left input.old) (T.files files.old.tree) (T.faults files.old.tree)
+        (T.faults files.new.tree)
         (end_of O.ByteSink out.old out.new E.ByteSink err.old err.new result) }
     // Standard input is read only for names.
     ensures unread { options.now.null ≡ false → input.new ≡ input.old }
@@ -447,11 +462,14 @@ fn run_asked<T: Tree + Drop, R: ByteSource, O: ByteSink, E: ByteSink>(
     ensures asked { T.asked files.new.tree ≡ T.asked files.old.tree }
     ensures back { has_reader_out files.new ≡ false }
 {
-    let job = options.job;
+    let task = Task {
+        job: options.job,
+        terminals,
+    };
     if options.null {
-        return lint_null(alloc, job, input, files, out, err);
+        return lint_null(alloc, task, input, files, out, err);
     }
-    lint_named(alloc, job, options.names.as_slice(), files, out, err)
+    lint_named(alloc, task, options.names.as_slice(), files, out, err)
 }
 
 /// The program of words that are texts, and names beside them.
@@ -459,6 +477,7 @@ fn run_line<'w, T: Tree + Drop, R: ByteSource, O: ByteSink, E: ByteSink>(
     alloc: Global,
     words: &'w [&'w str],
     others: &'w [&'w [u8]],
+    terminals: Terminals,
     files: &mut ModuleTree<T>,
     input: &mut R,
     out: &mut O,
@@ -468,8 +487,8 @@ fn run_line<'w, T: Tree + Drop, R: ByteSource, O: ByteSink, E: ByteSink>(
     requires input { R.failed input.old ≡ false }
     requires out { O.failed out.old ≡ false }
     requires err { E.failed err.old ≡ false }
-    ensures ends { IsEndOf (map (λ word. word.now) words.now) (map (λ name. name.now) others.now)
-        (R.failed input.new) (R.left input.old) (T.files files.old.tree)
+    ensures ends { IsEndOf terminals (map (λ word. word.now) words.now)
+        (map (λ name. name.now) others.now) (R.failed input.new) (R.left input.old) (T.files files.old.tree)
         (T.faults files.old.tree) (T.faults files.new.tree)
         (end_of O.ByteSink out.old out.new E.ByteSink err.old err.new result) }
     // Standard input is read only for names.
@@ -480,15 +499,17 @@ fn run_line<'w, T: Tree + Drop, R: ByteSource, O: ByteSink, E: ByteSink>(
     ensures back { has_reader_out files.new ≡ false }
 {
     match options(alloc, words, others) {
-        Ok(options) => run_asked(alloc, &options, files, input, out, err),
+        Ok(options) => run_asked(alloc, terminals, &options, files, input, out, err),
         Err(usage) => say(alloc, words, usage, out, err),
     }
 }
 
 /// The whole program over any tree and any devices. The words are those of the process, its name first.
+/// Where an output is read on a terminal, lines of the files stand below what is said of them.
 pub fn program<T: Tree + Drop, R: ByteSource, O: ByteSink, E: ByteSink>(
     alloc: Global,
     words: &[&[u8]],
+    terminals: Terminals,
     files: &mut ModuleTree<T>,
     input: &mut R,
     out: &mut O,
@@ -499,8 +520,8 @@ pub fn program<T: Tree + Drop, R: ByteSource, O: ByteSink, E: ByteSink>(
     requires out { O.failed out.old ≡ false }
     requires err { E.failed err.old ≡ false }
     // What was linted and said, and with which status it ends.
-    ensures ends { IsEnd (map (λ word. word.now) words.now) (R.failed input.new) (R.left input.old)
-        (T.files files.old.tree)
+    ensures ends { IsEnd terminals (map (λ word. word.now) words.now) (R.failed input.new)
+        (R.left input.old) (T.files files.old.tree)
         (T.faults files.old.tree) (T.faults files.new.tree)
         (end_of O.ByteSink out.old out.new E.ByteSink err.old err.new result) }
     // Standard input is read only where the words ask for names from there.
@@ -519,6 +540,7 @@ pub fn program<T: Tree + Drop, R: ByteSource, O: ByteSink, E: ByteSink>(
         alloc,
         words.texts.as_slice(),
         words.others.as_slice(),
+        terminals,
         files,
         input,
         out,

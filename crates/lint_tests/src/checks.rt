@@ -2,6 +2,13 @@
 
 use std::process::Abort;
 use tree_lint::counts::Counts;
+use tree_lint::written::Terminals;
+
+/// No output is read on a terminal.
+pub(crate) const PIPES: Terminals = Terminals {
+    out: false,
+    err: false,
+};
 
 /// The files of modules.
 pub(crate) type Modules = &'static [&'static [&'static str]];

@@ -1,5 +1,6 @@
 //! Whole runs over modules that files `.tfrules` govern.
 
+use crate::checks::PIPES;
 use hcl_scan::{MemorySink, MemorySource};
 use lint_command::run::program;
 use std::alloc::{AllocError, Global};
@@ -401,7 +402,9 @@ fn run(
     let mut input = MemorySource::new(b"", 4096);
     let mut out = MemorySink::new(4096);
     let mut err = MemorySink::new(4096);
-    let status = program(alloc, words, &mut files, &mut input, &mut out, &mut err);
+    let status = program(
+        alloc, words, PIPES, &mut files, &mut input, &mut out, &mut err,
+    );
     (err, status, fails_a_search(files.tree.calls()))
 }
 

@@ -22,3 +22,5 @@ mod lists;
 mod programs;
 #[cfg(test)]
 mod runs;
+#[cfg(test)]
+mod terminals;

@@ -1,5 +1,6 @@
 //! Whole runs of the program over a tree in memory.
 
+use crate::checks::PIPES;
 use hcl_scan::{MemorySink, MemorySource};
 use lint_command::run::program;
 use std::alloc::Global;
@@ -9,6 +10,7 @@ use tree_devices::calls::{Failures, STEADY};
 use tree_devices::entry::{Entry, Stands};
 use tree_devices::memory_tree::MemoryTree;
 use tree_lint::module_tree::ModuleTree;
+use tree_lint::written::Terminals;
 
 /// How many calls a run over `a` and `other` makes of a tree.
 const FAILING_CALLS: u64 = 40;
@@ -93,6 +95,7 @@ pub(crate) static ENTRIES: &[Entry<'static>] = &[
 ];
 
 /// What a run is given, and what it shows.
+#[derive(Clone, Copy)]
 pub(crate) struct Row {
     pub words: Words,
     pub input: &'static [u8],
@@ -366,12 +369,25 @@ static ROWS: [Row; 32] = [
 
 /// Runs the program by the words of a row over a tree, and compares what it shows.
 pub(crate) fn shows(rt: &impl Abort, alloc: Global, entries: &[Entry<'_>], row: &Row) {
+    shows_on(rt, alloc, entries, PIPES, row);
+}
+
+/// The same where these outputs are read on a terminal.
+pub(crate) fn shows_on(
+    rt: &impl Abort,
+    alloc: Global,
+    entries: &[Entry<'_>],
+    terminals: Terminals,
+    row: &Row,
+) {
     let tree = MemoryTree::new_in(alloc, b"/r/w", entries, STEADY).expect(rt, "memory");
     let mut files = ModuleTree::new(tree, Hashing::shared());
     let mut input = MemorySource::new(row.input, 4096);
     let mut out = MemorySink::new(4096);
     let mut err = MemorySink::new(4096);
-    let status = program(alloc, row.words, &mut files, &mut input, &mut out, &mut err);
+    let status = program(
+        alloc, row.words, terminals, &mut files, &mut input, &mut out, &mut err,
+    );
     shown(rt, out.bytes(), row.out, row);
     shown(rt, err.bytes(), row.err, row);
     assert_eq!(rt; status, row.status, "of {:?}", row.words);
@@ -450,7 +466,9 @@ fn failing(rt: &impl Abort, alloc: Global, call: usize) -> (u8, bool, bool) {
     let mut out = MemorySink::new(4096);
     let mut err = MemorySink::new(4096);
     let words: [&[u8]; 4] = [b"tfrules-all", b"--quiet", b"a", b"other"];
-    let status = program(alloc, &words, &mut files, &mut input, &mut out, &mut err);
+    let status = program(
+        alloc, &words, PIPES, &mut files, &mut input, &mut out, &mut err,
+    );
     let has_failed = files.tree.calls().failed().is_some();
     (status, has_failed, !err.bytes().is_empty())
 }

@@ -2,7 +2,7 @@
 
 ghost use Rattle.std.specs.Prelude.{◌≡◌, false};
 
-use crate::checks::{Modules, same_bytes, same_counts, same_number};
+use crate::checks::{Modules, PIPES, same_bytes, same_counts, same_number};
 use hcl_scan::MemorySink;
 use module_find::Module;
 use std::alloc::{AllocError, Global};
@@ -16,7 +16,7 @@ use tree_lint::counts::Counts;
 use tree_lint::module_tree::ModuleTree;
 use tree_lint::policy::{Governed, Policy};
 use tree_lint::run::{RunEnd, run_over};
-use tree_lint::written::Written;
+use tree_lint::written::{Manner, Written};
 
 /// Two modules with issues, one that is refused and one without issues, which stands between them.
 static ENTRIES: &[Entry<'static>] = &[
@@ -82,7 +82,10 @@ static BOTH_REPORTS: &str =
 
 /// Reports as `tfrules` has them.
 const TEXT: Written<'static> = Written {
-    form: None,
+    manner: Manner {
+        form: None,
+        terminals: PIPES,
+    },
     head: b"",
 };
 

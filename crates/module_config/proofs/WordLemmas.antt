@@ -1,5 +1,5 @@
 -- What is said, line by line.
-use Rattle.std.proofs.Common.{◌≡◌, ◌∙◌, ◌<◌, ◌+◌, ◌++◌, ℕ, List, ap, drop, flat_map, get_or, length, sym}
+use Rattle.std.proofs.Common.{◌≡◌, ◌∙◌, ◌<◌, ◌+◌, ◌++◌, ℕ, List, [], ap, drop, flat_map, get_or, length, sym}
 use Rattle.std.specs.Prelude.{codes, Option, Some}
 use Rattle.command_line.proofs.ListCutLemmas.{from_here}
 use Rattle.file_tree.specs.Files.{Name}
@@ -24,10 +24,10 @@ pub fault_told : (name shown : Name) (o : Option TreeFault) (fault : TreeFault) 
 fault_told name shown o fault text e s t = ap (λ n. refusal_line (refusal_of n text)) s ∙ ap (λ x. refusal_line (refusal_of name x)) t ∙ sym (ap (fault_line name) e)
 
 pub refused_told : (start : Start) (file : ConfigFile) (path shown : Name) (fault : Fault) (text : List ℕ) → path ≡ file.name.items → shown ≡ shown_from start path → file.text ≡ Refused fault → text ≡ fault_text fault.kind
-    → refusal_line (record { name = shown; at = Some fault.at; text = text }) ≡ config_lines start file
+    → refusal_line (record { name = shown; at = Some fault.at; text = text; snippet = [] }) ≡ config_lines start file
 refused_told start file path shown fault text p s r t =
-    ap (λ n. refusal_line (record { name = n; at = Some fault.at; text = text })) (s ∙ ap (shown_from start) p)
-    ∙ ap (λ x. refusal_line (record { name = shown_from start file.name.items; at = Some fault.at; text = x })) t ∙ sym (ap (text_lines (shown_from start file.name.items)) r)
+    ap (λ n. refusal_line (record { name = n; at = Some fault.at; text = text; snippet = [] })) (s ∙ ap (shown_from start) p)
+    ∙ ap (λ x. refusal_line (record { name = shown_from start file.name.items; at = Some fault.at; text = x; snippet = [] })) t ∙ sym (ap (text_lines (shown_from start file.name.items)) r)
 
 pub unread_told : (start : Start) (file : ConfigFile) (path shown : Name) (fault : TreeFault) (text : List ℕ) → path ≡ file.name.items → shown ≡ shown_from start path → file.text ≡ Unread fault → text ≡ tree_fault_text fault
     → refusal_line (refusal_of shown text) ≡ config_lines start file

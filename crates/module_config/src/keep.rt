@@ -38,6 +38,7 @@ fn keep_line(alloc: Global, name: &[u8], bad: &BadLine, kept: &mut Kept)
             name,
             at: Some(at),
             text: bad.text.as_str(),
+            snippet: b"",
         },
     );
 }
@@ -64,6 +65,7 @@ fn keep_file(alloc: Global, start: &Start, file: &ConfigFile, kept: &mut Kept)
                 name,
                 at: Some(fault.at),
                 text: fault.kind.text(),
+                snippet: b"",
             },
         ),
         ConfigText::Unread(fault) => kept.add(
@@ -72,6 +74,7 @@ fn keep_file(alloc: Global, start: &Start, file: &ConfigFile, kept: &mut Kept)
                 name,
                 at: None,
                 text: fault.text(),
+                snippet: b"",
             },
         ),
     }
@@ -97,6 +100,7 @@ fn keep_failure(alloc: Global, start: &Start, found: &Found, kept: &mut Kept)
                 name: start.shown(found.name.as_slice()),
                 at: None,
                 text: fault.text(),
+                snippet: b"",
             },
         );
     }

@@ -81,6 +81,7 @@ fn tell_file<S: ByteSink>(sink: &mut S, start: &Start, file: &ConfigFile) -> Res
                 name,
                 at: Some(fault.at),
                 text: fault.kind.text(),
+                snippet: b"",
             },
         ),
         ConfigText::Unread(fault) => tell_refusal(
@@ -89,6 +90,7 @@ fn tell_file<S: ByteSink>(sink: &mut S, start: &Start, file: &ConfigFile) -> Res
                 name,
                 at: None,
                 text: fault.text(),
+                snippet: b"",
             },
         ),
     }
@@ -120,6 +122,7 @@ fn tell_failure<S: ByteSink>(sink: &mut S, start: &Start, found: &Found) -> Resu
                 name: start.shown(found.name.as_slice()),
                 at: None,
                 text: fault.text(),
+                snippet: b"",
             },
         ),
         None => Ok(()),

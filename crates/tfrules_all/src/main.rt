@@ -6,12 +6,14 @@ ghost use Rattle.std.specs.Prelude.{◌≡◌, false};
 use hcl_scan::{ByteSink, FromRead, ToWrite};
 use lint_command::run::program;
 use std::hash::RandomState;
+use std::io::IsTerminal;
 use std::process::ExitCode;
 use system_tree::patient::Patient;
 use system_tree::system::SystemTree;
 use system_tree::words::{borrowed_words, process_words};
 use tfrules_command::Hashing;
 use tree_lint::module_tree::ModuleTree;
+use tree_lint::written::Terminals;
 
 /// The status of a run that got no words, or no seed by which names are hashed: nothing is printed.
 const NO_WORDS: u8 = 1;
@@ -48,9 +50,14 @@ fn lint<O: ByteSink, E: ByteSink>(
     };
     let mut files = ModuleTree::new(SystemTree::new(own), Hashing::seeded(seed));
     let mut input = FromRead::new(rt.stdin());
+    let terminals = Terminals {
+        out: rt.stdout().is_terminal(),
+        err: rt.stderr().is_terminal(),
+    };
     program(
         rt.alloc(),
         words.as_slice(),
+        terminals,
         &mut files,
         &mut input,
         out,

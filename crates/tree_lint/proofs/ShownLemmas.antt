@@ -1,6 +1,6 @@
 -- What is shown of one module.
-use Rattle.std.proofs.Common.{◌≡◌, ◌∙◌, ◌<◌, ◌+◌, ◌++◌, ◌∷◌, [], ℕ, Bool, true, false, Global, List, Option, ap, append-nil, arith, drop, eqb-true, flat_map, get_or, inl, inr, length, map, refl, subst, sym}
-use Rattle.std.specs.Prelude.{◌==◌, ◌&&◌, None, Ok, Err, String, if◌then◌else◌, not, string_bytes}
+use Rattle.std.proofs.Common.{◌≡◌, ◌∙◌, ◌<◌, ◌+◌, ◌++◌, ◌∷◌, [], ℕ, Bool, true, false, Global, List, Option, ap, append-nil, append_assoc, arith, drop, eqb-true, flat_map, get_or, inl, inr, length, map, refl, subst, sym}
+use Rattle.std.specs.Prelude.{◌==◌, ◌&&◌, None, Ok, Err, String, codes, decimal, if◌then◌else◌, not, string_bytes}
 use Rattle.comment_faults.specs.CommentFaults.{fault_told}
 use Rattle.comment_faults.specs.declared.fault.CommentFault as code
 use Rattle.command_line.specs.Rows.{TookBy, Writer}
@@ -19,17 +19,19 @@ use Rattle.tf_rules.specs.declared.issue.Issue.{Issue}
 use Rattle.tfrules_command.specs.Report.{report}
 use Rattle.tfrules_command.specs.Line.{max_files}
 use Rattle.tree_lint.specs.Faults.{fault_lines, refusal_by}
-use Rattle.tree_lint.specs.Inner.Showing.{HasOrNoMemory, Shows, is_nothing, refused}
+use Rattle.tree_lint.specs.Inner.Showing.{HasOrNoMemory, Shows, comment_as_told, comment_told, comment_with_line, is_nothing, refused, report_lines}
 use Rattle.tree_lint.specs.Kept.{KeepsAll}
 use Rattle.tree_lint.specs.Parted.{parted}
 use Rattle.tree_lint.specs.Refusals.{Refusal, refusal_line, refusal_of, told_fault}
-use Rattle.tree_lint.specs.Runs.{comment_line, comment_remark, has_output, issue_remark, linted_output, remarks_by, verdict_message, verdict_output, verdict_status}
+use Rattle.tree_lint.specs.Runs.{comment_line, comment_remark, has_output, issue_remark, linted_output, remarks_by, shown_issue, shown_report, verdict_message, verdict_output, verdict_status}
 use Rattle.tree_lint.specs.Verdicts.{CanBeRead, HaveFound, IsVerdict, Linted, StopsAt, Verdict, names_in, no_memory, stop_refusal, told_in, too_many}
 use Rattle.tree_lint.specs.declared.counts.Ended.{Ended}
 use Rattle.tree_lint.specs.declared.kept.Kept.{Kept}
 use Rattle.tree_lint.specs.declared.policy.Policy.{Policy}
+use Rattle.tree_lint.specs.declared.module_lines.CommentWithLine.{CommentWithLine}
 use Rattle.tree_lint.specs.declared.run.Task.{Task}
 use Rattle.tree_lint.specs.declared.stop.Stop.{Stop}
+use Rattle.tree_lint.specs.declared.written.Terminals.{Terminals}
 use Rattle.tree_lint.proofs.KeptLemmas.{keeps_none}
 use Rattle.tree_lint.proofs.PartedLemmas.{nothing_parted}
 
@@ -63,8 +65,8 @@ module _ (task : Task) (m : Module) (out err : Writer) (before after : Kept) (en
   pub refused_untold : out.failed ≡ false → out.after ≡ out.before → err.failed ≡ false → err.after ≡ err.before → KeepsAll before after [] → ended ≡ refused → Shows task m (λ v. v ≡ Err []) out err before after ended
   refused_untold good same fine still keeps is = refused_all [] [] good same (subst (λ a. TookBy err.failed err.before a []) (sym still) (untouched err.failed err.before fine)) refl keeps is
 
-  pub shown : (linted : Linted) (text said : List ℕ) → TookBy out.failed out.before out.after text → text ≡ verdict_output task.form task.is_after m (Ok linted) → TookBy err.failed err.before err.after said → said ≡ verdict_message m (Ok linted)
-      → KeepsAll before after [] → ended.status ≡ verdict_status task.policy (Ok linted) → ended.issues ≡ length linted.issues → ended.is_shown ≡ has_output task.form linted → Shows task m (HasOrNoMemory m linted) out err before after ended
+  pub shown : (linted : Linted) (text said : List ℕ) → TookBy out.failed out.before out.after text → text ≡ verdict_output task.manner task.is_after m (Ok linted) → TookBy err.failed err.before err.after said → said ≡ verdict_message task.manner.terminals.err m (Ok linted)
+      → KeepsAll before after [] → ended.status ≡ verdict_status task.policy (Ok linted) → ended.issues ≡ length linted.issues → ended.is_shown ≡ has_output task.manner.form linted → Shows task m (HasOrNoMemory m linted) out err before after ended
   shown linted text said took is told says keeps exit count shows = record {
     verdict = Ok linted;
     holds = inl refl;
@@ -81,22 +83,24 @@ or_memory m linted v e = inr e
 
 -- ---- comments
 
-lines_told : (names : List Name) (faults : List code.CommentFault) → flat_map (λ f. comment_line names (fault_told f)) faults ≡ flat_map (comment_line names) (map fault_told faults)
-lines_told names [] = refl
-lines_told names (f ∷ faults) = ap (λ t. comment_line names (fault_told f) ++ t) (lines_told names faults)
+flat_of : {A B : Type 0} (f : A → B) (g : B → List ℕ) (xs : List A) → flat_map (λ x. g (f x)) xs ≡ flat_map g (map f xs)
+flat_of f g [] = refl
+flat_of f g (x ∷ xs) = ap (λ t. g (f x) ++ t) (flat_of f g xs)
 
-pub comments_told : (m : Module) (issues : List Issue) (linted : Linted) (names : List Name) (faults : List code.CommentFault) → names ≡ names_in m → linted.comments ≡ map fault_told faults
-    → flat_map (λ f. comment_line names (fault_told f)) faults ≡ verdict_message m (Ok linted)
-comments_told m issues linted names faults same e = lines_told names faults ∙ (λ i. flat_map (comment_line (same i)) (sym e i))
+pub comments_told : (shows : Bool) (m : Module) (linted : Linted) (names : List Name) (told : List CommentWithLine) (faults : List code.CommentFault) → names ≡ names_in m → map comment_as_told told ≡ map (comment_with_line shows linted.texts) faults
+    → linted.comments ≡ map fault_told faults → flat_map (λ c. comment_told names (comment_as_told c)) told ≡ verdict_message shows m (Ok linted)
+comments_told shows m linted names told faults same is e =
+    flat_of comment_as_told (comment_told names) told ∙ ap (flat_map (comment_told names)) is ∙ sym (flat_of (comment_with_line shows linted.texts) (comment_told names) faults)
+    ∙ flat_of fault_told (comment_line shows names linted.texts) faults ∙ (λ i. flat_map (comment_line shows (same i) linted.texts) (sym e i))
 
 -- one, and those after it
-pub comment_here : (names : List Name) (faults : List code.CommentFault) (i : ℕ) (f : code.CommentFault) → i < length faults → f ≡ get_or faults i f
-    → flat_map (λ f. comment_line names (fault_told f)) (drop i faults) ≡ comment_line names (fault_told f) ++ flat_map (λ f. comment_line names (fault_told f)) (drop (i + 1) faults)
-comment_here names faults i f lt is = ap (flat_map (λ f. comment_line names (fault_told f))) (from_here faults i f lt is)
+pub comment_here : (names : List Name) (told : List CommentWithLine) (i : ℕ) (c : CommentWithLine) → i < length told → c ≡ get_or told i c
+    → flat_map (λ c. comment_told names (comment_as_told c)) (drop i told) ≡ comment_told names (comment_as_told c) ++ flat_map (λ c. comment_told names (comment_as_told c)) (drop (i + 1) told)
+comment_here names told i c lt is = ap (flat_map (λ c. comment_told names (comment_as_told c))) (from_here told i c lt is)
 
-pub remarks_told : (names : List Name) (issues : List Issue) (faults : List code.CommentFault)
-    → map (issue_remark names) issues ++ map (λ f. comment_remark names (fault_told f)) faults ≡ remarks_by names (record { issues = issues; comments = map fault_told faults })
-remarks_told names issues faults = ap (λ l. map (issue_remark names) issues ++ l) (by faults)
+pub remarks_told : (names : List Name) (issues : List Issue) (faults : List code.CommentFault) (texts : List (List ℕ))
+    → map (issue_remark names) issues ++ map (λ f. comment_remark names (fault_told f)) faults ≡ remarks_by names (record { issues = issues; comments = map fault_told faults; texts = texts })
+remarks_told names issues faults texts = ap (λ l. map (issue_remark names) issues ++ l) (by faults)
   where
     by : (fs : List code.CommentFault) → map (λ f. comment_remark names (fault_told f)) fs ≡ map (comment_remark names) (map fault_told fs)
     by [] = refl
@@ -113,11 +117,11 @@ no_more : {A : Type 0} (xs : List A) → (length xs == 0) ≡ true → xs ≡ []
 no_more [] e = refl
 no_more (x ∷ xs) e = absurd (omega (arith, eqb-true (length (x ∷ xs)) 0 e))
 
-abbrev none : Linted
-none = record { issues = []; comments = [] }
+abbrev none : List (List ℕ) → Linted
+none texts = record { issues = []; comments = []; texts = texts }
 
-pub is_none : (linted : Linted) (e : Bool) → e ≡ is_nothing linted → e ≡ true → linted ≡ none
-is_none linted e is f = let both = and_true (length linted.issues == 0) (length linted.comments == 0) (sym is ∙ f) in λ i. record { issues = no_more linted.issues both.0 i; comments = no_more linted.comments both.1 i }
+pub is_none : (linted : Linted) (e : Bool) → e ≡ is_nothing linted → e ≡ true → linted ≡ none linted.texts
+is_none linted e is f = let both = and_true (length linted.issues == 0) (length linted.comments == 0) (sym is ∙ f) in λ i. record { issues = no_more linted.issues both.0 i; comments = no_more linted.comments both.1 i; texts = linted.texts }
 
 -- ---- the names of a report
 
@@ -126,9 +130,28 @@ map_twice f h [] = refl
 map_twice f h (x ∷ xs) = ap (λ l. f (h x) ∷ l) (map_twice f h xs)
 
 pub names_as : (m : Module) (is_after : Bool) (linted : Linted) (issues : List Issue) (names : List (List ℕ)) (files : List (String Global)) → issues ≡ linted.issues → names ≡ map (λ name. quoted (string_bytes name)) files → files ≡ m.files.items
-    → parted is_after (report names issues) ≡ linted_output None is_after m linted
+    → parted is_after (report names issues) ≡ linted_output None false is_after m linted
 names_as m is_after linted issues names files ei e same =
     ap (λ l. parted is_after (report l issues)) (e ∙ map_twice quoted string_bytes files ∙ ap (λ l. map quoted (map string_bytes l)) same) ∙ ap (λ l. parted is_after (report (map quoted (names_in m)) l)) ei
+
+pub lines_as : (m : Module) (is_after : Bool) (linted : Linted) (issues : List Issue) (names : List (List ℕ)) (files : List (String Global)) → issues ≡ linted.issues → names ≡ map (λ name. quoted (string_bytes name)) files → files ≡ m.files.items
+    → parted is_after (shown_report names linted.texts issues) ≡ linted_output None true is_after m linted
+lines_as m is_after linted issues names files ei e same =
+    ap (λ l. parted is_after (shown_report l linted.texts issues)) (e ∙ map_twice quoted string_bytes files ∙ ap (λ l. map quoted (map string_bytes l)) same) ∙ ap (λ l. parted is_after (shown_report (map quoted (names_in m)) linted.texts l)) ei
+
+pub report_added : (old counted worded all count : List ℕ) (names texts : List (List ℕ)) (issues : List Issue) → counted ≡ old ++ count → count ≡ decimal (length issues) → worded ≡ counted ++ codes " issue(s) found:\n\n" → all ≡ worded ++ flat_map (shown_issue names texts) issues
+    → all ≡ old ++ report_lines names texts issues
+report_added old counted worded all count names texts issues ec en ew ea =
+    let words = codes " issue(s) found:\n\n" in
+    let rest = flat_map (shown_issue names texts) issues in
+    ea ∙ ap (λ l. l ++ rest) (ew ∙ ap (λ l. l ++ words) (ec ∙ ap (λ l. old ++ l) en)) ∙ append_assoc (old ++ decimal (length issues)) words rest ∙ append_assoc old (decimal (length issues)) (words ++ rest)
+
+pub report_put : (names texts : List (List ℕ)) (issues : List Issue) (e : Bool) → e ≡ (length issues == 0) → e ≡ false → report_lines names texts issues ≡ shown_report names texts issues
+report_put names texts issues e is f = by (length issues == 0) (sym is ∙ f)
+  where
+    by : (v : Bool) → v ≡ false → report_lines names texts issues ≡ (if v then [] else report_lines names texts issues)
+    by true h = absurd (cc)
+    by false h = refl
 
 -- in a form, nothing is written of no issue
 nothing_in_form : (form : Form) (is_after : Bool) → module_text form is_after [] ≡ []
@@ -139,44 +162,45 @@ nothing_in_form Junit is_after = refl
 nothing_in_form Gitlab is_after = refl
 nothing_in_form Github is_after = refl
 
-none_output : (form : Option Form) (m : Module) (is_after : Bool) → [] ≡ linted_output form is_after m none
-none_output Option.None m is_after = sym (nothing_parted is_after)
-none_output (Option.Some form) m is_after = sym (nothing_in_form form is_after)
+none_output : (form : Option Form) (shows : Bool) (m : Module) (is_after : Bool) (texts : List (List ℕ)) → [] ≡ linted_output form shows is_after m (none texts)
+none_output Option.None true m is_after texts = sym (nothing_parted is_after)
+none_output Option.None false m is_after texts = sym (nothing_parted is_after)
+none_output (Option.Some form) shows m is_after texts = sym (nothing_in_form form is_after)
 
-none_status : (policy : Policy) → 0 ≡ verdict_status policy (Ok none)
-none_status policy = by policy.force
+none_status : (policy : Policy) (texts : List (List ℕ)) → 0 ≡ verdict_status policy (Ok (none texts))
+none_status policy texts = by policy.force
   where
     by : (force : Bool) → ◌≡◌ {A = ℕ} 0 (if not force && false then 2 else (if not force && false then 2 else 0))
     by true = refl
     by false = refl
 
-none_shown : (form : Option Form) → false ≡ has_output form none
-none_shown Option.None = refl
-none_shown (Option.Some form) = refl
+none_shown : (form : Option Form) (texts : List (List ℕ)) → false ≡ has_output form (none texts)
+none_shown Option.None texts = refl
+none_shown (Option.Some form) texts = refl
 
-pub shows_nothing : (task : Task) (m : Module) (out err : Writer) (before : Kept) (linted : Linted) → linted ≡ none → out.failed ≡ false → out.after ≡ out.before → err.failed ≡ false → err.after ≡ err.before
+pub shows_nothing : (task : Task) (m : Module) (out err : Writer) (before : Kept) (linted : Linted) → linted ≡ none linted.texts → out.failed ≡ false → out.after ≡ out.before → err.failed ≡ false → err.after ≡ err.before
     → Shows task m (HasOrNoMemory m linted) out err before before (record { status = 0; issues = 0; is_shown = false })
 shows_nothing task m out err before linted e good same fine still = subst (λ l. Shows task m (HasOrNoMemory m l) out err before before (record { status = 0; issues = 0; is_shown = false })) (sym e)
-    (shown task m out err before before (record { status = 0; issues = 0; is_shown = false }) none [] [] (subst (λ a. TookBy out.failed out.before a []) (sym same) (untouched out.failed out.before good)) (none_output task.form m task.is_after)
-    (subst (λ a. TookBy err.failed err.before a []) (sym still) (untouched err.failed err.before fine)) refl (keeps_none before) (none_status task.policy) refl (none_shown task.form))
+    (shown task m out err before before (record { status = 0; issues = 0; is_shown = false }) (none linted.texts) [] [] (subst (λ a. TookBy out.failed out.before a []) (sym same) (untouched out.failed out.before good)) (none_output task.manner.form task.manner.terminals.out m task.is_after linted.texts)
+    (subst (λ a. TookBy err.failed err.before a []) (sym still) (untouched err.failed err.before fine)) refl (keeps_none before) (none_status task.policy linted.texts) refl (none_shown task.manner.form linted.texts))
 
 -- ---- the verdict
 
-module _ (files : Files) (policy : Policy) (m : Module) (was is : Faults) where
-  pub for_broken : m.is_whole ≡ false → is ≡ was → (v : Verdict) → v ≡ Err [] → IsVerdict files policy m was is v
-  for_broken broken w v h = subst (IsVerdict files policy m was is) (sym h) (inl (broken, w, refl))
+module _ (files : Files) (terminals : Terminals) (policy : Policy) (m : Module) (was is : Faults) where
+  pub for_broken : m.is_whole ≡ false → is ≡ was → (v : Verdict) → v ≡ Err [] → IsVerdict files terminals policy m was is v
+  for_broken broken w v h = subst (IsVerdict files terminals policy m was is) (sym h) (inl (broken, w, refl))
 
-  pub for_number : m.is_whole ≡ true → max_files < length m.files.items → is ≡ was → (v : Verdict) → v ≡ Err (too_many m ∷ []) → IsVerdict files policy m was is v
-  for_number whole many w v h = subst (IsVerdict files policy m was is) (sym h) (inr (inl (whole, many, w, refl)))
+  pub for_number : m.is_whole ≡ true → max_files < length m.files.items → is ≡ was → (v : Verdict) → v ≡ Err (too_many m ∷ []) → IsVerdict files terminals policy m was is v
+  for_number whole many w v h = subst (IsVerdict files terminals policy m was is) (sym h) (inr (inl (whole, many, w, refl)))
 
-  pub for_memory : CanBeRead m → is ≡ was → (v : Verdict) → v ≡ Err (no_memory m ∷ []) → IsVerdict files policy m was is v
-  for_memory can w v h = subst (IsVerdict files policy m was is) (sym h) (inr (inr (inr (can, w, refl))))
+  pub for_memory : CanBeRead m → is ≡ was → (v : Verdict) → v ≡ Err (no_memory m ∷ []) → IsVerdict files terminals policy m was is v
+  for_memory can w v h = subst (IsVerdict files terminals policy m was is) (sym h) (inr (inr (inr (can, w, refl))))
 
-  pub for_file : CanBeRead m → (names : List Name) → names ≡ names_in m → (name : Name) (why : Stop) → StopsAt (told_in files) names was is name why → (v : Verdict) → v ≡ Err (stop_refusal name why ∷ []) → IsVerdict files policy m was is v
-  for_file can names same name why at v h = subst (IsVerdict files policy m was is) (sym h) (inr (inr (inl (can, (name, why, subst (λ l. StopsAt (told_in files) l was is name why) same at, refl)))))
+  pub for_file : CanBeRead m → (names : List Name) → names ≡ names_in m → (name : Name) (why : Stop) (shows : Bool) → shows ≡ terminals.err → StopsAt shows (told_in files) names was is name why → (v : Verdict) → v ≡ Err (stop_refusal name why ∷ []) → IsVerdict files terminals policy m was is v
+  for_file can names same name why shows seen at v h = subst (IsVerdict files terminals policy m was is) (sym h) (inr (inr (inl (can, (name, why, subst (λ s. StopsAt s (told_in files) (names_in m) was is name why) seen (subst (λ l. StopsAt shows (told_in files) l was is name why) same at), refl)))))
 
-  pub for_found : CanBeRead m → is ≡ was → (names : List Name) → names ≡ names_in m → (linted : Linted) → HaveFound (told_in files) policy names linted → (v : Verdict) → HasOrNoMemory m linted v → IsVerdict files policy m was is v
-  for_found can w names same linted have v (inl e) = subst (IsVerdict files policy m was is) (sym e) (can, w, subst (λ l. HaveFound (told_in files) policy l linted) same have)
+  pub for_found : CanBeRead m → is ≡ was → (names : List Name) → names ≡ names_in m → (linted : Linted) → HaveFound (told_in files) terminals policy names linted → (v : Verdict) → HasOrNoMemory m linted v → IsVerdict files terminals policy m was is v
+  for_found can w names same linted have v (inl e) = subst (IsVerdict files terminals policy m was is) (sym e) (can, w, subst (λ l. HaveFound (told_in files) terminals policy l linted) same have)
   for_found can w names same linted have v (inr e) = for_memory can w v e
 
 -- ---- names that can't be linted

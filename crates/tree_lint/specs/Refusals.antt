@@ -1,5 +1,5 @@
 -- What is said of a module that isn't linted, line by line. Our own choice.
-use Rattle.std.specs.Prelude.{ℕ, List, ◌++◌, Option, Some, None, codes, decimal}
+use Rattle.std.specs.Prelude.{ℕ, List, [], ◌++◌, Option, Some, None, codes, decimal}
 use Rattle.command_line.specs.Rows.{Program, error, line}
 use Rattle.file_tree.specs.Files.{Name}
 use Rattle.file_tree.specs.Quotes.{quoted}
@@ -12,28 +12,34 @@ use Rattle.tree_lint.specs.declared.refusal.Refusal as code
 abbrev pub tree_linter : Program
 tree_linter = record { name = codes "tfrules-all"; failure = 1 }
 
--- why a module isn't linted: the name of a file or a folder, the place in the file where it has one, and what is said of it
+-- why a module isn't linted: the name of a file or a folder, the place in the file where it has one, what is said of it, and what is
+-- shown of the file there
 pub record Refusal : Type 0 where
   pub name : Name
   pub at : Option Position
   pub text : List ℕ
+  pub snippet : List ℕ
 
 -- one without a place
 abbrev pub refusal_of : Name → List ℕ → Refusal
-refusal_of name text = record { name = name; at = None; text = text }
+refusal_of name text = record { name = name; at = None; text = text; snippet = [] }
 
 -- the same in the code's terms
 abbrev pub refusal_told : code.Refusal → Refusal
-refusal_told r = record { name = r.name.now; at = r.at; text = r.text.now }
+refusal_told r = record { name = r.name.now; at = r.at; text = r.text.now; snippet = r.snippet.now }
 
--- what follows the name
+-- what follows the name, to the end of the line
 abbrev pub refusal_words : Option Position → List ℕ → List ℕ
 refusal_words None text = codes ": " ++ line text
 refusal_words (Some at) text = codes ":" ++ (decimal at.line ++ (codes ":" ++ (decimal at.column ++ (codes ": " ++ line text))))
 
--- `tfrules-all: error: NAME: TEXT`, or `tfrules-all: error: NAME:LINE:COLUMN: TEXT`
+-- `NAME: TEXT`, or `NAME:LINE:COLUMN: TEXT`, and below it what is shown of the file
+abbrev pub named_words : Refusal → List ℕ
+named_words r = quoted r.name ++ (refusal_words r.at r.text ++ r.snippet)
+
+-- the same, with the name of the program before it
 abbrev pub refusal_line : Refusal → List ℕ
-refusal_line r = error tree_linter (quoted r.name ++ refusal_words r.at r.text)
+refusal_line r = error tree_linter (named_words r)
 
 -- `-` is a name that isn't there, as any other
 abbrev pub told_fault : TreeFault → TreeFault

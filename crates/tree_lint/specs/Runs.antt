@@ -1,9 +1,9 @@
 -- What a run over modules says, and its status: each module is linted for itself, and what is said of them stands one after
 -- another. Our own choice.
-use Rattle.std.specs.Prelude.{◌≡◌, ◌||◌, ◌&&◌, ◌==◌, ℕ, Bool, false, not, List, [], ◌∷◌, ◌++◌, Option, Some, None, Ok, Err, flat_map, fold, get_or, length, map, max, if◌then◌else◌}
+use Rattle.std.specs.Prelude.{◌≡◌, ◌||◌, ◌&&◌, ◌==◌, ℕ, Bool, false, not, List, [], ◌∷◌, ◌++◌, Option, Some, None, Ok, Err, codes, decimal, flat_map, fold, get_or, length, map, max, if◌then◌else◌}
 use Rattle.std.specs.List.{list_any}
 use Rattle.comment_faults.specs.CommentFaults.{CommentFault}
-use Rattle.command_line.specs.Rows.{End, Took}
+use Rattle.command_line.specs.Rows.{End, Took, line}
 use Rattle.file_tree.specs.Files.{Faults, Files, Name}
 use Rattle.file_tree.specs.Quotes.{quoted}
 use Rattle.lint_forms.specs.Forms.{module_text}
@@ -11,10 +11,11 @@ use Rattle.lint_forms.specs.Remarks.{Remark}
 use Rattle.lint_forms.specs.declared.kind.Form.{Form}
 use Rattle.lint_forms.specs.declared.subject.Subject.TheVariants as subject
 use Rattle.module_find.specs.declared.module.Module.{Module}
+use Rattle.source_snippet.specs.Snippets.{snippet, snippet_if}
 use Rattle.tf_rules.specs.Issues.{asked_of}
 use Rattle.tf_rules.specs.declared.issue.Issue.{Issue}
 use Rattle.tfrules_command.specs.Line.{Asking}
-use Rattle.tfrules_command.specs.Report.{report, status}
+use Rattle.tfrules_command.specs.Report.{issue_line, report, status}
 use Rattle.tree_lint.specs.Kept.{HoldsAll}
 use Rattle.tree_lint.specs.Numbers.{counts_of}
 use Rattle.tree_lint.specs.Parted.{parted}
@@ -23,15 +24,25 @@ use Rattle.tree_lint.specs.Verdicts.{IsVerdict, Linted, Verdict, names_in}
 use Rattle.tree_lint.specs.declared.policy.Governed.{Governed}
 use Rattle.tree_lint.specs.declared.policy.Policy.{Policy}
 use Rattle.tree_lint.specs.declared.run.RunEnd.{RunEnd}
+use Rattle.tree_lint.specs.declared.written.Manner.{Manner}
+use Rattle.tree_lint.specs.declared.written.Terminals.{Terminals}
 
 -- ---- one module
 
 abbrev pub is_some : {A : Type 0} → List A → Bool
 is_some xs = not (length xs == 0)
 
--- its report: that of `tfrules`, but that names stand in it as they are shown
-abbrev pub module_report : Module → List Issue → List ℕ
-module_report m issues = report (map quoted (names_in m)) issues
+-- the line of an issue, and below it the line of the text of which it speaks
+abbrev pub shown_issue : List (List ℕ) → List (List ℕ) → Issue → List ℕ
+shown_issue names texts i = issue_line names i ++ snippet (get_or texts i.file []) i.at
+
+-- a report with those lines, as one reads it on a terminal
+abbrev pub shown_report : List (List ℕ) → List (List ℕ) → List Issue → List ℕ
+shown_report names texts issues = if length issues == 0 then [] else decimal (length issues) ++ (line (line (codes " issue(s) found:")) ++ flat_map (shown_issue names texts) issues)
+
+-- the report of a module: that of `tfrules`, but that names stand in it as they are shown, and lines of its files where they are
+abbrev pub module_report : Bool → Module → Linted → List ℕ
+module_report shows m linted = if shows then shown_report (map quoted (names_in m)) linted.texts linted.issues else report (map quoted (names_in m)) linted.issues
 
 -- an issue in the file of its number, as a remark
 abbrev pub issue_remark : List Name → Issue → Remark
@@ -44,23 +55,23 @@ abbrev pub remarks_by : List Name → Linted → List Remark
 remarks_by names linted = map (issue_remark names) linted.issues ++ map (comment_remark names) linted.comments
 
 -- how what is found is written, after that of others or as the first: as a report of its issues, or in a form
-abbrev pub linted_output : Option Form → Bool → Module → Linted → List ℕ
-linted_output None is_after m linted = parted is_after (module_report m linted.issues)
-linted_output (Some form) is_after m linted = module_text form is_after (remarks_by (names_in m) linted)
+abbrev pub linted_output : Option Form → Bool → Bool → Module → Linted → List ℕ
+linted_output None shows is_after m linted = parted is_after (module_report shows m linted)
+linted_output (Some form) shows is_after m linted = module_text form is_after (remarks_by (names_in m) linted)
 
 -- whether that isn't empty
 abbrev pub has_output : Option Form → Linted → Bool
 has_output None linted = is_some linted.issues
 has_output (Some form) linted = is_some linted.issues || is_some linted.comments
 
--- a comment that silences nothing is told as a refusal is, by its file and its place
-abbrev pub comment_line : List Name → CommentFault → List ℕ
-comment_line names f = refusal_line (record { name = get_or names f.file []; at = Some f.at; text = f.text })
+-- a comment that silences nothing is told as a refusal is, by its file and its place, with the line of its text where that is shown
+abbrev pub comment_line : Bool → List Name → List (List ℕ) → CommentFault → List ℕ
+comment_line shows names texts f = refusal_line (record { name = get_or names f.file []; at = Some f.at; text = f.text; snippet = snippet_if shows (get_or texts f.file []) f.at })
 
 -- what goes to standard output
-abbrev pub verdict_output : Option Form → Bool → Module → Verdict → List ℕ
-verdict_output form is_after m (Ok linted) = linted_output form is_after m linted
-verdict_output form is_after m (Err refusals) = []
+abbrev pub verdict_output : Manner → Bool → Module → Verdict → List ℕ
+verdict_output manner is_after m (Ok linted) = linted_output manner.form manner.terminals.out is_after m linted
+verdict_output manner is_after m (Err refusals) = []
 
 -- whether any of it does
 abbrev pub is_shown : Option Form → Verdict → Bool
@@ -68,9 +79,9 @@ is_shown form (Ok linted) = has_output form linted
 is_shown form (Err refusals) = false
 
 -- what goes to standard error
-abbrev pub verdict_message : Module → Verdict → List ℕ
-verdict_message m (Ok linted) = flat_map (comment_line (names_in m)) linted.comments
-verdict_message m (Err refusals) = flat_map refusal_line refusals
+abbrev pub verdict_message : Bool → Module → Verdict → List ℕ
+verdict_message shows m (Ok linted) = flat_map (comment_line shows (names_in m) linted.texts) linted.comments
+verdict_message shows m (Err refusals) = flat_map refusal_line refusals
 
 -- why the module is refused, if it is
 abbrev pub refusals_of : Verdict → List Refusal
@@ -89,21 +100,21 @@ verdict_status policy (Err refusals) = 1
 -- ---- all modules
 
 -- each is judged for itself, by its own policy, whatever becomes of the others; the faults of the device are those of these modules
-abbrev pub AreJudged : Files → List Governed → List Verdict → Faults → Faults → Type 0
-AreJudged files [] [] was is = is ≡ was
-AreJudged files [] (v ∷ vs) was is = ⊥
-AreJudged files (m ∷ ms) [] was is = ⊥
-AreJudged files (m ∷ ms) (v ∷ vs) was is = (between : Faults) × IsVerdict files m.policy m.module was between v × AreJudged files ms vs between is
+abbrev pub AreJudged : Files → Terminals → List Governed → List Verdict → Faults → Faults → Type 0
+AreJudged files terminals [] [] was is = is ≡ was
+AreJudged files terminals [] (v ∷ vs) was is = ⊥
+AreJudged files terminals (m ∷ ms) [] was is = ⊥
+AreJudged files terminals (m ∷ ms) (v ∷ vs) was is = (between : Faults) × IsVerdict files terminals m.policy m.module was between v × AreJudged files terminals ms vs between is
 
 -- the issues of modules, one module after another: an empty line stands between two reports
-abbrev pub reports_after : Option Form → Bool → List Governed → List Verdict → List ℕ
-reports_after form is_after (m ∷ ms) (v ∷ vs) = verdict_output form is_after m.module v ++ reports_after form (is_after || is_shown form v) ms vs
-reports_after form is_after _ _ = []
+abbrev pub reports_after : Manner → Bool → List Governed → List Verdict → List ℕ
+reports_after manner is_after (m ∷ ms) (v ∷ vs) = verdict_output manner is_after m.module v ++ reports_after manner (is_after || is_shown manner.form v) ms vs
+reports_after manner is_after _ _ = []
 
 -- what is said of modules
-abbrev pub messages : List Governed → List Verdict → List ℕ
-messages (m ∷ ms) (v ∷ vs) = verdict_message m.module v ++ messages ms vs
-messages _ _ = []
+abbrev pub messages : Bool → List Governed → List Verdict → List ℕ
+messages shows (m ∷ ms) (v ∷ vs) = verdict_message shows m.module v ++ messages shows ms vs
+messages shows _ _ = []
 
 -- 1 is worse than 2, and 2 than 0
 abbrev pub worse_status : ℕ → ℕ → ℕ
@@ -124,14 +135,14 @@ pub record IsFound (form : Option Form) (modules : List Governed) (verdicts : Li
 
 -- THE RUN over modules: each is judged, up to one of which nothing more can be written. Each writer took what is said of them, or
 -- a part from the front where it failed, and the status is the worst one. If none failed, these are its numbers and its refusals.
-pub record IsLintRun (files : Files) (form : Option Form) (head : List ℕ) (modules : List Governed) (was is : Faults) (end : End) (ran : RunEnd) : Type 0 where
+pub record IsLintRun (files : Files) (manner : Manner) (head : List ℕ) (modules : List Governed) (was is : Faults) (end : End) (ran : RunEnd) : Type 0 where
   pub seen : List Governed
   pub rest : List Governed
   pub all : modules ≡ seen ++ rest
   pub whole : (end.out.failed || end.err.failed) ≡ false → rest ≡ []
   pub verdicts : List Verdict
-  pub judged : AreJudged files seen verdicts was is
-  pub output : Took end.out (head ++ reports_after form false seen verdicts)
-  pub message : Took end.err (messages seen verdicts)
+  pub judged : AreJudged files manner.terminals seen verdicts was is
+  pub output : Took end.out (head ++ reports_after manner false seen verdicts)
+  pub message : Took end.err (messages manner.terminals.err seen verdicts)
   pub exit : end.status ≡ (if end.out.failed || end.err.failed then 1 else worst_status (statuses seen verdicts))
-  pub found : (end.out.failed || end.err.failed) ≡ false → IsFound form seen verdicts ran
+  pub found : (end.out.failed || end.err.failed) ≡ false → IsFound manner.form seen verdicts ran

@@ -1,26 +1,30 @@
 -- What becomes of a module: it has issues, as `tfrules` finds them in its files, and comments that silence nothing, where they
 -- are looked for; or it is refused, and why. Our own choice is
 -- which reason is told.
-use Rattle.std.specs.Prelude.{◌≡◌, ◌⊎◌, ◌≤◌, ◌<◌, ℕ, Bool, true, false, List, [], ◌∷◌, ◌++◌, Option, Some, Result, Ok, Err, codes, if◌then◌else◌, length, map, string_bytes}
+use Rattle.std.specs.Prelude.{◌≡◌, ◌⊎◌, ◌||◌, ◌≤◌, ◌<◌, ◌+◌, ℕ, Bool, true, false, List, [], ◌∷◌, ◌++◌, Option, Some, Result, Ok, Err, codes, if◌then◌else◌, length, map, string_bytes}
 use Rattle.comment_faults.specs.CommentFaults.{CommentFault, comment_faults}
 use Rattle.file_tree.specs.FaultTexts.{tree_fault_text}
 use Rattle.file_tree.specs.Files.{Faults, Files, Name, Tells, with_fault}
 use Rattle.file_tree.specs.Paths.{place}
 use Rattle.file_tree.specs.declared.fault.TreeFault.TheVariants.{OutOfMemory}
 use Rattle.hcl_source.specs.FaultTexts.{fault_text}
+use Rattle.hcl_source.specs.Load.{IsLoadFault, IsText}
+use Rattle.hcl_source.specs.declared.fault.Fault.{Fault}
 use Rattle.hcl_tokens.specs.Scanned.{Scanned}
 use Rattle.module_find.specs.declared.module.Module.{Module}
+use Rattle.source_snippet.specs.Snippets.{snippet_if}
 use Rattle.tf_rules.specs.Answers.{AreIssues}
 use Rattle.tf_rules.specs.Issues.{File, asked_of}
 use Rattle.tf_rules.specs.declared.issue.Issue.{Issue}
 use Rattle.tfrules_command.specs.Answer.{names_of}
-use Rattle.tfrules_command.specs.Files.{AreAccepted, IsFault, IsTooMuch, NamedFile, numbered_files, size_of}
+use Rattle.tfrules_command.specs.Files.{AreAccepted, IsOutcome, IsTooMuch, NamedFile, max_module, numbered_files, size_of}
 use Rattle.tfrules_command.specs.Line.{max_files}
 use Rattle.tfrules_command.specs.Rows.{AreFiles}
 use Rattle.tree_lint.specs.Refusals.{Refusal, refusal_of}
 use Rattle.tree_lint.specs.declared.policy.Policy.{Policy}
 use Rattle.tree_lint.specs.declared.stop.Stop.{Stop}
 use Rattle.tree_lint.specs.declared.stop.Stop.TheVariants as stop
+use Rattle.tree_lint.specs.declared.written.Terminals.{Terminals}
 
 -- the bytes of the file to which a name leads
 abbrev pub told_in : Files → Name → Option (List ℕ)
@@ -31,17 +35,27 @@ names_in m = map string_bytes m.files.items
 
 -- ---- its files
 
--- what is found in a module: its issues, and its comments that are meant to silence a rule and don't
+-- what is found in a module: its issues, its comments that are meant to silence a rule and don't, and the texts of its files, where
+-- lines of them are shown
 pub record Linted : Type 0 where
   pub issues : List Issue
   pub comments : List CommentFault
+  pub texts : List (List ℕ)
 
 -- these comments, where they are looked for
 abbrev pub comments_looked_for : Bool → List File → List CommentFault
 comments_looked_for checks files = if checks then comment_faults files else []
 
+-- lines are shown on one of the two outputs: that is so on a terminal
+abbrev pub shows_lines : Terminals → Bool
+shows_lines terminals = terminals.out || terminals.err
+
+-- the texts of these files, where they are shown
+abbrev pub texts_shown : Bool → List NamedFile → List (List ℕ)
+texts_shown shows files = if shows then map (λ file. file.bytes) files else []
+
 -- all files of these names are accepted, and this is found in them
-pub record HaveFound (told : Name → Option (List ℕ)) (policy : Policy) (names : List Name) (linted : Linted) : Type 0 where
+pub record HaveFound (told : Name → Option (List ℕ)) (terminals : Terminals) (policy : Policy) (names : List Name) (linted : Linted) : Type 0 where
   pub files : List NamedFile
   pub named : names_of files ≡ names
   pub are : AreFiles told files
@@ -49,27 +63,35 @@ pub record HaveFound (told : Name → Option (List ℕ)) (policy : Policy) (name
   pub accepted : AreAccepted files sources
   pub issues : AreIssues (asked_of policy.settings) (numbered_files 0 sources) linted.issues
   pub comments : linted.comments ≡ comments_looked_for policy.checks (numbered_files 0 sources)
+  pub texts : linted.texts ≡ texts_shown (shows_lines terminals) files
+
+-- what is shown of bytes that are refused for a fault after others of so many: the line of its place, where that is to be shown.
+-- Of bytes that are no text, nothing is
+abbrev pub IsShownFault : Bool → ℕ → List ℕ → Fault → List ℕ → Type 0
+IsShownFault shows size bytes fault line =
+    (IsLoadFault bytes fault × (line ≡ []))
+    ⊎ (IsText bytes × (size + length bytes ≤ max_module) × IsOutcome bytes (Err fault) × (line ≡ snippet_if shows bytes fault.at))
 
 -- why a file isn't kept after others of so many bytes, where the device has had these faults before and after: it has a fault
 -- or is too much, or the one call that failed says why, or memory ran out
-abbrev pub StopsBy : Option (List ℕ) → ℕ → Faults → Faults → Stop → Type 0
-StopsBy told size was is (stop.Refused fault) = (is ≡ was) × ((bytes : List ℕ) × Tells told bytes × IsFault size bytes fault)
-StopsBy told size was is stop.TooLarge = (is ≡ was) × ((bytes : List ℕ) × Tells told bytes × IsTooMuch size bytes)
-StopsBy told size was is (stop.Failed fault) = (is ≡ with_fault was (Some fault)) ⊎ ((fault ≡ OutOfMemory) × (is ≡ was))
+abbrev pub StopsBy : Bool → Option (List ℕ) → ℕ → Faults → Faults → Stop → Type 0
+StopsBy shows told size was is (stop.Refused fault line) = (is ≡ was) × ((bytes : List ℕ) × Tells told bytes × IsShownFault shows size bytes fault line.items)
+StopsBy shows told size was is stop.TooLarge = (is ≡ was) × ((bytes : List ℕ) × Tells told bytes × IsTooMuch size bytes)
+StopsBy shows told size was is (stop.Failed fault) = (is ≡ with_fault was (Some fault)) ⊎ ((fault ≡ OutOfMemory) × (is ≡ was))
 
 -- all files before this one are accepted, and it isn't kept
-pub record StopsAt (told : Name → Option (List ℕ)) (names : List Name) (was is : Faults) (name : Name) (why : Stop) : Type 0 where
+pub record StopsAt (shows : Bool) (told : Name → Option (List ℕ)) (names : List Name) (was is : Faults) (name : Name) (why : Stop) : Type 0 where
   pub before : List NamedFile
   pub after : List Name
   pub split : names ≡ names_of before ++ name ∷ after
   pub are : AreFiles told before
   pub sources : List Scanned
   pub accepted : AreAccepted before sources
-  pub by : StopsBy (told name) (size_of before) was is why
+  pub by : StopsBy shows (told name) (size_of before) was is why
 
 -- what is said of it
 abbrev pub stop_refusal : Name → Stop → Refusal
-stop_refusal name (stop.Refused fault) = record { name = name; at = Some fault.at; text = fault_text fault.kind }
+stop_refusal name (stop.Refused fault line) = record { name = name; at = Some fault.at; text = fault_text fault.kind; snippet = line.items }
 stop_refusal name stop.TooLarge = refusal_of name (codes "module too large")
 stop_refusal name (stop.Failed fault) = refusal_of name (tree_fault_text fault)
 
@@ -91,17 +113,17 @@ CanBeRead m = (m.is_whole ≡ true) × (length m.files.items ≤ max_files)
 
 -- why it is refused, and what is said then: it isn't whole, of which the names are told that can't be looked at, when all modules are
 -- linted; or that there are too many files; or at which file it stops; or that memory ran out
-abbrev pub IsRefused : Files → Module → Faults → Faults → List Refusal → Type 0
-IsRefused files m was is refusals =
+abbrev pub IsRefused : Files → Bool → Module → Faults → Faults → List Refusal → Type 0
+IsRefused files shows m was is refusals =
     ((m.is_whole ≡ false) × (is ≡ was) × (refusals ≡ []))
     ⊎ (((m.is_whole ≡ true) × (max_files < length m.files.items) × (is ≡ was) × (refusals ≡ too_many m ∷ []))
-    ⊎ ((CanBeRead m × ((name : Name) × (why : Stop) × StopsAt (told_in files) (names_in m) was is name why × (refusals ≡ stop_refusal name why ∷ [])))
+    ⊎ ((CanBeRead m × ((name : Name) × (why : Stop) × StopsAt shows (told_in files) (names_in m) was is name why × (refusals ≡ stop_refusal name why ∷ [])))
     ⊎ (CanBeRead m × (is ≡ was) × (refusals ≡ no_memory m ∷ []))))
 
 abbrev pub Verdict : Type 0
 Verdict = Result Linted (List Refusal)
 
 -- WHAT BECOMES OF A MODULE, by these rules, where the device has had these faults before and after. No call failed that isn't told
-abbrev pub IsVerdict : Files → Policy → Module → Faults → Faults → Verdict → Type 0
-IsVerdict files policy m was is (Ok linted) = CanBeRead m × (is ≡ was) × HaveFound (told_in files) policy (names_in m) linted
-IsVerdict files policy m was is (Err refusals) = IsRefused files m was is refusals
+abbrev pub IsVerdict : Files → Terminals → Policy → Module → Faults → Faults → Verdict → Type 0
+IsVerdict files terminals policy m was is (Ok linted) = CanBeRead m × (is ≡ was) × HaveFound (told_in files) terminals policy (names_in m) linted
+IsVerdict files terminals policy m was is (Err refusals) = IsRefused files terminals.err m was is refusals

@@ -1,37 +1,27 @@
 //! The files of a module, read one after the other.
 
-ghost use Rattle.std.specs.Prelude.{◌≡◌, ◌≤◌, [], OnOk, false, length, map, string_bytes};
+ghost use Rattle.std.specs.Prelude.{◌≡◌, ◌≤◌, ◌++◌, [], OnOk, false, length, map, string_bytes};
 ghost use Rattle.comment_faults.specs.CommentFaults.{fault_told};
 ghost use Rattle.tfrules_command.specs.Files.{max_module};
 ghost use Rattle.tfrules_command.specs.Line.{max_files};
 ghost use Rattle.tree_lint.specs.Readers.{has_reader_out};
-ghost use Rattle.tree_lint.specs.Verdicts.{told_in};
-ghost use Rattle.tree_lint.specs.Inner.Gathering.{AddsComments, AddsFile, Gathers, IsEmpty, KeepsFile, KeepsScanned, stop_kept};
+ghost use Rattle.tree_lint.specs.Verdicts.{shows_lines, told_in};
+ghost use Rattle.tree_lint.specs.Inner.Gathering.{AddsComments, AddsFile, AddsRead, Gathers, IsEmpty, KeepsFile, KeepsScanned, StopsWith, texts_kept};
 ghost use Rattle.tree_lint.specs.Inner.Showing.{linted_told};
 
 use crate::linted::Linted;
 use crate::module_tree::ModuleTree;
 use crate::stop::{Stop, Stopped};
+use crate::written::Terminals;
 use comment_faults::{CommentFault, add_comment_faults};
 use file_tree::fault::TreeFault;
 use file_tree::tree::Tree;
 use hcl_scan::{Source, Tokens};
+use source_snippet::snippet_of;
 use std::alloc::{AllocError, Global};
 use tf_rules::{Facts, IssueList};
 use tfrules_command::gather::{ScannedFile, keep_tokens, scan_file};
 use tfrules_command::stop::Stop as FileStop;
-
-/// Why a file that was read isn't kept.
-fn stop_of(stop: FileStop) -> Stop
-    ensures { result ≡ stop_kept stop }
-{
-    match stop {
-        FileStop::Refused(fault) => Stop::Refused(fault),
-        FileStop::TooLarge => Stop::TooLarge,
-        FileStop::OutOfMemory => Stop::Failed(TreeFault::OutOfMemory),
-        FileStop::NotOpened | FileStop::NotRead => Stop::Failed(TreeFault::ReadFailed),
-    }
-}
 
 /// What is kept of the files of a module.
 #[derive(Drop)]
@@ -41,30 +31,42 @@ pub(crate) struct Gathered {
     checks: bool,
     /// Those that were found.
     comments: Vec<CommentFault>,
+    /// Where lines of the files are shown.
+    terminals: Terminals,
+    /// The texts of the files, if they are.
+    texts: Vec<Source>,
 }
 
 impl Gathered {
-    /// No comment, beside these facts.
-    pub(crate) fn new(alloc: Global, facts: Facts, checks: bool) -> Gathered
+    /// No comment and no text, beside these facts.
+    pub(crate) fn new(alloc: Global, facts: Facts, checks: bool, terminals: Terminals) -> Gathered
         ensures facts { result.facts ≡ facts }
         ensures checks { result.checks ≡ checks }
         ensures comments { result.comments.items ≡ [] }
+        ensures terminals { result.terminals ≡ terminals }
+        ensures texts { result.texts.items ≡ [] }
     {
         Gathered {
             facts,
             checks,
             comments: Vec::new(alloc),
+            terminals,
+            texts: Vec::new(alloc),
         }
     }
 
-    /// The comments, beside these issues.
+    /// The comments and the texts, beside these issues.
     pub(crate) fn linted<'a, 'f>(&'a self, issues: &'a IssueList<'f>) -> Linted<'a, 'f>
-        ensures { linted_told result ≡ record
-            { issues = issues.entry.now; comments = map fault_told self.entry.now.comments.items } }
+        ensures { linted_told result ≡ record {
+          issues = issues.entry.now;
+          comments = map fault_told self.entry.now.comments.items;
+          texts = self.entry.now.texts.items;
+        } }
     {
         Linted {
             issues,
             comments: self.comments.as_slice(),
+            texts: self.texts.as_slice(),
         }
     }
 }
@@ -93,16 +95,16 @@ fn keep_scanned(
     number: u32,
     file: &ScannedFile<'_>,
     into: &mut Gathered,
-) -> Result<usize, Stop>
+) -> Result<usize, FileStop>
     ensures { KeepsScanned file.now number into.old into.new result }
 {
     let all = match keep_tokens(number, file.all, &file.tokens, &mut into.facts) {
         Ok(all) => all,
-        Err(stop) => return Err(stop_of(stop)),
+        Err(stop) => return Err(stop),
     };
     match keep_comments(alloc, number, &file.tokens, into) {
         Ok(()) => Ok(all),
-        Err(_) => Err(Stop::Failed(TreeFault::OutOfMemory)),
+        Err(_) => Err(FileStop::OutOfMemory),
     }
 }
 
@@ -113,17 +115,68 @@ fn keep(
     size: usize,
     source: &Source,
     into: &mut Gathered,
-) -> Result<usize, Stop>
+) -> Result<usize, FileStop>
     requires { size ≤ max_module }
     ensures { KeepsFile source.now size number into.old into.new result }
 {
     match scan_file(alloc, size, source) {
         Ok(file) => keep_scanned(alloc, number, &file, into),
-        Err(stop) => Err(stop_of(stop)),
+        Err(stop) => Err(stop),
     }
 }
 
-/// Reads a file and keeps its facts and its comments. Its text and its tokens are gone when it returns.
+/// Keeps the text of a file, where lines of it may be shown.
+fn keep_text(source: Source, into: &mut Gathered) -> Result<(), AllocError>
+    ensures rest { OnOk result (into.new ≡ record into.old { texts = into.new.texts }) }
+    ensures texts { OnOk result (into.new.texts.items ≡ into.old.texts.items
+        ++ texts_kept (shows_lines into.old.terminals) source) }
+{
+    if !into.terminals.shows_lines() {
+        return Ok(());
+    }
+    let Ok(()) = into.texts.push(source) else {
+        return Err(AllocError);
+    };
+    Ok(())
+}
+
+/// Why a file that was read isn't kept, with the line of its fault where that is shown.
+fn stop_with(alloc: Global, shows: bool, source: &Source, stop: FileStop) -> Stop
+    ensures { StopsWith shows source.now stop result }
+{
+    match stop {
+        FileStop::Refused(fault) => match snippet_of(alloc, shows, source, fault.at) {
+            Ok(line) => Stop::Refused(fault, line),
+            Err(_) => Stop::Failed(TreeFault::OutOfMemory),
+        },
+        FileStop::TooLarge => Stop::TooLarge,
+        FileStop::OutOfMemory => Stop::Failed(TreeFault::OutOfMemory),
+        FileStop::NotOpened | FileStop::NotRead => Stop::Failed(TreeFault::ReadFailed),
+    }
+}
+
+/// Keeps what is to be kept of a file that was read after others of so many bytes.
+fn add_read(
+    alloc: Global,
+    number: u32,
+    size: usize,
+    source: Source,
+    into: &mut Gathered,
+) -> Result<usize, Stop>
+    requires { size ≤ max_module }
+    ensures { AddsRead source size number into.old into.new result }
+{
+    let shows = into.terminals.err;
+    match keep(alloc, number, size, &source, into) {
+        Ok(all) => match keep_text(source, into) {
+            Ok(()) => Ok(all),
+            Err(_) => Err(Stop::Failed(TreeFault::OutOfMemory)),
+        },
+        Err(stop) => Err(stop_with(alloc, shows, &source, stop)),
+    }
+}
+
+/// Reads a file and keeps what is to be kept of it. Its tokens are gone when it returns.
 fn add_file<T: Tree + Drop>(
     alloc: Global,
     number: u32,
@@ -141,13 +194,12 @@ fn add_file<T: Tree + Drop>(
     ensures back { has_reader_out files.new ≡ false }
 {
     match files.read(alloc, name) {
-        Ok(source) => keep(alloc, number, size, &source, into),
+        Ok(source) => add_read(alloc, number, size, source, into),
         Err(stop) => Err(stop),
     }
 }
 
-/// Reads the files of these names in their order, up to the first that isn't kept, and keeps their facts and
-/// their comments.
+/// Reads the files of these names in their order, up to the first that isn't kept, and keeps what is to be kept of them.
 pub(crate) fn gather<'n, T: Tree + Drop>(
     alloc: Global,
     names: &'n [String],
@@ -158,8 +210,8 @@ pub(crate) fn gather<'n, T: Tree + Drop>(
     requires none { IsEmpty into.old }
     requires back { has_reader_out files.old ≡ false }
     ensures gathers { Gathers (told_in (T.files files.old.tree))
-        (map string_bytes names.entry.now) into.old.checks (T.faults files.old.tree)
-        (T.faults files.new.tree) into.new result }
+        (map string_bytes names.entry.now) into.old.checks into.old.terminals
+        (T.faults files.old.tree) (T.faults files.new.tree) into.new result }
     ensures files { T.files files.new.tree ≡ T.files files.old.tree }
     ensures asked { T.asked files.new.tree ≡ T.asked files.old.tree }
     ensures back { has_reader_out files.new ≡ false }

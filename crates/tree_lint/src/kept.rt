@@ -121,14 +121,8 @@ impl Kept {
         ensures { KeepsAll self.old self.new (refusal_in found.now) }
     {
         if let Some(fault) = found.fault {
-            self.add(
-                alloc,
-                Refusal {
-                    name: found.name.as_slice(),
-                    at: None,
-                    text: told_fault(fault).text(),
-                },
-            );
+            let text = told_fault(fault).text();
+            self.add(alloc, Refusal::of_name(found.name.as_slice(), text));
         }
     }
 

@@ -8,6 +8,7 @@ ghost use Rattle.tree_lint.specs.Runs.{failing_under};
 
 use crate::policy::Policy;
 use comment_faults::CommentFault;
+use hcl_scan::Source;
 use lint_forms::Form;
 use tf_rules::IssueList;
 use tfrules_command::report::has_severe;
@@ -18,6 +19,8 @@ pub(crate) struct Linted<'a, 'f> {
     pub issues: &'a IssueList<'f>,
     /// The comments that are meant to silence a rule and don't, where they are looked for.
     pub comments: &'a [CommentFault],
+    /// The texts of the files, where lines of them are shown.
+    pub texts: &'a [Source],
 }
 
 /// The status of a module with these issues.

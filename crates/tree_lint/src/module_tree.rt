@@ -4,7 +4,7 @@ ghost use Rattle.std.specs.Prelude.{◌≡◌, IfOk, false, is_err, not, true};
 ghost use Rattle.file_tree.specs.Files.{fault_of, fault_of_reader, with_fault};
 ghost use Rattle.tree_lint.specs.Readers.{has_reader_out};
 ghost use Rattle.tree_lint.specs.Verdicts.{told_in};
-ghost use Rattle.tree_lint.specs.Inner.Gathering.{ReadsFile, stop_by};
+ghost use Rattle.tree_lint.specs.Inner.Gathering.{ReadsFile, StopsLoad};
 
 use crate::stop::Stop;
 use file_tree::fault::TreeFault;
@@ -22,12 +22,12 @@ pub struct ModuleTree<T: Drop> {
 }
 
 /// What a loaded text is for a run.
-fn stop_of(loaded: Result<Source, LoadError>) -> Result<Source, Stop>
-    ensures { result ≡ stop_by loaded }
+fn stop_of(alloc: Global, loaded: Result<Source, LoadError>) -> Result<Source, Stop>
+    ensures { StopsLoad loaded result }
 {
     match loaded {
         Ok(source) => Ok(source),
-        Err(LoadError::Fault(fault)) => Err(Stop::Refused(fault)),
+        Err(LoadError::Fault(fault)) => Err(Stop::Refused(fault, Vec::new(alloc))),
         Err(LoadError::ReadFailed) => Err(Stop::Failed(TreeFault::ReadFailed)),
         Err(LoadError::OutOfMemory) => Err(Stop::Failed(TreeFault::OutOfMemory)),
     }
@@ -99,6 +99,6 @@ impl<T: Tree + Drop> ModuleTree<T> {
         };
         let loaded = Source::read_from(alloc, &mut reader);
         self.close(reader);
-        stop_of(loaded)
+        stop_of(alloc, loaded)
     }
 }

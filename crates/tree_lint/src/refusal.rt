@@ -1,14 +1,14 @@
 //! What is said of a module that isn't linted.
 
-ghost use Rattle.std.specs.Prelude.{◌≡◌, ◌++◌, Some, false, flat_map, is_err, map, string_bytes};
+ghost use Rattle.std.specs.Prelude.{◌≡◌, ◌++◌, Some, false, flat_map, is_err, map};
 ghost use Rattle.std.specs.List.{concat};
 ghost use Rattle.command_line.specs.Rows.{Took, writer};
-ghost use Rattle.file_tree.specs.Quotes.{quoted};
-ghost use Rattle.tree_lint.specs.Refusals.{refusal_line, refusal_told, refusal_words, told_fault};
+ghost use Rattle.tree_lint.specs.Refusals.{named_words, refusal_line, refusal_of, refusal_told, refusal_words, told_fault};
 ghost use Rattle.tree_lint.specs.Faults.{fault_lines, refusal_by};
+ghost use Rattle.tree_lint.specs.Inner.Showing.{comment_as_told, told_comment};
 
+use crate::module_lines::CommentWithLine;
 use command_line::write_pieces;
-use comment_faults::CommentFault;
 use file_tree::fault::TreeFault;
 use file_tree::quote::write_quoted;
 use file_tree::walk::Found;
@@ -24,70 +24,76 @@ pub struct Refusal<'a> {
     pub at: Option<Position>,
     /// What is said of it.
     pub text: &'a str,
+    /// What is shown of the file there.
+    pub snippet: &'a [u8],
 }
 
-/// Writes `:LINE:COLUMN: TEXT`.
-fn tell_place<S: ByteSink>(sink: &mut S, at: Position, text: &str) -> Result<(), Failed>
+impl<'a> Refusal<'a> {
+    /// One without a place.
+    pub fn of_name(name: &'a [u8], text: &'a str) -> Refusal<'a>
+        ensures { refusal_told result ≡ refusal_of name.now text.now }
+    {
+        Refusal {
+            name,
+            at: None,
+            text,
+            snippet: b"",
+        }
+    }
+}
+
+/// Writes `:LINE:COLUMN: TEXT`, and what is shown of the file there.
+fn tell_place<'p, S: ByteSink>(
+    sink: &mut S,
+    at: Position,
+    text: &'p str,
+    snippet: &'p [u8],
+) -> Result<(), Failed>
     requires { S.failed sink.old ≡ false }
-    ensures took { Took (writer S.ByteSink sink.old sink.new) (refusal_words (Some at) text.now) }
+    ensures took { Took (writer S.ByteSink sink.old sink.new)
+        (refusal_words (Some at) text.now ++ snippet.now) }
     ensures failed { S.failed sink.new ≡ is_err result }
 {
     let mut line = Buffer::new();
     let mut column = Buffer::new();
     let line = line.format(at.line).as_bytes();
     let column = column.format(at.column).as_bytes();
+    let text = text.as_bytes();
     write_pieces(
         sink,
-        &[b":", line, b":", column, b": ", text.as_bytes(), b"\n"],
+        &[b":", line, b":", column, b": ", text, b"\n", snippet],
     )
 }
 
 /// Writes what follows the name.
-fn tell_words<S: ByteSink>(sink: &mut S, at: Option<Position>, text: &str) -> Result<(), Failed>
+fn tell_words<'p, S: ByteSink>(
+    sink: &mut S,
+    at: Option<Position>,
+    text: &'p str,
+    snippet: &'p [u8],
+) -> Result<(), Failed>
     requires { S.failed sink.old ≡ false }
-    ensures took { Took (writer S.ByteSink sink.old sink.new) (refusal_words at text.now) }
+    ensures took { Took (writer S.ByteSink sink.old sink.new)
+        (refusal_words at text.now ++ snippet.now) }
     ensures failed { S.failed sink.new ≡ is_err result }
 {
     match at {
-        Some(at) => tell_place(sink, at, text),
-        None => write_pieces(sink, &[b": ", text.as_bytes(), b"\n"]),
+        Some(at) => tell_place(sink, at, text, snippet),
+        None => write_pieces(sink, &[b": ", text.as_bytes(), b"\n", snippet]),
     }
 }
 
 /// Writes a name as it is shown, and what follows it.
-fn tell_named<S: ByteSink>(
-    sink: &mut S,
-    name: &[u8],
-    at: Option<Position>,
-    text: &str,
-) -> Result<(), Failed>
+fn tell_named<S: ByteSink>(sink: &mut S, refusal: Refusal<'_>) -> Result<(), Failed>
     requires { S.failed sink.old ≡ false }
     ensures took { Took (writer S.ByteSink sink.old sink.new)
-        (quoted name.now ++ refusal_words at text.now) }
+        (named_words (refusal_told refusal.entry)) }
     ensures failed { S.failed sink.new ≡ is_err result }
 {
-    if write_quoted(sink, name).is_err() {
+    if write_quoted(sink, refusal.name).is_err() {
         return Err(Failed);
     }
-    tell_words(sink, at, text)
-}
-
-/// Writes a line about a file or a folder, with the name of this program before it.
-fn tell_line<S: ByteSink>(
-    sink: &mut S,
-    name: &[u8],
-    at: Option<Position>,
-    text: &str,
-) -> Result<(), Failed>
-    requires { S.failed sink.old ≡ false }
-    ensures took { Took (writer S.ByteSink sink.old sink.new)
-        (refusal_line (record { name = name.now; at = at; text = text.now })) }
-    ensures failed { S.failed sink.new ≡ is_err result }
-{
-    if write_pieces(sink, &[b"tfrules-all: error: "]).is_err() {
-        return Err(Failed);
-    }
-    tell_named(sink, name, at, text)
+    tell_words(sink, refusal.at, refusal.text, refusal.snippet)
 }
 
 /// Writes the line of a refusal, with the name of this program before it.
@@ -97,21 +103,33 @@ pub fn tell_refusal<S: ByteSink>(sink: &mut S, refusal: Refusal<'_>) -> Result<(
         (refusal_line (refusal_told refusal.entry)) }
     ensures failed { S.failed sink.new ≡ is_err result }
 {
-    tell_line(sink, refusal.name, refusal.at, refusal.text)
+    if write_pieces(sink, &[b"tfrules-all: error: "]).is_err() {
+        return Err(Failed);
+    }
+    tell_named(sink, refusal)
 }
 
 /// Writes the line of a comment in the file of this name.
 pub(crate) fn tell_comment<S: ByteSink>(
     sink: &mut S,
     name: &str,
-    fault: &CommentFault,
+    comment: &CommentWithLine<'_>,
 ) -> Result<(), Failed>
     requires { S.failed sink.old ≡ false }
-    ensures took { Took (writer S.ByteSink sink.old sink.new) (refusal_line (record
-        { name = name.now; at = Some fault.now.at; text = string_bytes fault.now.text })) }
+    ensures took { Took (writer S.ByteSink sink.old sink.new)
+        (told_comment name.now (comment_as_told comment.now)) }
     ensures failed { S.failed sink.new ≡ is_err result }
 {
-    tell_line(sink, name.as_bytes(), Some(fault.at), fault.text.as_str())
+    let fault = comment.fault;
+    tell_refusal(
+        sink,
+        Refusal {
+            name: name.as_bytes(),
+            at: Some(fault.at),
+            text: fault.text.as_str(),
+            snippet: comment.line.as_slice(),
+        },
+    )
 }
 
 /// The fault that is told: `-` is a name that isn't there, as any other.
@@ -133,11 +151,7 @@ fn tell_fault<S: ByteSink>(sink: &mut S, found: &Found) -> Result<(), Failed>
     match found.fault {
         Some(fault) => tell_refusal(
             sink,
-            Refusal {
-                name: found.name.as_slice(),
-                at: None,
-                text: told_fault(fault).text(),
-            },
+            Refusal::of_name(found.name.as_slice(), told_fault(fault).text()),
         ),
         None => Ok(()),
     }

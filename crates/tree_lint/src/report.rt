@@ -1,31 +1,32 @@
 //! What is shown of one module.
 
-ghost use Rattle.std.specs.Prelude.{◌≡◌, ◌∷◌, [], None, OnErr, OnOk, Some, true, false, flat_map, is_err, map, string_bytes};
-ghost use Rattle.comment_faults.specs.CommentFaults.{fault_told};
+ghost use Rattle.std.specs.Prelude.{◌≡◌, ◌++◌, ◌∷◌, [], None, OnErr, OnOk, Some, true, false, flat_map, is_err, map, string_bytes};
 ghost use Rattle.command_line.specs.Rows.{Took, writer};
+ghost use Rattle.lint_forms.specs.Forms.{module_text};
 ghost use Rattle.tfrules_command.specs.Report.{report};
 ghost use Rattle.tree_lint.specs.Parted.{parted};
 ghost use Rattle.tree_lint.specs.Refusals.{refusal_line, refusal_told};
 ghost use Rattle.tree_lint.specs.Kept.{KeepsAll};
-ghost use Rattle.tree_lint.specs.Runs.{comment_line, linted_output};
-ghost use Rattle.tree_lint.specs.Verdicts.{no_memory, too_many};
-ghost use Rattle.tree_lint.specs.Inner.Showing.{HasOrNoMemory, Shows, linted_told, refused};
+ghost use Rattle.tree_lint.specs.Runs.{linted_output, remarks_by};
+ghost use Rattle.tree_lint.specs.Verdicts.{names_in, no_memory, too_many};
+ghost use Rattle.tree_lint.specs.Inner.Showing.{HasOrNoMemory, Shows, comment_as_told, comment_told, linted_told, refused};
 
 use crate::counts::Ended;
 use crate::issue_remarks::{linted_text, name_of};
 use crate::kept::Kept;
 use crate::linted::Linted;
+use crate::module_lines::{CommentWithLine, comments_with_lines};
 use crate::refusal::{Refusal, tell_comment, tell_refusal};
 use crate::run::Task;
 use crate::shown::Shown;
+use crate::terminal::report_with_lines;
 use command_line::write_pieces;
-use comment_faults::CommentFault;
 use file_tree::path::place;
 use hcl_scan::{ByteSink, Failed, write_fully};
 use lint_forms::Form;
 use module_find::Module;
 use std::alloc::{AllocError, Global};
-use tf_rules::IssueList;
+use tf_rules::{IssueList, owned_issues};
 use tfrules_command::report::show_issues;
 use tfrules_command::shown_names::ShownNames;
 
@@ -66,22 +67,14 @@ fn show_after<O: ByteSink, N: ShownNames>(
 pub(crate) fn no_memory(one: &Module) -> Refusal<'_>
     ensures { refusal_told result ≡ no_memory one.now }
 {
-    Refusal {
-        name: place(one.folder.as_slice()),
-        at: None,
-        text: "out of memory",
-    }
+    Refusal::of_name(place(one.folder.as_slice()), "out of memory")
 }
 
 /// What is said of a module with too many files.
 pub(crate) fn too_many(one: &Module) -> Refusal<'_>
     ensures { refusal_told result ≡ too_many one.now }
 {
-    Refusal {
-        name: place(one.folder.as_slice()),
-        at: None,
-        text: "more than 256 files",
-    }
+    Refusal::of_name(place(one.folder.as_slice()), "more than 256 files")
 }
 
 /// How a module ends that is refused.
@@ -119,12 +112,63 @@ fn show_report<O: ByteSink>(
 ) -> Result<(), AllocError>
     requires out { O.failed out.old ≡ false }
     ensures ok { OnOk result (Took (writer O.ByteSink out.old out.new)
-        (linted_output None is_after one.now (linted_told linted.entry))) }
+        (linted_output None false is_after one.now (linted_told linted.entry))) }
     ensures err { OnErr result (out.new ≡ out.old) }
 {
     let names = Shown::new(alloc, one.files.as_slice())?;
     show_after(is_after, out, &names, linted.issues);
     Ok(())
+}
+
+/// What stands before a report: an empty line where other reports stand before it, unless it is empty.
+fn parting(is_after: bool, text: &[u8]) -> &'static [u8]
+    ensures { result.now ++ text.now ≡ parted is_after text.now }
+{
+    if text.is_empty() {
+        return b"";
+    }
+    if is_after { b"\n" } else { b"" }
+}
+
+/// Writes the report of issues with the lines of which they speak.
+fn show_lines<O: ByteSink>(
+    alloc: Global,
+    is_after: bool,
+    one: &Module,
+    linted: Linted<'_, '_>,
+    out: &mut O,
+) -> Result<(), AllocError>
+    requires out { O.failed out.old ≡ false }
+    ensures ok { OnOk result (Took (writer O.ByteSink out.old out.new)
+        (linted_output None true is_after one.now (linted_told linted.entry))) }
+    ensures err { OnErr result (out.new ≡ out.old) }
+{
+    let names = Shown::new(alloc, one.files.as_slice())?;
+    let issues = owned_issues(alloc, linted.issues)?;
+    let text = report_with_lines(alloc, &names, linted.texts, issues.as_slice())?;
+    let text = text.as_slice();
+    let _ = write_pieces(out, &[parting(is_after, text), text]);
+    Ok(())
+}
+
+/// Writes the report of issues as it is to be written.
+fn show_text<O: ByteSink>(
+    alloc: Global,
+    task: Task,
+    one: &Module,
+    linted: Linted<'_, '_>,
+    out: &mut O,
+) -> Result<(), AllocError>
+    requires out { O.failed out.old ≡ false }
+    ensures ok { OnOk result (Took (writer O.ByteSink out.old out.new)
+        (linted_output None task.manner.terminals.out task.is_after one.now
+        (linted_told linted.entry))) }
+    ensures err { OnErr result (out.new ≡ out.old) }
+{
+    if task.manner.terminals.out {
+        return show_lines(alloc, task.is_after, one, linted, out);
+    }
+    show_report(alloc, task.is_after, one, linted, out)
 }
 
 /// Writes what is found in a form.
@@ -138,7 +182,7 @@ fn show_form<O: ByteSink>(
 ) -> Result<(), AllocError>
     requires out { O.failed out.old ≡ false }
     ensures ok { OnOk result (Took (writer O.ByteSink out.old out.new)
-        (linted_output (Some form) is_after one.now (linted_told linted.entry))) }
+        (module_text form is_after (remarks_by (names_in one.now) (linted_told linted.entry)))) }
     ensures err { OnErr result (out.new ≡ out.old) }
 {
     let text = linted_text(alloc, form, is_after, one.files.as_slice(), linted)?;
@@ -156,28 +200,30 @@ fn show_linted<O: ByteSink>(
 ) -> Result<(), AllocError>
     requires out { O.failed out.old ≡ false }
     ensures ok { OnOk result (Took (writer O.ByteSink out.old out.new)
-        (linted_output task.form task.is_after one.now (linted_told linted.entry))) }
+        (linted_output task.manner.form task.manner.terminals.out task.is_after one.now
+        (linted_told linted.entry))) }
     ensures err { OnErr result (out.new ≡ out.old) }
 {
-    match task.form {
+    match task.manner.form {
         Some(form) => show_form(alloc, form, task.is_after, one, linted, out),
-        None => show_report(alloc, task.is_after, one, linted, out),
+        None => show_text(alloc, task, one, linted, out),
     }
 }
 
 /// Says what is wrong with comments of the files of these names, up to a write that fails.
 fn tell_comments<E: ByteSink>(
     names: &[String],
-    comments: &[CommentFault],
+    comments: &[CommentWithLine<'_>],
     err: &mut E,
 ) -> Result<(), Failed>
     requires { E.failed err.old ≡ false }
     ensures took { Took (writer E.ByteSink err.old err.new)
-        (flat_map (λ f. comment_line (map string_bytes names.now) (fault_told f)) comments.now) }
+        (flat_map (λ comment. comment_told (map string_bytes names.now) (comment_as_told comment))
+        comments.now) }
     ensures failed { E.failed err.new ≡ is_err result }
 {
-    for fault in comments {
-        tell_comment(err, name_of(names, fault.file), fault)?;
+    for comment in comments {
+        tell_comment(err, name_of(names, comment.fault.file), comment)?;
     }
     Ok(())
 }
@@ -198,14 +244,18 @@ fn show_some<O: ByteSink, E: ByteSink>(
         (writer O.ByteSink out.old out.new) (writer E.ByteSink err.old err.new)
         kept.old kept.new result }
 {
+    let shows = task.manner.terminals.err;
+    let Ok(comments) = comments_with_lines(alloc, shows, linted.texts, linted.comments) else {
+        return refuse(alloc, no_memory(one), err, kept);
+    };
     let Ok(()) = show_linted(alloc, task, one, linted, out) else {
         return refuse(alloc, no_memory(one), err, kept);
     };
-    let _ = tell_comments(one.files.as_slice(), linted.comments, err);
+    let _ = tell_comments(one.files.as_slice(), comments.as_slice(), err);
     Ended {
         status: linted.status(task.policy),
         issues: linted.issues.len(),
-        is_shown: linted.has_output(task.form),
+        is_shown: linted.has_output(task.manner.form),
     }
 }
 

@@ -15,10 +15,9 @@ use crate::kept::Kept;
 use crate::module_tree::ModuleTree;
 use crate::policy::{Governed, Policy};
 use crate::report::{REFUSED, no_memory, refuse, show, too_many};
-use crate::written::Written;
+use crate::written::{Manner, Written};
 use file_tree::tree::Tree;
 use hcl_scan::{ByteSink, write_fully};
-use lint_forms::Form;
 use module_find::Module;
 use std::alloc::Global;
 use tf_rules::Facts;
@@ -29,8 +28,7 @@ use tfrules_command::file_names::MAX_FILES;
 pub(crate) struct Task {
     /// By what it is linted.
     pub policy: Policy,
-    /// In which form; none for the report of `tfrules`.
-    pub form: Option<Form>,
+    pub manner: Manner,
     /// Other reports stand before its own.
     pub is_after: bool,
 }
@@ -49,8 +47,8 @@ fn lint_files<T: Tree + Drop, O: ByteSink, E: ByteSink>(
     requires back { has_reader_out files.old ≡ false }
     requires out { O.failed out.old ≡ false }
     requires err { E.failed err.old ≡ false }
-    ensures shows { Shows task one.now (IsVerdict (T.files files.old.tree) task.policy one.now
-        (T.faults files.old.tree) (T.faults files.new.tree))
+    ensures shows { Shows task one.now (IsVerdict (T.files files.old.tree) task.manner.terminals
+        task.policy one.now (T.faults files.old.tree) (T.faults files.new.tree))
         (writer O.ByteSink out.old out.new) (writer E.ByteSink err.old err.new)
         kept.old kept.new result }
     ensures files { T.files files.new.tree ≡ T.files files.old.tree }
@@ -60,7 +58,7 @@ fn lint_files<T: Tree + Drop, O: ByteSink, E: ByteSink>(
     let Ok(facts) = Facts::with_hashing(alloc, files.hashing()) else {
         return refuse(alloc, no_memory(one), err, kept);
     };
-    let mut all = Gathered::new(alloc, facts, task.policy.checks);
+    let mut all = Gathered::new(alloc, facts, task.policy.checks, task.manner.terminals);
     if let Err(stopped) = gather(alloc, one.files.as_slice(), files, &mut all) {
         return refuse(alloc, stopped.refusal(), err, kept);
     }
@@ -86,8 +84,8 @@ fn lint_one<T: Tree + Drop, O: ByteSink, E: ByteSink>(
     requires back { has_reader_out files.old ≡ false }
     requires out { O.failed out.old ≡ false }
     requires err { E.failed err.old ≡ false }
-    ensures shows { Shows task one.now (IsVerdict (T.files files.old.tree) task.policy one.now
-        (T.faults files.old.tree) (T.faults files.new.tree))
+    ensures shows { Shows task one.now (IsVerdict (T.files files.old.tree) task.manner.terminals
+        task.policy one.now (T.faults files.old.tree) (T.faults files.new.tree))
         (writer O.ByteSink out.old out.new) (writer E.ByteSink err.old err.new)
         kept.old kept.new result }
     ensures files { T.files files.new.tree ≡ T.files files.old.tree }
@@ -106,7 +104,7 @@ fn lint_one<T: Tree + Drop, O: ByteSink, E: ByteSink>(
 /// Lints one module by its own policy.
 fn lint_next<T: Tree + Drop, O: ByteSink, E: ByteSink>(
     alloc: Global,
-    form: Option<Form>,
+    manner: Manner,
     is_after: bool,
     one: &Governed,
     files: &mut ModuleTree<T>,
@@ -117,9 +115,9 @@ fn lint_next<T: Tree + Drop, O: ByteSink, E: ByteSink>(
     requires back { has_reader_out files.old ≡ false }
     requires out { O.failed out.old ≡ false }
     requires err { E.failed err.old ≡ false }
-    ensures shows { Shows (record { policy = one.now.policy; form = form; is_after = is_after })
+    ensures shows { Shows (record { policy = one.now.policy; manner = manner; is_after = is_after })
         one.now.module
-        (IsVerdict (T.files files.old.tree) one.now.policy one.now.module
+        (IsVerdict (T.files files.old.tree) manner.terminals one.now.policy one.now.module
         (T.faults files.old.tree) (T.faults files.new.tree))
         (writer O.ByteSink out.old out.new) (writer E.ByteSink err.old err.new)
         kept.old kept.new result }
@@ -129,7 +127,7 @@ fn lint_next<T: Tree + Drop, O: ByteSink, E: ByteSink>(
 {
     let task = Task {
         policy: one.policy,
-        form,
+        manner,
         is_after,
     };
     lint_one(alloc, task, &one.module, files, out, err, kept)
@@ -195,7 +193,7 @@ impl RunEnd {
 /// Lints modules one after another, each by its own policy, whatever becomes of the others: a refused module stops none.
 fn run_all<T: Tree + Drop, O: ByteSink, E: ByteSink>(
     alloc: Global,
-    form: Option<Form>,
+    manner: Manner,
     modules: &[Governed],
     files: &mut ModuleTree<T>,
     out: &mut O,
@@ -204,7 +202,7 @@ fn run_all<T: Tree + Drop, O: ByteSink, E: ByteSink>(
     requires back { has_reader_out files.old ≡ false }
     requires out { O.failed out.old ≡ false }
     requires err { E.failed err.old ≡ false }
-    ensures ran { IsLintRun (T.files files.old.tree) form [] modules.now
+    ensures ran { IsLintRun (T.files files.old.tree) manner [] modules.now
         (T.faults files.old.tree) (T.faults files.new.tree)
         (end_of O.ByteSink out.old out.new E.ByteSink err.old err.new result.status) result }
     ensures files { T.files files.new.tree ≡ T.files files.old.tree }
@@ -214,9 +212,9 @@ fn run_all<T: Tree + Drop, O: ByteSink, E: ByteSink>(
     let mut status = 0;
     let mut has_output = false;
     let mut counts = Counts::new();
-    let mut kept = Kept::new(alloc, form.is_some());
+    let mut kept = Kept::new(alloc, manner.form.is_some());
     for one in modules {
-        let ended = lint_next(alloc, form, has_output, one, files, out, err, &mut kept);
+        let ended = lint_next(alloc, manner, has_output, one, files, out, err, &mut kept);
         if has_failed(out, err) {
             return RunEnd::cut(counts, kept);
         }
@@ -248,7 +246,7 @@ pub fn run_over<T: Tree + Drop, O: ByteSink, E: ByteSink>(
     requires out { O.failed out.old ≡ false }
     requires err { E.failed err.old ≡ false }
     // What becomes of each module, what is said of it, the status, and what was found in all.
-    ensures ran { IsLintRun (T.files files.old.tree) written.entry.form written.entry.head.now
+    ensures ran { IsLintRun (T.files files.old.tree) written.entry.manner written.entry.head.now
         modules.now (T.faults files.old.tree) (T.faults files.new.tree)
         (end_of O.ByteSink out.old out.new E.ByteSink err.old err.new result.status) result }
     // Nothing is changed, nor asked to be.
@@ -260,5 +258,5 @@ pub fn run_over<T: Tree + Drop, O: ByteSink, E: ByteSink>(
     if let Err(_fault) = write_fully(out, written.head) {
         return RunEnd::cut(Counts::new(), Kept::new(alloc, false));
     }
-    run_all(alloc, written.form, modules, files, out, err)
+    run_all(alloc, written.manner, modules, files, out, err)
 }

@@ -9,10 +9,10 @@ use file_tree::fault::TreeFault;
 use hcl_scan::Fault;
 
 /// Why a file isn't kept.
-#[derive(Clone, Copy, Debug, PartialEq, Eq)]
+#[derive(Debug, Drop)]
 pub enum Stop {
-    /// It is no file of the language.
-    Refused(Fault),
+    /// It is no file of the language. This shows the line of the fault, or nothing.
+    Refused(Fault, Vec<u8>),
     /// With it the module is larger than `MAX_MODULE`.
     TooLarge,
     /// It can't be opened or read, or memory ran out.
@@ -20,7 +20,7 @@ pub enum Stop {
 }
 
 /// The name of the file at which a module is refused, and why.
-#[derive(Clone, Copy)]
+#[derive(Drop)]
 pub(crate) struct Stopped<'n> {
     pub name: &'n str,
     pub why: Stop,
@@ -28,26 +28,19 @@ pub(crate) struct Stopped<'n> {
 
 impl<'n> Stopped<'n> {
     /// What is said of it.
-    pub(crate) fn refusal(self) -> Refusal<'n>
-        ensures { refusal_told result ≡ stop_refusal self.entry.name.now self.entry.why }
+    pub(crate) fn refusal(&self) -> Refusal<'_>
+        ensures { refusal_told result ≡ stop_refusal self.now.name.now self.now.why }
     {
         let name = self.name.as_bytes();
-        match self.why {
-            Stop::Refused(fault) => Refusal {
+        match &self.why {
+            Stop::Refused(fault, line) => Refusal {
                 name,
                 at: Some(fault.at),
                 text: fault.kind.text(),
+                snippet: line.as_slice(),
             },
-            Stop::TooLarge => Refusal {
-                name,
-                at: None,
-                text: "module too large",
-            },
-            Stop::Failed(fault) => Refusal {
-                name,
-                at: None,
-                text: fault.text(),
-            },
+            Stop::TooLarge => Refusal::of_name(name, "module too large"),
+            Stop::Failed(fault) => Refusal::of_name(name, fault.text()),
         }
     }
 }

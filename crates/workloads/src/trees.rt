@@ -16,6 +16,13 @@ use tfrules_command::Hashing;
 use tree_format::outcome::Outcome;
 use tree_format::progress::Progress;
 use tree_lint::module_tree::ModuleTree;
+use tree_lint::written::Terminals;
+
+/// No output is read on a terminal.
+const PIPES: Terminals = Terminals {
+    out: false,
+    err: false,
+};
 
 /// The files of a folder.
 static NAMES: &[&str] = &[
@@ -311,6 +318,7 @@ pub fn lint_trees(
         let status = lint_command::run::program(
             alloc,
             &[b"tfrules-all", b"--rules", b"all", b"."],
+            PIPES,
             &mut files,
             &mut input,
             &mut out,

@@ -1,8 +1,9 @@
-use Rattle.std.proofs.Common.{◌≡◌, ◌∙◌, ◌≤◌, ◌<◌, [], arith, get_or, length, lit≤, map, refl, subst}
+use Rattle.std.proofs.Common.{◌≡◌, ◌∙◌, ◌≤◌, ◌<◌, [], ap, arith, get_or, length, lit≤, map, refl, subst}
 use Rattle.std.proofs.lemmas.List.{length-map, take_all}
 use Rattle.std.specs.Prelude.{string_bytes}
 use Rattle.tree_lint.specs.Inner.Gathering.{ReachedAll}
 use Rattle.tree_lint.specs.Verdicts.{told_in}
+use Rattle.tree_lint.specs.declared.written.Terminals.{Terminals}
 use Rattle.tree_lint.proofs.FileLemmas.{name_here, reached_all_more, reached_all_none, stops_at, told_here}
 use Rattle.tree_lint.proofs.gather.gather.Goals as goal
 
@@ -19,7 +20,7 @@ loop-number-preserved g c =
       c.in-Ok.ensures.asked ∙ kept.1,
       a.0 ∙ kept.2,
       a.1.added.fits,
-      reached_all_more _ (map string_bytes c.args.names.now) c.loop-number.number c.loop-number.size c.in-Ok.all c.as_str-name.result.now _ _ _ _ lt named (told_here _ _ c.as_str-name.result.now kept.0) kept.4 a.1,
+      reached_all_more _ (map string_bytes c.args.names.now) c.loop-number.number c.loop-number.size c.in-Ok.all c.as_str-name.result.now _ _ _ _ _ lt named (told_here _ _ c.as_str-name.result.now kept.0) kept.4 a.1,
       c.in-Ok.ensures.back,
     )
 
@@ -28,13 +29,14 @@ returns-in-Err-clause-gathers g c =
     let kept = c.loop-number.invariant in
     let lt : c.loop-number.number < length (map string_bytes c.args.names.now) = omega (arith, length-map c.args.names.now string_bytes, c.loop-number-test.true) in
     let named : c.as_str-name.result.now ≡ get_or (map string_bytes c.args.names.now) c.loop-number.number [] = name_here c.args.names.now c.loop-number.number c.index-names-number.result c.as_str-name.result.now c.loop-number-test.true c.index-names-number.is c.as_str-name.ensures.value in
-    stops_at _ (map string_bytes c.args.names.now) c.loop-number.number c.loop-number.size c.as_str-name.result.now _ _ _ _ _ c.in-Err.why lt named (told_here _ _ c.as_str-name.result.now kept.0) kept.2 kept.4.reached c.in-Err.ensures.adds
+    stops_at _ _ _ (map string_bytes c.args.names.now) c.loop-number.number c.loop-number.size c.as_str-name.result.now _ _ _ _ _ c.in-Err.why lt named (told_here _ _ c.as_str-name.result.now kept.0) kept.2 kept.4.reached
+    (ap (λ (t : Terminals). t.err) kept.4.terminals_are) c.in-Err.ensures.adds
 
 pub returns-clause-gathers : goal.returns-clause-gathers
 returns-clause-gathers g c =
     let kept = c.loop-number.invariant in
     let all : length (map string_bytes c.args.names.now) ≤ c.loop-number.number = omega (arith, length-map c.args.names.now string_bytes, c.loop-number-test.false) in
-    (kept.2, (c.loop-number.size, subst (λ names. ReachedAll (told_in (g.T.Tree.files c.args.files.now.tree)) names c.loop-number.size c.args.into.now.checks c.loop-number.into) (take_all c.loop-number.number (map string_bytes c.args.names.now) all) kept.4))
+    (kept.2, (c.loop-number.size, subst (λ names. ReachedAll (told_in (g.T.Tree.files c.args.files.now.tree)) names c.loop-number.size c.args.into.now.checks c.args.into.now.terminals c.loop-number.into) (take_all c.loop-number.number (map string_bytes c.args.names.now) all) kept.4))
 
 pub returns-in-Err-clause-files : goal.returns-in-Err-clause-files
 returns-in-Err-clause-files g c = c.in-Err.ensures.files ∙ c.loop-number.invariant.0

@@ -11,5 +11,5 @@ invariant-loop-number g l =
     × (g.T.Tree.asked l.files.tree ≡ g.T.Tree.asked l.initial.files.tree)
     × (g.T.Tree.faults l.files.tree ≡ g.T.Tree.faults l.initial.files.tree)
     × (l.size ≤ max_module)
-    × ReachedAll (told_in (g.T.Tree.files l.initial.files.tree)) (take l.number (map string_bytes l.names)) l.size l.initial.into.checks l.into
+    × ReachedAll (told_in (g.T.Tree.files l.initial.files.tree)) (take l.number (map string_bytes l.names)) l.size l.initial.into.checks l.initial.into.terminals l.into
     × (l.files.is_out ≡ false)

@@ -13,4 +13,4 @@ returns c =
     subst (λ rs. IfOk c.module_text.result (λ text. text.items ≡ module_text c.args.form c.args.is_after rs))
     (ap (map said_by) c.as_slice-2.ensures.value ∙ c.in_ok-add_comments.ensures
     ∙ ap (λ l. l ++ map (λ f. comment_remark names (fault_told f)) c.args.linted.comments.now) (c.in_ok-remarks.ensures ∙ ap (map (issue_remark names)) (c.as_slice.ensures.value ∙ c.in_ok-owned.ensures))
-    ∙ remarks_told names c.args.linted.issues.now c.args.linted.comments.now) c.module_text.ensures
+    ∙ remarks_told names c.args.linted.issues.now c.args.linted.comments.now c.args.linted.texts.now) c.module_text.ensures

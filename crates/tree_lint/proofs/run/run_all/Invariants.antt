@@ -7,5 +7,5 @@ invariant-loop-one g l =
     (g.O.ByteSink.failed l.out ≡ false) × (g.E.ByteSink.failed l.err ≡ false) × (l.files.is_out ≡ false)
     × (g.T.Tree.files l.files.tree ≡ g.T.Tree.files l.initial.files.tree)
     × (g.T.Tree.asked l.files.tree ≡ g.T.Tree.asked l.initial.files.tree)
-    × SoFar (g.T.Tree.files l.initial.files.tree) l.form [] (take l.one-index l.modules) (g.T.Tree.faults l.initial.files.tree) (g.T.Tree.faults l.files.tree)
+    × SoFar (g.T.Tree.files l.initial.files.tree) l.manner [] (take l.one-index l.modules) (g.T.Tree.faults l.initial.files.tree) (g.T.Tree.faults l.files.tree)
     (g.O.ByteSink.taken l.initial.out) (g.O.ByteSink.taken l.out) (g.E.ByteSink.taken l.initial.err) (g.E.ByteSink.taken l.err) l.has_output l.status l.counts l.kept
