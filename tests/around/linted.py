@@ -28,7 +28,7 @@ def run(group):
         lines_of_files,
         many_lines_of_files,
     )
-    run_parts(group, parts, 198)
+    run_parts(group, parts, 199)
 
 
 def run_script(group):
