@@ -23,9 +23,13 @@ nth_line number text = before_first (λ b. b == 10) (after_lines (number - 1) te
 abbrev pub is_hidden : ℕ → Bool
 is_hidden c = nat_lt c 32 || is_in_range 127 159 c || is_in_range 0x2028 0x202E c || is_in_range 0x2066 0x2069 c
 
--- a part of a line as it is shown: with a blank for each character that is hidden
+-- the character that is shown for one: a blank for one that is hidden
+abbrev pub shown_char : ℕ → ℕ
+shown_char c = if is_hidden c then 32 else c
+
+-- a part of a line as it is shown
 abbrev pub visible : List ℕ → List ℕ
-visible part = encode_utf8_all (map (λ c. if is_hidden c then 32 else c) (chars part))
+visible part = encode_utf8_all (map shown_char (chars part))
 
 -- what stands in a line before a column; columns count extended grapheme clusters, as in a place
 abbrev pub before_column : ℕ → List ℕ → List ℕ

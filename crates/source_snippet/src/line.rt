@@ -1,6 +1,6 @@
 //! Lines of a text, one after the other.
 
-ghost use Rattle.std.specs.Prelude.{◌≡◌, ◌==◌, ◌<◌, ◌≤◌, ◌*◌, length, chars, MatchOption};
+ghost use Rattle.std.specs.Prelude.{◌≡◌, ◌==◌, ◌<◌, ◌≤◌, ◌*◌, length, chars, IfSome, MatchOption};
 ghost use Rattle.std.specs.List.{after_first, before_first, position_or_len};
 ghost use Rattle.source_snippet.specs.Snippets.{longest_line};
 
@@ -8,7 +8,7 @@ ghost use Rattle.source_snippet.specs.Snippets.{longest_line};
 const LONGEST_LINE: usize = 240;
 
 /// The most bytes of so many characters.
-const MOST_BYTES: usize = 4 * LONGEST_LINE;
+pub(crate) const MOST_BYTES: usize = 4 * LONGEST_LINE;
 
 /// What stands after the first line of a text.
 pub fn after_line(text: &str) -> &str
@@ -22,8 +22,9 @@ pub fn after_line(text: &str) -> &str
 
 /// Where the first line of a text ends, unless it has too many bytes. No more than those are looked at.
 fn near_line_end(bytes: &[u8]) -> Option<usize>
-    ensures { MatchOption result (MOST_BYTES < position_or_len (λ b. b == 10) bytes.now)
+    ensures end { MatchOption result (MOST_BYTES < position_or_len (λ b. b == 10) bytes.now)
         (λ end. end ≡ position_or_len (λ b. b == 10) bytes.now) }
+    ensures few { IfSome result (λ end. end ≤ MOST_BYTES) }
 {
     let mut end = 0;
     while end < bytes.len() && bytes[end] != b'\n' {
@@ -44,10 +45,11 @@ fn char_count(text: &str) -> usize
 
 /// The first line of a text, unless it has too many characters.
 pub fn short_line(text: &str) -> Option<&str>
-    ensures { MatchOption result
+    ensures line { MatchOption result
         (longest_line < length (chars (before_first (λ b. b == 10) text.now)))
         (λ line. (line.now ≡ before_first (λ b. b == 10) text.now)
         × (length (chars line.now) ≤ longest_line)) }
+    ensures few { IfSome result (λ line. length line.now ≤ MOST_BYTES) }
 {
     let Some(end) = near_line_end(text.as_bytes()) else {
         return None;

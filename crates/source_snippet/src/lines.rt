@@ -5,7 +5,8 @@ ghost use Rattle.std.specs.List.{before_first};
 ghost use Rattle.source_snippet.specs.Snippets.{after_lines, snippet, snippet_if, snippet_of_line};
 
 use crate::line::{after_line, short_line};
-use crate::visible::with_caret;
+use crate::visible::{Snippet, with_caret};
+use arrayvec::ArrayVec;
 use hcl_source::{Position, Source};
 use std::alloc::{AllocError, Global};
 use std::marker::Model;
@@ -30,13 +31,12 @@ impl<'t> Model for Lines<'t> {
 }
 
 /// The snippet of a line, or nothing where none is shown.
-fn snippet_of_line(alloc: Global, rest: &str, column: u32) -> Result<Vec<u8>, AllocError>
-    ensures { IfOk result (λ text. text.items
-        ≡ snippet_of_line column (before_first (λ b. b == 10) rest.now)) }
+fn snippet_of_line(rest: &str, column: u32) -> Snippet
+    ensures { result.items ≡ snippet_of_line column (before_first (λ b. b == 10) rest.now) }
 {
     match short_line(rest) {
-        Some(line) if !line.is_empty() => with_caret(alloc, line, column),
-        _ => Ok(Vec::new(alloc)),
+        Some(line) if !line.is_empty() => with_caret(line, column),
+        _ => ArrayVec::new(),
     }
 }
 
@@ -71,12 +71,12 @@ impl<'t> Lines<'t> {
     }
 
     /// The snippet for a place in the text.
-    pub fn snippet(&mut self, alloc: Global, at: Position) -> Result<Vec<u8>, AllocError>
-        ensures snippet { IfOk result (λ text. text.items ≡ snippet self.old at) }
+    pub fn snippet(&mut self, at: Position) -> Snippet
+        ensures snippet { result.items ≡ snippet self.old at }
         ensures same { self.new ≡ self.old }
     {
         let rest = self.after(at.line.saturating_sub(1));
-        snippet_of_line(alloc, rest, at.column)
+        snippet_of_line(rest, at.column)
     }
 }
 
@@ -89,8 +89,9 @@ pub fn snippet_of(
 ) -> Result<Vec<u8>, AllocError>
     ensures { IfOk result (λ text. text.items ≡ snippet_if shows source.now at) }
 {
-    if !shows {
-        return Ok(Vec::new(alloc));
+    let mut text = Vec::new(alloc);
+    if shows {
+        text.extend_from_slice(Lines::new(source.text()).snippet(at).as_slice())?;
     }
-    Lines::new(source.text()).snippet(alloc, at)
+    Ok(text)
 }

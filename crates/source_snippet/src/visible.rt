@@ -1,14 +1,21 @@
 //! A line as a terminal shows it, and a mark below a column of it.
 
-ghost use Rattle.std.specs.Prelude.{◌≡◌, ◌++◌, drop, replicate, true, IfOk};
+ghost use Rattle.std.specs.Prelude.{◌≡◌, ◌≤◌, ◌+◌, ◌++◌, drop, length, replicate, true};
 ghost use Rattle.std.specs.List.{concat};
-ghost use Rattle.std.specs.String.{string_bytes};
 ghost use Rattle.unicode_segmentation.specs.Grapheme.{graphemes};
-ghost use Rattle.source_snippet.specs.Snippets.{before_column as before_column_of, is_hidden as is_hidden_of, with_caret as with_caret_of, visible as visible_of};
+ghost use Rattle.source_snippet.specs.Snippets.{before_column as before_column_of, is_hidden as is_hidden_of, shown_char, with_caret as with_caret_of, visible as visible_of};
 
-use std::alloc::{AllocError, Global};
+use crate::line::MOST_BYTES;
+use arrayvec::{ArrayString, ArrayVec};
 use unicode_segmentation::UnicodeSegmentation;
 use unicode_width::UnicodeWidthStr;
+
+/// The most bytes of a line with a caret below it: both begin with two blanks and end with LF, and of the caret's there are at
+/// most two for each byte of the line, and the caret.
+const MOST_SHOWN: usize = 3 * MOST_BYTES + 7;
+
+/// A line with a caret below it, or nothing where no line is shown.
+pub type Snippet = ArrayVec<u8, MOST_SHOWN>;
 
 /// Whether a terminal may take it for more than a character.
 fn is_hidden(c: char) -> bool
@@ -20,13 +27,23 @@ fn is_hidden(c: char) -> bool
         || ('\u{2066}' <= c && c <= '\u{2069}')
 }
 
-/// A part of a line as it is shown.
-fn visible(alloc: Global, part: &str) -> Result<String, AllocError>
-    ensures { IfOk result (λ shown. string_bytes shown ≡ visible_of part.now) }
+/// The character that is shown for this one.
+fn shown(c: char) -> char
+    ensures { result ≡ shown_char c }
 {
-    part.chars()
-        .map(|c| if is_hidden(c) { ' ' } else { c })
-        .collect(alloc)
+    if is_hidden(c) { ' ' } else { c }
+}
+
+/// A part of a line as it is shown. No character takes more bytes than the one for which it is shown.
+fn visible(part: &str) -> ArrayString<MOST_BYTES>
+    requires { length part.now ≤ MOST_BYTES }
+    ensures { result.bytes ≡ visible_of part.now }
+{
+    let mut text = ArrayString::new();
+    for c in part.chars() {
+        text.push(shown(c));
+    }
+    text
 }
 
 /// What stands in a line after so many clusters.
@@ -45,33 +62,43 @@ fn after_clusters(line: &str, count: u32) -> &str
 
 /// What stands in a line before a column.
 fn before_column(line: &str, column: u32) -> &str
-    ensures { result.now ≡ before_column_of column line.now }
+    ensures before { result.now ≡ before_column_of column line.now }
+    ensures within { length result.now ≤ length line.now }
 {
     let after = after_clusters(line, column.saturating_sub(1));
     &line[..line.len() - after.len()]
 }
 
-/// Adds blanks.
-fn put_blanks(text: &mut Vec<u8>, count: usize) -> Result<(), AllocError>
-    ensures { IfOk result (λ _. text.new.items ≡ text.old.items ++ replicate count 32) }
+/// Adds a text for which there is room.
+fn put(snippet: &mut Snippet, text: &[u8])
+    requires { length snippet.old.items + length text.now ≤ MOST_SHOWN }
+    ensures { snippet.new.items ≡ snippet.old.items ++ text.now }
+{
+    let _ = snippet.try_extend_from_slice(text);
+}
+
+/// Adds blanks for which there is room.
+fn put_blanks(snippet: &mut Snippet, count: usize)
+    requires { length snippet.old.items + count ≤ MOST_SHOWN }
+    ensures { snippet.new.items ≡ snippet.old.items ++ replicate count 32 }
 {
     for _ in 0..count {
-        text.push(b' ')?;
+        snippet.push(b' ');
     }
-    Ok(())
 }
 
 /// A line that is neither empty nor too long, with a caret below a column.
-pub fn with_caret(alloc: Global, line: &str, column: u32) -> Result<Vec<u8>, AllocError>
-    ensures { IfOk result (λ text. text.items ≡ with_caret_of column line.now) }
+pub fn with_caret(line: &str, column: u32) -> Snippet
+    requires { length line.now ≤ MOST_BYTES }
+    ensures { result.items ≡ with_caret_of column line.now }
 {
-    let shown = visible(alloc, line)?;
-    let before = visible(alloc, before_column(line, column))?;
-    let mut text = Vec::new(alloc);
-    text.extend_from_slice(b"  ")?;
-    text.extend_from_slice(shown.as_bytes())?;
-    text.extend_from_slice(b"\n  ")?;
-    put_blanks(&mut text, before.as_str().width())?;
-    text.extend_from_slice(b"^\n")?;
-    Ok(text)
+    let shown = visible(line);
+    let before = visible(before_column(line, column));
+    let mut snippet = ArrayVec::new();
+    put(&mut snippet, b"  ");
+    put(&mut snippet, shown.as_str().as_bytes());
+    put(&mut snippet, b"\n  ");
+    put_blanks(&mut snippet, before.as_str().width());
+    put(&mut snippet, b"^\n");
+    snippet
 }

@@ -97,6 +97,18 @@ all_written before now next after first page page' waits front back false false 
 all_written before now next after first page page' waits front back true e f is is' none same g h t = absurd (cc)
 all_written before now next after first page page' waits front back false true f is is' none same g h t = absurd (cc)
 
+-- ---- one text alone
+
+pub text_fails : (before now : Option (List ℕ)) (first page text : List ℕ) (f : Bool) → f ≡ true → first ≡ [] → GoesOut f before now first page text → TookBy f before now text
+text_fails before now first page text true e none g = subst (λ l. TookBy true before now (l ++ text)) none g
+text_fails before now first page text false e none g = absurd (cc)
+
+pub text_written : (before now after : Option (List ℕ)) (first page text : List ℕ) (e f : Bool) → e ≡ false → first ≡ [] → GoesOut e before now first page text → TookBy f now after page → TookBy f before after text
+text_written before now after first page text false f is none g t =
+    let last : TookBy f now after (page ++ []) = subst (λ l. TookBy f now after l) (sym (append-nil page)) t in
+    subst (λ l. TookBy f before after l) (append-nil text) (subst (λ l. TookBy f before after (l ++ (text ++ []))) none (g [] after f last))
+text_written before now after first page text true f is none g t = absurd (cc)
+
 -- ---- a message in pieces
 
 pub named_tail : (front name rest closing : List ℕ) → front ++ (name ++ (rest ++ (closing ++ []))) ≡ (front ++ (name ++ rest)) ++ closing

@@ -14,10 +14,18 @@ issue_line names i =
     get_or names i.file [] ++ (codes ":" ++ (decimal i.at.line ++ (codes ":" ++ (decimal i.at.column ++ (codes ": "
     ++ (severity_text (severity i.rule) ++ (codes " - " ++ (i.message ++ (codes " (" ++ (rule_name i.rule ++ line (codes ")")))))))))))
 
--- nothing where there is no issue; else their number, an empty line, and a line for each
+-- how many issues there are, and an empty line
+abbrev pub issue_count : ℕ → List ℕ
+issue_count count = decimal count ++ line (line (codes " issue(s) found:"))
+
+-- nothing where there is no issue; else their number, and what is said of each
+abbrev pub report_by : (Issue → List ℕ) → List Issue → List ℕ
+report_by said [] = []
+report_by said (i ∷ is) = issue_count (length (i ∷ is)) ++ flat_map said (i ∷ is)
+
+-- a line for each
 abbrev pub report : List (List ℕ) → List Issue → List ℕ
-report names [] = []
-report names (i ∷ is) = decimal (length (i ∷ is)) ++ (line (line (codes " issue(s) found:")) ++ flat_map (issue_line names) (i ∷ is))
+report names issues = report_by (issue_line names) issues
 
 -- ---- the status
 

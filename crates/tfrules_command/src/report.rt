@@ -6,9 +6,9 @@ ghost use Rattle.std.specs.Io.KnownBytes.{Appends};
 ghost use Rattle.hcl_source.specs.Devices.{one_more};
 ghost use Rattle.command_line.specs.Rows.{Took, writer};
 ghost use Rattle.tf_rules.specs.Answers.{listed_issue, text_of_pieces};
-ghost use Rattle.tfrules_command.specs.Report.{issue_line, report, weighs, weight};
+ghost use Rattle.tfrules_command.specs.Report.{issue_count, issue_line, report, weighs, weight};
 ghost use Rattle.tfrules_command.specs.Inner.Pages.{GoesOut, Holds};
-ghost use Rattle.tfrules_command.specs.Inner.Pieces.{closing_words, count_lines, framed, lines_of_report, opening_words, place_words};
+ghost use Rattle.tfrules_command.specs.Inner.Pieces.{closing_words, framed, lines_of_report, opening_words, place_words};
 
 use crate::shown_names::ShownNames;
 use arrayvec::ArrayVec;
@@ -275,7 +275,7 @@ fn write_issue<O: ByteSink, N: ShownNames>(
 fn write_count<O: ByteSink>(out: &mut O, page: &mut Page, count: usize) -> Result<(), WriteFault>
     requires { O.failed out.old ≡ false }
     ensures goes { GoesOut (O.failed out.new) (O.taken out.old)
-        (O.taken out.new) page.old.items page.new.items (count_lines count) }
+        (O.taken out.new) page.old.items page.new.items (issue_count count) }
     ensures failed { O.failed out.new ≡ is_err result }
     ensures flushes { O.flushes out.new ≡ O.flushes out.old }
 {
@@ -285,6 +285,37 @@ fn write_count<O: ByteSink>(out: &mut O, page: &mut Page, count: usize) -> Resul
         page,
         &[digits.format(count).as_bytes(), b" issue(s) found:\n\n"],
     )
+}
+
+/// Writes how many issues a report has, and an empty line.
+pub fn show_count<O: ByteSink>(out: &mut O, count: usize) -> Result<(), WriteFault>
+    requires { O.failed out.old ≡ false }
+    ensures took { Took (writer O.ByteSink out.old out.new) (issue_count count) }
+    ensures failed { O.failed out.new ≡ is_err result }
+{
+    let mut page = ArrayVec::new();
+    if let Err(fault) = write_count(out, &mut page, count) {
+        return Err(fault);
+    }
+    send(out, &mut page)
+}
+
+/// Writes the line of an issue in a report.
+pub fn show_issue<O: ByteSink, N: ShownNames>(
+    out: &mut O,
+    names: &N,
+    issue: ListedIssue<'_>,
+) -> Result<(), WriteFault>
+    requires { O.failed out.old ≡ false }
+    ensures took { Took (writer O.ByteSink out.old out.new)
+        (issue_line (N.names names.now) (listed_issue issue.entry)) }
+    ensures failed { O.failed out.new ≡ is_err result }
+{
+    let mut page = ArrayVec::new();
+    if let Err(fault) = write_issue(out, &mut page, names, issue) {
+        return Err(fault);
+    }
+    send(out, &mut page)
 }
 
 /// Writes the lines of issues.

@@ -1,6 +1,6 @@
 -- What is shown of one module.
-use Rattle.std.proofs.Common.{◌≡◌, ◌∙◌, ◌<◌, ◌+◌, ◌++◌, ◌∷◌, [], ℕ, Bool, true, false, Global, List, Option, ap, append-nil, append_assoc, arith, drop, eqb-true, flat_map, get_or, inl, inr, length, map, refl, subst, sym}
-use Rattle.std.specs.Prelude.{◌==◌, ◌&&◌, None, Ok, Err, String, codes, decimal, if◌then◌else◌, not, string_bytes}
+use Rattle.std.proofs.Common.{◌≡◌, ◌∙◌, ◌<◌, ◌+◌, ◌++◌, ◌∷◌, [], ℕ, Bool, true, false, Global, List, Option, ap, append-nil, arith, drop, eqb-true, flat_map, get_or, inl, inr, length, map, refl, subst, sym}
+use Rattle.std.specs.Prelude.{◌==◌, ◌&&◌, None, Ok, Err, String, if◌then◌else◌, not, string_bytes}
 use Rattle.comment_faults.specs.CommentFaults.{fault_told}
 use Rattle.comment_faults.specs.declared.fault.CommentFault as code
 use Rattle.command_line.specs.Rows.{TookBy, Writer}
@@ -16,19 +16,17 @@ use Rattle.lint_forms.specs.declared.kind.Form.{Form}
 use Rattle.lint_forms.specs.declared.kind.Form.TheVariants.{Json, Sarif, Checkstyle, Junit, Gitlab, Github}
 use Rattle.module_find.specs.declared.module.Module.{Module}
 use Rattle.tf_rules.specs.declared.issue.Issue.{Issue}
-use Rattle.tfrules_command.specs.Report.{report}
 use Rattle.tfrules_command.specs.Line.{max_files}
 use Rattle.tree_lint.specs.Faults.{fault_lines, refusal_by}
-use Rattle.tree_lint.specs.Inner.Showing.{HasOrNoMemory, Shows, comment_as_told, comment_told, comment_with_line, is_nothing, refused, report_lines}
+use Rattle.tree_lint.specs.Inner.Showing.{HasOrNoMemory, Shows, is_nothing, refused}
 use Rattle.tree_lint.specs.Kept.{KeepsAll}
 use Rattle.tree_lint.specs.Parted.{parted}
 use Rattle.tree_lint.specs.Refusals.{Refusal, refusal_line, refusal_of, told_fault}
-use Rattle.tree_lint.specs.Runs.{comment_line, comment_remark, has_output, issue_remark, linted_output, remarks_by, shown_issue, shown_report, verdict_message, verdict_output, verdict_status}
+use Rattle.tree_lint.specs.Runs.{comment_line, comment_remark, has_output, issue_remark, linted_output, remarks_by, report_of, verdict_message, verdict_output, verdict_status}
 use Rattle.tree_lint.specs.Verdicts.{CanBeRead, HaveFound, IsVerdict, Linted, StopsAt, Verdict, names_in, no_memory, stop_refusal, told_in, too_many}
 use Rattle.tree_lint.specs.declared.counts.Ended.{Ended}
 use Rattle.tree_lint.specs.declared.kept.Kept.{Kept}
 use Rattle.tree_lint.specs.declared.policy.Policy.{Policy}
-use Rattle.tree_lint.specs.declared.module_lines.CommentWithLine.{CommentWithLine}
 use Rattle.tree_lint.specs.declared.run.Task.{Task}
 use Rattle.tree_lint.specs.declared.stop.Stop.{Stop}
 use Rattle.tree_lint.specs.declared.written.Terminals.{Terminals}
@@ -87,16 +85,13 @@ flat_of : {A B : Type 0} (f : A → B) (g : B → List ℕ) (xs : List A) → fl
 flat_of f g [] = refl
 flat_of f g (x ∷ xs) = ap (λ t. g (f x) ++ t) (flat_of f g xs)
 
-pub comments_told : (shows : Bool) (m : Module) (linted : Linted) (names : List Name) (told : List CommentWithLine) (faults : List code.CommentFault) → names ≡ names_in m → map comment_as_told told ≡ map (comment_with_line shows linted.texts) faults
-    → linted.comments ≡ map fault_told faults → flat_map (λ c. comment_told names (comment_as_told c)) told ≡ verdict_message shows m (Ok linted)
-comments_told shows m linted names told faults same is e =
-    flat_of comment_as_told (comment_told names) told ∙ ap (flat_map (comment_told names)) is ∙ sym (flat_of (comment_with_line shows linted.texts) (comment_told names) faults)
-    ∙ flat_of fault_told (comment_line shows names linted.texts) faults ∙ (λ i. flat_map (comment_line shows (same i) linted.texts) (sym e i))
+pub comments_told : (shows : Bool) (m : Module) (linted : Linted) (names : List Name) (faults : List code.CommentFault) → names ≡ names_in m → linted.comments ≡ map fault_told faults
+    → flat_map (λ f. comment_line shows names linted.texts (fault_told f)) faults ≡ verdict_message shows m (Ok linted)
+comments_told shows m linted names faults same e = flat_of fault_told (comment_line shows names linted.texts) faults ∙ (λ i. flat_map (comment_line shows (same i) linted.texts) (sym e i))
 
 -- one, and those after it
-pub comment_here : (names : List Name) (told : List CommentWithLine) (i : ℕ) (c : CommentWithLine) → i < length told → c ≡ get_or told i c
-    → flat_map (λ c. comment_told names (comment_as_told c)) (drop i told) ≡ comment_told names (comment_as_told c) ++ flat_map (λ c. comment_told names (comment_as_told c)) (drop (i + 1) told)
-comment_here names told i c lt is = ap (flat_map (λ c. comment_told names (comment_as_told c))) (from_here told i c lt is)
+pub comment_here : (said : code.CommentFault → List ℕ) (faults : List code.CommentFault) (i : ℕ) (f : code.CommentFault) → i < length faults → f ≡ get_or faults i f → flat_map said (drop i faults) ≡ said f ++ flat_map said (drop (i + 1) faults)
+comment_here said faults i f lt is = ap (flat_map said) (from_here faults i f lt is)
 
 pub remarks_told : (names : List Name) (issues : List Issue) (faults : List code.CommentFault) (texts : List (List ℕ))
     → map (issue_remark names) issues ++ map (λ f. comment_remark names (fault_told f)) faults ≡ remarks_by names (record { issues = issues; comments = map fault_told faults; texts = texts })
@@ -129,29 +124,9 @@ map_twice : {A B C : Type 0} (f : B → C) (h : A → B) (xs : List A) → map (
 map_twice f h [] = refl
 map_twice f h (x ∷ xs) = ap (λ l. f (h x) ∷ l) (map_twice f h xs)
 
-pub names_as : (m : Module) (is_after : Bool) (linted : Linted) (issues : List Issue) (names : List (List ℕ)) (files : List (String Global)) → issues ≡ linted.issues → names ≡ map (λ name. quoted (string_bytes name)) files → files ≡ m.files.items
-    → parted is_after (report names issues) ≡ linted_output None false is_after m linted
-names_as m is_after linted issues names files ei e same =
-    ap (λ l. parted is_after (report l issues)) (e ∙ map_twice quoted string_bytes files ∙ ap (λ l. map quoted (map string_bytes l)) same) ∙ ap (λ l. parted is_after (report (map quoted (names_in m)) l)) ei
-
-pub lines_as : (m : Module) (is_after : Bool) (linted : Linted) (issues : List Issue) (names : List (List ℕ)) (files : List (String Global)) → issues ≡ linted.issues → names ≡ map (λ name. quoted (string_bytes name)) files → files ≡ m.files.items
-    → parted is_after (shown_report names linted.texts issues) ≡ linted_output None true is_after m linted
-lines_as m is_after linted issues names files ei e same =
-    ap (λ l. parted is_after (shown_report l linted.texts issues)) (e ∙ map_twice quoted string_bytes files ∙ ap (λ l. map quoted (map string_bytes l)) same) ∙ ap (λ l. parted is_after (shown_report (map quoted (names_in m)) linted.texts l)) ei
-
-pub report_added : (old counted worded all count : List ℕ) (names texts : List (List ℕ)) (issues : List Issue) → counted ≡ old ++ count → count ≡ decimal (length issues) → worded ≡ counted ++ codes " issue(s) found:\n\n" → all ≡ worded ++ flat_map (shown_issue names texts) issues
-    → all ≡ old ++ report_lines names texts issues
-report_added old counted worded all count names texts issues ec en ew ea =
-    let words = codes " issue(s) found:\n\n" in
-    let rest = flat_map (shown_issue names texts) issues in
-    ea ∙ ap (λ l. l ++ rest) (ew ∙ ap (λ l. l ++ words) (ec ∙ ap (λ l. old ++ l) en)) ∙ append_assoc (old ++ decimal (length issues)) words rest ∙ append_assoc old (decimal (length issues)) (words ++ rest)
-
-pub report_put : (names texts : List (List ℕ)) (issues : List Issue) (e : Bool) → e ≡ (length issues == 0) → e ≡ false → report_lines names texts issues ≡ shown_report names texts issues
-report_put names texts issues e is f = by (length issues == 0) (sym is ∙ f)
-  where
-    by : (v : Bool) → v ≡ false → report_lines names texts issues ≡ (if v then [] else report_lines names texts issues)
-    by true h = absurd (cc)
-    by false h = refl
+pub names_as : (shows : Bool) (m : Module) (is_after : Bool) (linted : Linted) (names : List (List ℕ)) (files : List (String Global)) → names ≡ map (λ name. quoted (string_bytes name)) files → files ≡ m.files.items
+    → parted is_after (report_of shows names linted) ≡ linted_output None shows is_after m linted
+names_as shows m is_after linted names files e same = ap (λ l. parted is_after (report_of shows l linted)) (e ∙ map_twice quoted string_bytes files ∙ ap (λ l. map quoted (map string_bytes l)) same)
 
 -- in a form, nothing is written of no issue
 nothing_in_form : (form : Form) (is_after : Bool) → module_text form is_after [] ≡ []

@@ -1,9 +1,9 @@
 -- What a run over modules says, and its status: each module is linted for itself, and what is said of them stands one after
 -- another. Our own choice.
-use Rattle.std.specs.Prelude.{◌≡◌, ◌||◌, ◌&&◌, ◌==◌, ℕ, Bool, false, not, List, [], ◌∷◌, ◌++◌, Option, Some, None, Ok, Err, codes, decimal, flat_map, fold, get_or, length, map, max, if◌then◌else◌}
+use Rattle.std.specs.Prelude.{◌≡◌, ◌||◌, ◌&&◌, ◌==◌, ℕ, Bool, false, not, List, [], ◌∷◌, ◌++◌, Option, Some, None, Ok, Err, flat_map, fold, get_or, length, map, max, if◌then◌else◌}
 use Rattle.std.specs.List.{list_any}
 use Rattle.comment_faults.specs.CommentFaults.{CommentFault}
-use Rattle.command_line.specs.Rows.{End, Took, line}
+use Rattle.command_line.specs.Rows.{End, Took}
 use Rattle.file_tree.specs.Files.{Faults, Files, Name}
 use Rattle.file_tree.specs.Quotes.{quoted}
 use Rattle.lint_forms.specs.Forms.{module_text}
@@ -15,7 +15,7 @@ use Rattle.source_snippet.specs.Snippets.{snippet, snippet_if}
 use Rattle.tf_rules.specs.Issues.{asked_of}
 use Rattle.tf_rules.specs.declared.issue.Issue.{Issue}
 use Rattle.tfrules_command.specs.Line.{Asking}
-use Rattle.tfrules_command.specs.Report.{issue_line, report, status}
+use Rattle.tfrules_command.specs.Report.{issue_line, report, report_by, status}
 use Rattle.tree_lint.specs.Kept.{HoldsAll}
 use Rattle.tree_lint.specs.Numbers.{counts_of}
 use Rattle.tree_lint.specs.Parted.{parted}
@@ -36,13 +36,13 @@ is_some xs = not (length xs == 0)
 abbrev pub shown_issue : List (List ℕ) → List (List ℕ) → Issue → List ℕ
 shown_issue names texts i = issue_line names i ++ snippet (get_or texts i.file []) i.at
 
--- a report with those lines, as one reads it on a terminal
-abbrev pub shown_report : List (List ℕ) → List (List ℕ) → List Issue → List ℕ
-shown_report names texts issues = if length issues == 0 then [] else decimal (length issues) ++ (line (line (codes " issue(s) found:")) ++ flat_map (shown_issue names texts) issues)
+-- the report of what is found in files of these names: that of `tfrules`, with those lines where they are shown
+abbrev pub report_of : Bool → List Name → Linted → List ℕ
+report_of shows names linted = if shows then report_by (shown_issue names linted.texts) linted.issues else report names linted.issues
 
--- the report of a module: that of `tfrules`, but that names stand in it as they are shown, and lines of its files where they are
+-- that of a module, with the names as they are shown
 abbrev pub module_report : Bool → Module → Linted → List ℕ
-module_report shows m linted = if shows then shown_report (map quoted (names_in m)) linted.texts linted.issues else report (map quoted (names_in m)) linted.issues
+module_report shows m linted = report_of shows (map quoted (names_in m)) linted
 
 -- an issue in the file of its number, as a remark
 abbrev pub issue_remark : List Name → Issue → Remark

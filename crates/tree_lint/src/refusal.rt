@@ -5,10 +5,10 @@ ghost use Rattle.std.specs.List.{concat};
 ghost use Rattle.command_line.specs.Rows.{Took, writer};
 ghost use Rattle.tree_lint.specs.Refusals.{named_words, refusal_line, refusal_of, refusal_told, refusal_words, told_fault};
 ghost use Rattle.tree_lint.specs.Faults.{fault_lines, refusal_by};
-ghost use Rattle.tree_lint.specs.Inner.Showing.{comment_as_told, told_comment};
+ghost use Rattle.tree_lint.specs.Inner.Showing.{told_comment};
 
-use crate::module_lines::CommentWithLine;
 use command_line::write_pieces;
+use comment_faults::CommentFault;
 use file_tree::fault::TreeFault;
 use file_tree::quote::write_quoted;
 use file_tree::walk::Found;
@@ -109,25 +109,25 @@ pub fn tell_refusal<S: ByteSink>(sink: &mut S, refusal: Refusal<'_>) -> Result<(
     tell_named(sink, refusal)
 }
 
-/// Writes the line of a comment in the file of this name.
-pub(crate) fn tell_comment<S: ByteSink>(
+/// Writes the line of a comment in the file of this name, and what is shown of that file there.
+pub(crate) fn tell_comment<'c, S: ByteSink>(
     sink: &mut S,
-    name: &str,
-    comment: &CommentWithLine<'_>,
+    name: &'c str,
+    fault: &'c CommentFault,
+    snippet: &'c [u8],
 ) -> Result<(), Failed>
     requires { S.failed sink.old ≡ false }
     ensures took { Took (writer S.ByteSink sink.old sink.new)
-        (told_comment name.now (comment_as_told comment.now)) }
+        (told_comment name.now snippet.now fault.now) }
     ensures failed { S.failed sink.new ≡ is_err result }
 {
-    let fault = comment.fault;
     tell_refusal(
         sink,
         Refusal {
             name: name.as_bytes(),
             at: Some(fault.at),
             text: fault.text.as_str(),
-            snippet: comment.line.as_slice(),
+            snippet,
         },
     )
 }

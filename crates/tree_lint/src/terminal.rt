@@ -1,113 +1,74 @@
 //! The report of a module as one reads it on a terminal: with the lines of which it speaks.
 
-ghost use Rattle.std.specs.Prelude.{◌≡◌, ◌++◌, IfOk, OnOk, flat_map};
-ghost use Rattle.tree_lint.specs.Runs.{shown_issue, shown_report};
-ghost use Rattle.tree_lint.specs.Inner.Showing.{issue_words, place_words, report_lines};
+ghost use Rattle.std.specs.Prelude.{◌≡◌, flat_map, false, is_err};
+ghost use Rattle.command_line.specs.Rows.{Took, writer};
+ghost use Rattle.tf_rules.specs.Answers.{listed_issue};
+ghost use Rattle.tfrules_command.specs.Report.{report_by};
+ghost use Rattle.tree_lint.specs.Runs.{shown_issue};
 
 use crate::module_lines::ModuleLines;
-use hcl_scan::{Position, Source};
-use itoa::Buffer;
-use std::alloc::{AllocError, Global};
-use tf_rules::Issue;
+use command_line::write_pieces;
+use hcl_scan::{ByteSink, Failed, Source};
+use tf_rules::{IssueList, ListedIssue};
+use tfrules_command::report::{show_count, show_issue};
 use tfrules_command::shown_names::ShownNames;
 
-/// Adds a place, and what stands round it.
-fn put_place(at: Position, text: &mut Vec<u8>) -> Result<(), AllocError>
-    ensures { OnOk result (text.new.items ≡ text.old.items ++ place_words at) }
-{
-    let mut line = Buffer::new();
-    let mut column = Buffer::new();
-    text.extend_from_slice(b":")?;
-    text.extend_from_slice(line.format(at.line).as_bytes())?;
-    text.extend_from_slice(b":")?;
-    text.extend_from_slice(column.format(at.column).as_bytes())?;
-    text.extend_from_slice(b": ")?;
-    Ok(())
-}
-
-/// Adds what an issue says, to the end of its line.
-fn put_words(issue: &Issue, text: &mut Vec<u8>) -> Result<(), AllocError>
-    ensures { OnOk result (text.new.items ≡ text.old.items ++ issue_words issue.now) }
-{
-    text.extend_from_slice(issue.rule.severity().text().as_bytes())?;
-    text.extend_from_slice(b" - ")?;
-    text.extend_from_slice(issue.message.as_str().as_bytes())?;
-    text.extend_from_slice(b" (")?;
-    text.extend_from_slice(issue.rule.name().as_bytes())?;
-    text.extend_from_slice(b")\n")?;
-    Ok(())
-}
-
-/// Adds an issue, and the line of the text of which it speaks.
-fn put_issue<N: ShownNames>(
-    alloc: Global,
+/// Writes an issue, and the line of the text of which it speaks.
+fn show_with_line<O: ByteSink, N: ShownNames>(
+    out: &mut O,
     names: &N,
-    issue: &Issue,
+    issue: ListedIssue<'_>,
     lines: &mut ModuleLines<'_>,
-    text: &mut Vec<u8>,
-) -> Result<(), AllocError>
-    ensures put { OnOk result (text.new.items
-        ≡ text.old.items ++ shown_issue (N.names names.now) lines.old issue.now) }
+) -> Result<(), Failed>
+    requires { O.failed out.old ≡ false }
+    ensures took { Took (writer O.ByteSink out.old out.new)
+        (shown_issue (N.names names.now) lines.old (listed_issue issue.entry)) }
+    ensures failed { O.failed out.new ≡ is_err result }
     ensures same { lines.new ≡ lines.old }
 {
-    text.extend_from_slice(names.name_of(issue.file))?;
-    put_place(issue.at, text)?;
-    put_words(issue, text)?;
-    let line = lines.snippet(alloc, issue.file, issue.at)?;
-    text.extend_from_slice(line.as_slice())?;
-    Ok(())
+    let line = lines.snippet(issue.file, issue.at);
+    if show_issue(out, names, issue).is_err() {
+        return Err(Failed);
+    }
+    write_pieces(out, &[line.as_slice()])
 }
 
-/// Adds each of the issues.
-fn put_issues<N: ShownNames>(
-    alloc: Global,
+/// Writes each of the issues.
+fn show_each<O: ByteSink, N: ShownNames>(
+    out: &mut O,
     names: &N,
     texts: &[Source],
-    issues: &[Issue],
-    text: &mut Vec<u8>,
-) -> Result<(), AllocError>
-    ensures { OnOk result (text.new.items ≡ text.old.items
-        ++ flat_map (shown_issue (N.names names.now) texts.now) issues.now) }
+    issues: &IssueList<'_>,
+) -> Result<(), Failed>
+    requires { O.failed out.old ≡ false }
+    ensures took { Took (writer O.ByteSink out.old out.new)
+        (flat_map (shown_issue (N.names names.now) texts.now) issues.now) }
+    ensures failed { O.failed out.new ≡ is_err result }
 {
     let mut lines = ModuleLines::new(texts);
-    for issue in issues {
-        put_issue(alloc, names, issue, &mut lines, text)?;
+    for number in 0..issues.len() {
+        show_with_line(out, names, issues.get(number), &mut lines)?;
     }
     Ok(())
 }
 
-/// Adds how many issues there are, and each of them.
-fn put_report<N: ShownNames>(
-    alloc: Global,
+/// Writes the report of issues, of which there is one or more. Nothing more is written once a write failed.
+pub(crate) fn show_lines<O: ByteSink, N: ShownNames>(
+    out: &mut O,
     names: &N,
     texts: &[Source],
-    issues: &[Issue],
-    text: &mut Vec<u8>,
-) -> Result<(), AllocError>
-    ensures { OnOk result (text.new.items ≡ text.old.items
-        ++ report_lines (N.names names.now) texts.now issues.now) }
+    issues: &IssueList<'_>,
+) -> Result<(), Failed>
+    requires { O.failed out.old ≡ false }
+    ensures took { Took (writer O.ByteSink out.old out.new)
+        (report_by (shown_issue (N.names names.now) texts.now) issues.now) }
+    ensures failed { O.failed out.new ≡ is_err result }
 {
-    let mut count = Buffer::new();
-    text.extend_from_slice(count.format(issues.len()).as_bytes())?;
-    text.extend_from_slice(b" issue(s) found:\n\n")?;
-    put_issues(alloc, names, texts, issues, text)?;
-    Ok(())
-}
-
-/// The report of issues, or nothing where there is none.
-pub(crate) fn report_with_lines<N: ShownNames>(
-    alloc: Global,
-    names: &N,
-    texts: &[Source],
-    issues: &[Issue],
-) -> Result<Vec<u8>, AllocError>
-    ensures { IfOk result
-        (λ text. text.items ≡ shown_report (N.names names.now) texts.now issues.now) }
-{
-    let mut text = Vec::new(alloc);
     if issues.is_empty() {
-        return Ok(text);
+        return Ok(());
     }
-    put_report(alloc, names, texts, issues, &mut text)?;
-    Ok(text)
+    if show_count(out, issues.len()).is_err() {
+        return Err(Failed);
+    }
+    show_each(out, names, texts, issues)
 }

@@ -7,7 +7,7 @@ use Rattle.rule_set.specs.Rules.{rule_name, severity_text}
 use Rattle.rule_set.specs.declared.rule.Rule.{Rule}
 use Rattle.rule_set.specs.declared.rule.Severity.{Severity}
 use Rattle.tf_rules.specs.declared.issue.Issue.{Issue}
-use Rattle.tfrules_command.specs.Report.{issue_line}
+use Rattle.tfrules_command.specs.Report.{issue_count, issue_line}
 use Rattle.tfrules_command.specs.declared.report.Frame.{Frame}
 
 -- `: Severity - `
@@ -26,8 +26,5 @@ place_words at = codes ":" ++ (decimal at.line ++ (codes ":" ++ decimal at.colum
 abbrev pub framed : Frame → List ℕ → List ℕ
 framed f message = f.name.now ++ (f.place.now ++ (f.opening.now ++ (message ++ f.closing.now)))
 
-abbrev pub count_lines : ℕ → List ℕ
-count_lines count = decimal count ++ line (line (codes " issue(s) found:"))
-
 abbrev pub lines_of_report : List (List ℕ) → List Issue → List ℕ
-lines_of_report names issues = count_lines (length issues) ++ flat_map (issue_line names) issues
+lines_of_report names issues = issue_count (length issues) ++ flat_map (issue_line names) issues

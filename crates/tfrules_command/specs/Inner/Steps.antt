@@ -1,5 +1,5 @@
 -- How far a run has come with the files of a module, and why it stopped.
-use Rattle.std.specs.Prelude.{◌≡◌, ◌≤◌, ◌<◌, ◌+◌, ◌++◌, ◌∷◌, ℕ, Bool, true, false, List, [], Option, Result, Ok, Err, codes, length}
+use Rattle.std.specs.Prelude.{◌≡◌, ◌+◌, ◌++◌, ◌∷◌, ℕ, Bool, true, false, List, [], Option, Result, Ok, Err, codes}
 use Rattle.command_line.specs.Rows.{Row, error_line, out_of_memory}
 use Rattle.hcl_source.specs.Load.{IsLoadFault, IsText}
 use Rattle.hcl_tokens.specs.declared.token.ScanError.{ScanError}
@@ -7,8 +7,8 @@ use Rattle.hcl_tokens.specs.declared.token.ScanError.TheVariants as scan_error
 use Rattle.hcl_source.specs.declared.fault.LoadError.{LoadError}
 use Rattle.hcl_source.specs.declared.fault.LoadError.TheVariants as error
 use Rattle.tf_rules.specs.Kept.{Kept}
-use Rattle.tfrules_command.specs.Answer.{file_error, linter, names_of, refusal_row, too_large, usage_line}
-use Rattle.tfrules_command.specs.Files.{NamedFile, AreAccepted, IsFault, IsOutcome, IsTooMuch, max_module, numbered_files, size_of}
+use Rattle.tfrules_command.specs.Answer.{file_error, linter, refusal_row, too_large, usage_line}
+use Rattle.tfrules_command.specs.Files.{IsFault, IsTooMuch}
 use Rattle.tfrules_command.specs.Keeping.{Added, Reached}
 use Rattle.hcl_source.specs.Devices.{Tells}
 use Rattle.tfrules_command.specs.declared.stop.Stop.{Stop}

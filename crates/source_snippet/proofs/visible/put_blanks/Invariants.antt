@@ -2,4 +2,4 @@ use Rattle.std.proofs.Common.{◌≡◌, ◌++◌, replicate}
 use Rattle.source_snippet.proofs.visible.put_blanks.Given as goal
 
 abbrev pub invariant-loop : goal.invariant-loop
-invariant-loop l = l.text.items ≡ l.initial.text.items ++ replicate l.counter 32
+invariant-loop l = l.snippet.items ≡ l.initial.snippet.items ++ replicate l.counter 32
