@@ -229,12 +229,12 @@ real_at_first files chosen found before after none still = record {
   real = λ f fault c e. absurd (none_in f (subst (λ l. Contains l f) none c));
 }
 
-pub found_real : (files : Files) (chosen : Chosen) (paths : List Name) (first found ordered : List Found) (before mid after : Faults) → AreReal files chosen paths before mid first → Hears first found mid after → Orders found ordered
-    → AreReal files chosen paths before after ordered
-found_real files chosen paths first found ordered before mid after one two o = record {
+pub heard_real : (files : Files) (chosen : Chosen) (paths : List Name) (first found some : List Found) (before mid after : Faults) → AreReal files chosen paths before mid first → Hears first found mid after → ((f : Found) → Contains some f → Contains found f)
+    → AreReal files chosen paths before after some
+heard_real files chosen paths first found some before mid after one two only = record {
   noted = one.noted ++ failures_in two.more;
   is = two.heard ∙ ap (λ f. with_failures f (failures_in two.more)) one.is ∙ more_failures before one.noted (failures_in two.more);
-  real = λ f fault c e. by f fault e (Contains-append_cases first two.more f (subst (λ l. Contains l f) two.found (o.only f c)));
+  real = λ f fault c e. by f fault e (Contains-append_cases first two.more f (subst (λ l. Contains l f) two.found (only f c)));
 }
   where
     first_of : (f : Found) (fault : TreeFault) → Has f fault one.noted ⊎ IsOtherIn files chosen paths f.name.items fault
@@ -246,12 +246,6 @@ found_real files chosen paths first found ordered before mid after one two o = r
         → Has f fault (one.noted ++ failures_in two.more) ⊎ IsOtherIn files chosen paths f.name.items fault
     by f fault e (inl d) = first_of f fault (one.real f fault d e)
     by f fault e (inr d) = inl (Contains-append_right one.noted (failures_in two.more) (failure f.name.items fault) (reported_in two.more f fault d e))
-
--- the same where what judges has this choice
-pub real_chosen : (files : Files) (told chosen : Chosen) (paths : List Name) (first found ordered : List Found) (before mid after : Faults) → told ≡ chosen → AreReal files told paths before mid first
-    → Hears first found mid after → Orders found ordered → AreReal files chosen paths before after ordered
-real_chosen files told chosen paths first found ordered before mid after is one two o =
-    subst (λ (c : Chosen). AreReal files c paths before after ordered) is (found_real files told paths first found ordered before mid after one two o)
 
 -- ---- one folder
 

@@ -27,6 +27,10 @@ with_specials specials chosen = record chosen { specials = specials }
 abbrev pub whole : Chosen
 whole = with_specials true (chosen_by false [])
 
+-- nor is any name that is given
+abbrev pub any : Chosen
+any = with_specials true (chosen_by true [])
+
 abbrev pub chosen : Choice → Chosen
 chosen choice = with_specials choice.specials (chosen_by choice.any_name (map (λ name. name.now) choice.excluded.now))
 

@@ -13,3 +13,4 @@ pub mod Once
 pub mod Ordered
 pub mod Paths
 pub mod Quotes
+pub mod Seen

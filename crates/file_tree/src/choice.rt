@@ -3,7 +3,7 @@
 ghost use Rattle.std.specs.Prelude.{◌≡◌, ◌==◌, ◌&&◌, ◌||◌, IfOk, map};
 ghost use Rattle.std.specs.List.{list_any, slice_split};
 ghost use Rattle.std.specs.Str.{bytes_eq};
-ghost use Rattle.file_tree.specs.Choices.{chosen, has_part, is_at, is_excluded, is_wanted, plain, whole};
+ghost use Rattle.file_tree.specs.Choices.{any, chosen, has_part, is_at, is_excluded, is_wanted, plain, whole};
 ghost use Rattle.file_tree.specs.Inner.Chosen.{told};
 ghost use Rattle.file_tree.specs.Paths.{is_step, top};
 
@@ -31,6 +31,16 @@ impl<'a> Choice<'a> {
             any_name: false,
             specials: true,
             excluded: &[],
+        }
+    }
+
+    /// The same, and a file that is named is taken whatever it is called.
+    pub fn any() -> Choice<'a>
+        ensures { chosen result ≡ any }
+    {
+        Choice {
+            any_name: true,
+            ..Choice::whole()
         }
     }
 }

@@ -6,8 +6,10 @@ ghost use Rattle.file_tree.specs.Files.{Name, Tells};
 ghost use Rattle.file_tree.specs.Finds.{AreReal, Finds};
 ghost use Rattle.file_tree.specs.FolderFiles.{AreHeard, FindsIn};
 ghost use Rattle.file_tree.specs.Inner.Chosen.{told};
+ghost use Rattle.file_tree.specs.Inner.Searching.{AreOrdered, Keeps, LooksInto, Searches, SeesAll, searched};
 ghost use Rattle.file_tree.specs.Inner.Walking.{Adds, Enters, Hears, HearsGiven, TakesAll, TakesAsked, TakesEntry, TakesFolder, TakesGiven, TakesIf, TakesKind, TakesKindGiven, TakesLink, TakesLinked, TakesMet, TakesNamedFile, TakesSpecial, TakesWanted, Walked, reached};
 ghost use Rattle.file_tree.specs.Ordered.{Orders};
+ghost use Rattle.file_tree.specs.Seen.{Sees};
 ghost use Rattle.file_tree.specs.Names.{is_passed_over, is_taken};
 ghost use Rattle.file_tree.specs.Paths.{tidied};
 
@@ -41,6 +43,31 @@ pub struct Found {
 struct Walk {
     found: Vec<Found>,
     folders: Vec<Vec<u8>>,
+}
+
+/// What was found in a folder that was looked into.
+#[derive(PartialEq, Eq, PartialOrd, Ord, Drop)]
+pub struct Looked {
+    /// The name of the folder, with a `/` at its end, or empty for the current one.
+    pub folder: Vec<u8>,
+    /// The files in it that are taken, what stands there under the name of one and is no file, and the names that can't be
+    /// looked at.
+    pub found: Vec<Found>,
+}
+
+/// What names stand for: what was found of the names themselves, and in each folder that was looked into.
+#[derive(Drop)]
+pub struct Seen {
+    pub named: Vec<Found>,
+    pub looked: Vec<Looked>,
+}
+
+/// A walk over folders, each of which is looked into by itself.
+#[derive(Drop)]
+struct Search {
+    /// What was found of the names themselves, and the folders that are still to be looked into.
+    walk: Walk,
+    looked: Vec<Looked>,
 }
 
 /// Whether an entry of this name is looked at, unless it is excluded.
@@ -452,6 +479,44 @@ impl Walk {
         }
         Ok(walk)
     }
+}
+
+impl Search {
+    /// Keeps what was found in a folder, and the folders in it.
+    fn keep(&mut self, folder: Vec<u8>, here: Walk) -> Result<(), AllocError>
+        ensures { OnOk result (Keeps folder.items (reached here) self.old self.new) }
+    {
+        let Walk { found, mut folders } = here;
+        let Ok(()) = self.walk.folders.append(&mut folders) else {
+            return Err(AllocError);
+        };
+        let Ok(()) = self.looked.push(Looked { folder, found }) else {
+            return Err(AllocError);
+        };
+        Ok(())
+    }
+
+    /// Looks into a folder.
+    fn look_into<T: Tree>(
+        &mut self,
+        alloc: Global,
+        chooser: &Chooser<'_>,
+        folder: Vec<u8>,
+        tree: &mut T,
+    ) -> Result<(), AllocError>
+        // Nothing is changed.
+        ensures files { T.files tree.new ≡ T.files tree.old }
+        ensures asked { T.asked tree.new ≡ T.asked tree.old }
+        ensures looks { OnOk result (LooksInto (T.files tree.old) (told chooser.now) folder.items
+            (T.faults tree.old) (T.faults tree.new) self.old self.new) }
+    {
+        let mut here = Walk {
+            found: Vec::new(alloc),
+            folders: Vec::new(alloc),
+        };
+        here.take_folder(alloc, chooser, folder.as_slice(), tree)?;
+        self.keep(folder, here)
+    }
 
     /// Looks into the folders, and those in them, until none is left.
     fn look_into_all<T: Tree>(
@@ -463,20 +528,61 @@ impl Walk {
         // Nothing is changed.
         ensures files { T.files tree.new ≡ T.files tree.old }
         ensures asked { T.asked tree.new ≡ T.asked tree.old }
-        ensures walked { OnOk result ((paths : List Name)
-            → Walked (T.files tree.old) (told chooser.now) paths (reached self.old)
-            → Walked (T.files tree.old) (told chooser.now) paths
-            (record { found = self.new.found.items; folders = [] })) }
-        ensures hears { OnOk result (Hears (reached self.old).found self.new.found.items
-            (T.faults tree.old) (T.faults tree.new)) }
+        ensures searches { OnOk result (Searches (T.files tree.old) (told chooser.now)
+            (T.faults tree.old) (T.faults tree.new) self.old self.new) }
+        ensures none { OnOk result (self.new.walk.folders.items ≡ []) }
     {
         for _ in 0..u64::MAX {
-            let Some(folder) = self.folders.pop() else {
+            let Some(folder) = self.walk.folders.pop() else {
                 return Ok(());
             };
-            self.take_folder(alloc, chooser, folder.as_slice(), tree)?;
+            self.look_into(alloc, chooser, folder, tree)?;
         }
         Err(AllocError)
+    }
+
+    /// All that names stand for.
+    fn of<T: Tree>(
+        alloc: Global,
+        chooser: &Chooser<'_>,
+        operands: &[&[u8]],
+        tree: &mut T,
+    ) -> Result<Search, AllocError>
+        // Nothing is changed.
+        ensures files { T.files tree.new ≡ T.files tree.old }
+        ensures asked { T.asked tree.new ≡ T.asked tree.old }
+        ensures sees { IfOk result (λ search. SeesAll (T.files tree.old) (told chooser.now)
+            (map (λ operand. operand.now) operands.now) (T.faults tree.old) (T.faults tree.new)
+            search) }
+    {
+        let walk = Walk::over(alloc, chooser, operands, tree)?;
+        let mut search = Search {
+            walk,
+            looked: Vec::new(alloc),
+        };
+        search.look_into_all(alloc, chooser, tree)?;
+        Ok(search)
+    }
+
+    /// All that was found.
+    fn all(self) -> Result<Vec<Found>, AllocError>
+        ensures { IfOk result (λ found. found.items ≡ (searched self).found) }
+    {
+        let Search { walk, looked } = self;
+        let Walk {
+            found: mut all,
+            folders: _,
+        } = walk;
+        for one in looked {
+            let Looked {
+                folder: _,
+                mut found,
+            } = one;
+            let Ok(()) = all.append(&mut found) else {
+                return Err(AllocError);
+            };
+        }
+        Ok(all)
     }
 }
 
@@ -509,9 +615,45 @@ pub fn find<T: Tree>(
         found.items) }
 {
     let chooser = Chooser::new(alloc, choice)?;
-    let mut walk = Walk::over(alloc, &chooser, operands, tree)?;
-    walk.look_into_all(alloc, &chooser, tree)?;
-    Ok(in_order(walk.found))
+    let search = Search::of(alloc, &chooser, operands, tree)?;
+    Ok(in_order(search.all()?))
+}
+
+/// The same folders, and in each what was found in the order of the names, each once.
+fn ordered(alloc: Global, looked: Vec<Looked>) -> Result<Vec<Looked>, AllocError>
+    ensures { IfOk result (λ ordered. AreOrdered looked.items ordered.items) }
+{
+    let mut ordered = Vec::new(alloc);
+    for one in looked {
+        let Looked { folder, found } = one;
+        let found = in_order(found);
+        let Ok(()) = ordered.push(Looked { folder, found }) else {
+            return Err(AllocError);
+        };
+    }
+    Ok(ordered)
+}
+
+/// What these names stand for, whatever they are called: what was found of the names themselves, and in each folder that was
+/// looked into. Nothing is excluded.
+pub fn look<T: Tree>(alloc: Global, operands: &[&[u8]], tree: &mut T) -> Result<Seen, AllocError>
+    // Nothing is changed, nor asked to be.
+    ensures files { T.files tree.new ≡ T.files tree.old }
+    ensures asked { T.asked tree.new ≡ T.asked tree.old }
+    // All that the names stand for, and all that stands in the folders.
+    ensures sees { IfOk result (λ seen. Sees (T.files tree.old)
+        (map (λ operand. operand.now) operands.now) (T.faults tree.old) (T.faults tree.new)
+        seen.named.items seen.looked.items) }
+{
+    let chooser = Chooser::new(alloc, Choice::any())?;
+    let search = Search::of(alloc, &chooser, operands, tree)?;
+    let Search { walk, looked } = search;
+    let Walk {
+        found: named,
+        folders: _,
+    } = walk;
+    let looked = ordered(alloc, looked)?;
+    Ok(Seen { named, looked })
 }
 
 /// The files of a folder that are taken, without those in folders below it, what stands there under the name of one and is no

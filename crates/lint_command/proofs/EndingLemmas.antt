@@ -2,19 +2,13 @@
 use Rattle.std.proofs.Common.{◌≡◌, ◌∙◌, ◌++◌, ℕ, [], Bool, true, false, List, Option, ap, append-nil, flat_map, inl, inr, map, refl, subst, sym}
 use Rattle.std.specs.Prelude.{◌⊎◌, ◌||◌, IfOk, Result, Ok, Err, Some, if◌then◌else◌}
 use Rattle.command_line.specs.Rows.{End, Program, Took, TookBy, Writer, write_failed}
-use Rattle.file_tree.specs.Choices.{Chosen}
 use Rattle.file_tree.specs.Files.{Faults, Files, Name}
-use Rattle.file_tree.specs.Finds.{AreReal, Finds}
-use Rattle.file_tree.specs.Ordered.{Orders}
 use Rattle.file_tree.specs.declared.walk.Found.{Found}
 use Rattle.lint_forms.specs.Forms.{form_foot}
 use Rattle.lint_forms.specs.Remarks.{said_by}
 use Rattle.lint_forms.specs.declared.kind.Form.{Form}
 use Rattle.lint_forms.specs.declared.remark.Remark as code
-use Rattle.module_find.specs.Modules.{AreFolders, AreModules, lost_of}
 use Rattle.module_find.specs.declared.module.Module.{Module}
-use Rattle.tree_words.specs.Shards.{picked_of}
-use Rattle.tree_words.specs.declared.shard.Shard.{Shard}
 use Rattle.tree_lint.specs.Faults.{fault_lines, refusal_in}
 use Rattle.tree_lint.specs.Kept.{KeepsAll, kept_remark}
 use Rattle.tree_lint.specs.declared.kept.Kept.{Kept}
@@ -33,24 +27,9 @@ use Rattle.module_config.specs.Words.{configured_words}
 use Rattle.module_config.specs.declared.configure.Configured.{Configured}
 use Rattle.lint_command.specs.Line as Line
 use Rattle.lint_command.specs.Asked.{job_of}
-use Rattle.lint_command.specs.Ends.{Collects, EndsLost, EndsWhole, IsFoot, LintsCollected, LintsModules, LintsOr, RunsThen, Then, any_file, fault_status, head_of, is_cut, last_words, refused_remarks, summary}
+use Rattle.lint_command.specs.Ends.{Collects, EndsLost, EndsWhole, IsFoot, LintsCollected, LintsModules, LintsOr, RunsThen, Then, fault_status, head_of, is_cut, last_words, refused_remarks, summary}
 use Rattle.lint_command.specs.Inner.Closing.{Closes, last_status}
 use Rattle.lint_command.specs.declared.options.Job.{Job}
-
-pub collects : (files later : Files) (choice : Chosen) (shard : Option Shard) (paths : List Name) (was walked is : Faults) (found folders picked left kept told all : List Found) (modules : List Module) → later ≡ files → choice ≡ any_file → Finds files choice paths found
-    → AreReal files choice paths was walked found → AreFolders found folders → picked ≡ picked_of shard folders → AreModules later picked modules told walked is → left ≡ flat_map lost_of found → kept ≡ picked_of shard left → Orders (kept ++ told) all
-    → Collects files shard paths was is modules all
-collects files later choice shard paths was walked is found folders picked left kept told all modules same any finds real stand pick are of' keep together = record {
-  found = found;
-  walked = walked;
-  finds = subst (λ c. Finds files c paths found) any finds;
-  real = subst (λ c. AreReal files c paths was walked found) any real;
-  folders = folders;
-  stand = stand;
-  told = told;
-  are = subst (λ l. AreModules files l modules told walked is) pick (subst (λ f. AreModules f picked modules told walked is) same are);
-  all = subst (λ l. Orders (l ++ told) all) (keep ∙ ap (picked_of shard) of') together;
-}
 
 -- ---- the end of a run
 

@@ -1,3 +1,4 @@
+mod CollectLemmas
 mod EndingLemmas
 mod LineLemmas
 mod UsageLemmas

@@ -2,16 +2,15 @@
 use Rattle.std.specs.Prelude.{◌≡◌, ◌⊎◌, ◌==◌, ◌&&◌, ◌||◌, ℕ, Bool, true, false, List, [], ◌∷◌, ◌++◌, Option, Some, None, Result, Ok, Err, codes, flat_map, is_some, map, nat_lt, unwrap_or, if◌then◌else◌}
 use Rattle.clap.specs.Words.{Text, first_of, matches_of}
 use Rattle.command_line.specs.Rows.{End, Row, Shows, TookBy, Writer, error_line, fails_with, message_row, out_of_memory, output_row, write_failed}
-use Rattle.file_tree.specs.Choices.{Chosen, chosen_by, with_specials}
 use Rattle.file_tree.specs.Files.{Faults, Files, Name, Tells}
-use Rattle.file_tree.specs.Finds.{AreReal, Finds}
-use Rattle.file_tree.specs.Ordered.{Orders}
 use Rattle.file_tree.specs.Quotes.{in_quotes}
+use Rattle.file_tree.specs.Seen.{Sees, all_found}
 use Rattle.file_tree.specs.declared.walk.Found.{Found}
+use Rattle.file_tree.specs.declared.walk.Looked.{Looked}
 use Rattle.lint_forms.specs.Forms.{form_foot, form_head}
 use Rattle.lint_forms.specs.Remarks.{Remark}
 use Rattle.lint_forms.specs.declared.kind.Form.{Form}
-use Rattle.module_find.specs.Modules.{AreFolders, AreModules, lost_of}
+use Rattle.module_find.specs.Modules.{AreFolders, AreModules, AreTold, lost_of}
 use Rattle.module_config.specs.Configs.{Configures}
 use Rattle.module_config.specs.Refusals.{configured_refusals}
 use Rattle.module_config.specs.Words.{configured_words, unlinted_line}
@@ -41,22 +40,18 @@ use Rattle.lint_command.specs.declared.usage.Usage.TheVariants.{Help, Version, L
 
 -- ---- what is linted
 
--- a file stands for its folder, whatever it is called, and so does what is no file under the name of one
-abbrev pub any_file : Chosen
-any_file = with_specials true (chosen_by true [])
-
 -- the modules of what these paths stand for, as far as they are of the part, and what can't be looked at: each is told since a call
 -- of the device failed, or for its name
 pub record Collects (files : Files) (shard : Option Shard) (paths : List Name) (was is : Faults) (modules : List Module) (faults : List Found) : Type 0 where
-  pub found : List Found
+  pub named : List Found  -- what was found of the paths themselves
+  pub looked : List Looked  -- what was found in each folder of the walk
   pub walked : Faults  -- those of calls up to the end of the walk
-  pub finds : Finds files any_file paths found
-  pub real : AreReal files any_file paths was walked found
+  pub sees : Sees files paths was walked named looked
   pub folders : List Found
-  pub stand : AreFolders found folders
+  pub stand : AreFolders (all_found named looked) folders
   pub told : List Found  -- what is told of their folders
-  pub are : AreModules files (picked_of shard folders) modules told walked is
-  pub all : Orders (picked_of shard (flat_map lost_of found) ++ told) faults
+  pub are : AreModules files looked (picked_of shard folders) modules told walked is
+  pub all : AreTold (picked_of shard (flat_map lost_of (all_found named looked)) ++ told) faults
 
 -- ---- what is said
 

@@ -2,12 +2,10 @@
 
 ghost use Rattle.std.specs.Prelude.{◌≡◌, ◌++◌, IfOk, map};
 ghost use Rattle.file_tree.specs.Ordered.{Orders};
-ghost use Rattle.file_tree.specs.Choices.{chosen};
-ghost use Rattle.lint_command.specs.Ends.{Collects, any_file};
+ghost use Rattle.lint_command.specs.Ends.{Collects};
 
-use file_tree::choice::Choice;
 use file_tree::tree::Tree;
-use file_tree::walk::{Found, find, in_order};
+use file_tree::walk::{Found, Seen, in_order, look};
 use module_find::modules::modules_of;
 use module_find::{Module, faults_of, folders_of};
 use std::alloc::{AllocError, Global};
@@ -19,17 +17,6 @@ use tree_words::shard::Shard;
 pub(crate) struct Collected {
     pub modules: Vec<Module>,
     pub faults: Vec<Found>,
-}
-
-/// A file stands for its folder, whatever it is called.
-fn any_file<'a>() -> Choice<'a>
-    ensures { chosen result ≡ any_file }
-{
-    Choice {
-        any_name: true,
-        specials: true,
-        excluded: &[],
-    }
 }
 
 /// These and those, in the order of their names, each once.
@@ -56,13 +43,17 @@ pub(crate) fn collect<T: Tree>(
         (map (λ operand. operand.now) operands.now) (T.faults tree.old) (T.faults tree.new)
         c.modules.items c.faults.items) }
 {
-    let found = find(alloc, any_file(), operands, tree)?;
-    let folders = folders_of(alloc, found.as_slice())?;
-    let folders = pick(alloc, folders, shard)?;
-    let faults = pick(alloc, faults_of(alloc, found)?, shard)?;
-    let all = modules_of(alloc, folders, tree)?;
+    let seen = look(alloc, operands, tree)?;
+    let Seen { named, looked } = seen;
+    let stand = folders_of(alloc, named.as_slice(), looked.as_slice())?;
+    let folders = pick(alloc, stand, shard)?;
+    let lost = faults_of(alloc, named.as_slice(), looked.as_slice())?;
+    let faults = pick(alloc, lost, shard)?;
+    drop(named);
+    let all = modules_of(alloc, folders, looked, tree)?;
+    let faults = together(faults, all.faults)?;
     Ok(Collected {
         modules: all.modules,
-        faults: together(faults, all.faults)?,
+        faults,
     })
 }

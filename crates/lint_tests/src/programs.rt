@@ -13,7 +13,7 @@ use tree_lint::module_tree::ModuleTree;
 use tree_lint::written::Terminals;
 
 /// How many calls a run over `a` and `other` makes of a tree.
-const FAILING_CALLS: u64 = 40;
+const FAILING_CALLS: u64 = 29;
 
 /// Words of a line.
 pub(crate) type Words = &'static [&'static [u8]];

@@ -1,15 +1,16 @@
 -- Which folders are modules, and which files are those of a module. Our own choice.
-use Rattle.std.specs.Prelude.{◌≡◌, ◌==◌, ◌||◌, ◌&&◌, ◌-◌, not, Bool, true, false, List, [], ◌∷◌, ◌++◌, Option, Some, None, codes, flat_map, length, map, string_bytes, take, if◌then◌else◌}
+use Rattle.std.specs.Prelude.{◌≡◌, ◌⊎◌, ◌==◌, ◌||◌, ◌&&◌, ◌-◌, not, Bool, true, false, List, [], ◌∷◌, ◌++◌, Option, Some, None, codes, flat_map, length, map, string_bytes, take, if◌then◌else◌}
 use Rattle.std.specs.List.{Contains, list_all, suffix_len}
 use Rattle.std.specs.Str.{is_utf8}
 use Rattle.file_tree.specs.Files.{Faults, Files, Name}
-use Rattle.file_tree.specs.Ordered.{Rises}
+use Rattle.file_tree.specs.Ordered.{HasName, Rises}
 use Rattle.file_tree.specs.FolderFiles.{AreHeard, FindsIn}
 use Rattle.file_tree.specs.Names.{ends, is_taken}
 use Rattle.file_tree.specs.declared.fault.TreeFault.{TreeFault}
 use Rattle.file_tree.specs.declared.fault.TreeFault.TheVariants.{DeadLink, Missing, NotAFile, NotUtf8}
 use Rattle.file_tree.specs.declared.walk.Found.{Found}
 use Rattle.file_tree.specs.declared.walk.FoundFile.{FoundFile}
+use Rattle.file_tree.specs.declared.walk.Looked.{Looked}
 use Rattle.module_find.specs.declared.module.Module.{Module}
 
 -- a file of this name is one of a module
@@ -48,6 +49,16 @@ abbrev pub AreFolders : List Found → List Found → Type 0
 AreFolders found folders = Rises folders × AreFoldersOf found folders
 
 -- ---- what is told
+
+-- a name, and why it can't be looked at
+abbrev pub told_as : Found → Name × Option TreeFault
+told_as f = (f.name.items, f.fault)
+
+-- these are told, each once, in the order of their names
+pub record AreTold (lost told : List Found) : Type 0 where
+  pub rises : Rises told
+  pub only : (f : Found) → Contains told f → (g : Found) × Contains lost g × (told_as g ≡ told_as f)
+  pub all : (name : Name) → HasName lost name → HasName told name
 
 abbrev pub is_missing : TreeFault → Bool
 is_missing Missing = true
@@ -127,16 +138,22 @@ pub record IsModuleOf (name : Name) (found : List Found) (m : Module) (told : Li
   pub folder : m.folder.items ≡ name
   pub files : map string_bytes m.files.items ≡ flat_map file_in found
   pub whole : m.is_whole ≡ list_all is_sound found
-  pub lost : told ≡ flat_map told_in found
+  pub lost : map told_as told ≡ map told_as (flat_map told_in found)
 
--- A MODULE has what stands in its folder, where the device has had these faults before and after it was looked into
-abbrev pub IsModule : Files → Name → Module → List Found → Faults → Faults → Type 0
-IsModule files folder m told was is = (found : List Found) × FindsIn files folder found × AreHeard was is found × IsModuleOf folder found m told
+-- what stands in a folder: it was looked into before, or it is now, where the device has had these faults before and after
+abbrev pub StandsIn : Files → List Looked → Name → List Found → Faults → Faults → Type 0
+StandsIn files looked folder found was is =
+    ((is ≡ was) × ((l : Looked) × Contains looked l × (l.folder.items ≡ folder) × (l.found.items ≡ found)))
+    ⊎ (FindsIn files folder found × AreHeard was is found)
+
+-- A MODULE has what stands in its folder
+abbrev pub IsModule : Files → List Looked → Name → Module → List Found → Faults → Faults → Type 0
+IsModule files looked folder m told was is = (found : List Found) × StandsIn files looked folder found was is × IsModuleOf folder found m told
 
 -- THE MODULES of folders, and all that is told of these
-abbrev pub AreModules : Files → List Found → List Module → List Found → Faults → Faults → Type 0
-AreModules files [] [] told was is = (told ≡ []) × (is ≡ was)
-AreModules files [] (m ∷ ms) told was is = ⊥
-AreModules files (d ∷ ds) [] told was is = ⊥
-AreModules files (d ∷ ds) (m ∷ ms) told was is =
-    (here rest : List Found) × (between : Faults) × (told ≡ here ++ rest) × IsModule files d.name.items m here was between × AreModules files ds ms rest between is
+abbrev pub AreModules : Files → List Looked → List Found → List Module → List Found → Faults → Faults → Type 0
+AreModules files looked [] [] told was is = (told ≡ []) × (is ≡ was)
+AreModules files looked [] (m ∷ ms) told was is = ⊥
+AreModules files looked (d ∷ ds) [] told was is = ⊥
+AreModules files looked (d ∷ ds) (m ∷ ms) told was is =
+    (here rest : List Found) × (between : Faults) × (told ≡ here ++ rest) × IsModule files looked d.name.items m here was between × AreModules files looked ds ms rest between is

@@ -1,13 +1,16 @@
 //! Which folders are modules.
 
-ghost use Rattle.std.specs.Prelude.{◌≡◌, ◌++◌, ◌∷◌, [], IfOk, OnOk, flat_map};
+ghost use Rattle.std.specs.Prelude.{◌≡◌, ◌++◌, ◌∷◌, [], IfOk, IsTrue, List, OnOk, flat_map, map};
+ghost use Rattle.file_tree.specs.Ordered.{HasName};
+ghost use Rattle.file_tree.specs.Seen.{all_found};
+ghost use Rattle.file_tree.specs.declared.walk.Found.{Found};
 ghost use Rattle.module_find.specs.Inner.Adding.{AddsFolder};
-ghost use Rattle.module_find.specs.Modules.{AreFolders, AreFoldersOf, is_gone_by, lost_of, stands};
+ghost use Rattle.module_find.specs.Modules.{AreFolders, AreFoldersOf, is_gone_by, lost_of, stands, told_as};
 
 use crate::lost::{is_lost, is_missing};
 use crate::names::{folder_of, is_module_file, is_of_module};
 use file_tree::path::joined;
-use file_tree::walk::{Found, in_order};
+use file_tree::walk::{Found, Looked, in_order};
 use std::alloc::{AllocError, Global};
 
 /// Whether a name stands for its folder: one that was found, and one that says something of a module and can't be looked at.
@@ -29,7 +32,17 @@ fn keep(found: Found, kept: &mut Vec<Found>) -> Result<(), AllocError>
     }
 }
 
-/// Adds the folder of what was found, if it stands for it.
+/// Whether the last of these has this name.
+fn is_last(folders: &[Found], name: &[u8]) -> bool
+    ensures { IsTrue result → HasName folders.now name.now }
+{
+    match folders.last() {
+        Some(last) => last.name.as_slice() == name,
+        None => false,
+    }
+}
+
+/// Adds the folder of what was found, if it stands for it, unless that was added last.
 fn add_folder(alloc: Global, found: &Found, folders: &mut Vec<Found>) -> Result<(), AllocError>
     ensures { OnOk result (AddsFolder (stands found.now) found.now
         folders.old.items folders.new.items) }
@@ -37,7 +50,11 @@ fn add_folder(alloc: Global, found: &Found, folders: &mut Vec<Found>) -> Result<
     if !stands(found) {
         return Ok(());
     }
-    let name = joined(alloc, folder_of(found.name.as_slice()), b"")?;
+    let folder = folder_of(found.name.as_slice());
+    if is_last(folders.as_slice(), folder) {
+        return Ok(());
+    }
+    let name = joined(alloc, folder, b"")?;
     let folder = Found {
         name,
         fault: None,
@@ -46,22 +63,40 @@ fn add_folder(alloc: Global, found: &Found, folders: &mut Vec<Found>) -> Result<
     keep(folder, folders)
 }
 
-/// The folders for which names stand, as often as they do.
-fn all_folders(alloc: Global, found: &[Found]) -> Result<Vec<Found>, AllocError>
-    ensures { IfOk result (λ folders. AreFoldersOf found.now folders.items) }
+/// Adds the folders for which names stand to those of others.
+fn add_folders(alloc: Global, found: &[Found], folders: &mut Vec<Found>) -> Result<(), AllocError>
+    ensures { OnOk result ((before : List Found) → AreFoldersOf before folders.old.items
+        → AreFoldersOf (before ++ found.now) folders.new.items) }
+{
+    for each in found {
+        add_folder(alloc, each, folders)?;
+    }
+    Ok(())
+}
+
+/// The folders for which names stand, some of them more than once.
+fn all_folders(alloc: Global, named: &[Found], looked: &[Looked]) -> Result<Vec<Found>, AllocError>
+    ensures { IfOk result (λ folders. AreFoldersOf (all_found named.now looked.now)
+        folders.items) }
 {
     let mut folders = Vec::new(alloc);
-    for each in found {
-        add_folder(alloc, each, &mut folders)?;
+    add_folders(alloc, named, &mut folders)?;
+    for one in looked {
+        add_folders(alloc, one.found.as_slice(), &mut folders)?;
     }
     Ok(folders)
 }
 
 /// The folders for which the names stand that were found, in the order of their names, each once.
-pub fn folders_of(alloc: Global, found: &[Found]) -> Result<Vec<Found>, AllocError>
-    ensures { IfOk result (λ folders. AreFolders found.now folders.items) }
+pub fn folders_of(
+    alloc: Global,
+    named: &[Found],
+    looked: &[Looked],
+) -> Result<Vec<Found>, AllocError>
+    ensures { IfOk result (λ folders. AreFolders (all_found named.now looked.now)
+        folders.items) }
 {
-    let folders = all_folders(alloc, found)?;
+    let folders = all_folders(alloc, named, looked)?;
     Ok(in_order(folders))
 }
 
@@ -75,23 +110,54 @@ fn is_gone(found: &Found) -> bool
     }
 }
 
-/// Keeps what is told.
-fn keep_fault(found: Found, kept: &mut Vec<Found>) -> Result<(), AllocError>
-    ensures { OnOk result (kept.new.items ≡ kept.old.items ++ lost_of found) }
+/// The same name with its fault.
+pub(crate) fn copy_of(alloc: Global, found: &Found) -> Result<Found, AllocError>
+    ensures { IfOk result (λ copy. told_as copy ≡ told_as found.now) }
 {
-    if is_lost(&found) && !is_gone(&found) {
-        return keep(found, kept);
+    let name = joined(alloc, found.name.as_slice(), b"")?;
+    Ok(Found {
+        name,
+        fault: found.fault,
+        file: found.file,
+    })
+}
+
+/// Adds what is told.
+fn add_fault(alloc: Global, found: &Found, faults: &mut Vec<Found>) -> Result<(), AllocError>
+    ensures { OnOk result (map told_as faults.new.items
+        ≡ map told_as faults.old.items ++ map told_as (lost_of found.now)) }
+{
+    if !is_lost(found) || is_gone(found) {
+        return Ok(());
+    }
+    let copy = copy_of(alloc, found)?;
+    keep(copy, faults)
+}
+
+/// Adds what is told of these.
+fn add_faults(alloc: Global, found: &[Found], faults: &mut Vec<Found>) -> Result<(), AllocError>
+    ensures { OnOk result (map told_as faults.new.items
+        ≡ map told_as faults.old.items ++ map told_as (flat_map lost_of found.now)) }
+{
+    for each in found {
+        add_fault(alloc, each, faults)?;
     }
     Ok(())
 }
 
 /// What of the names that were found can't be looked at and is told: of a file that was deleted its folder tells.
-pub fn faults_of(alloc: Global, found: Vec<Found>) -> Result<Vec<Found>, AllocError>
-    ensures { IfOk result (λ faults. faults.items ≡ flat_map lost_of found.items) }
+pub fn faults_of(
+    alloc: Global,
+    named: &[Found],
+    looked: &[Looked],
+) -> Result<Vec<Found>, AllocError>
+    ensures { IfOk result (λ faults. map told_as faults.items
+        ≡ map told_as (flat_map lost_of (all_found named.now looked.now))) }
 {
     let mut faults = Vec::new(alloc);
-    for each in found {
-        keep_fault(each, &mut faults)?;
+    add_faults(alloc, named, &mut faults)?;
+    for one in looked {
+        add_faults(alloc, one.found.as_slice(), &mut faults)?;
     }
     Ok(faults)
 }

@@ -1,16 +1,19 @@
 //! The modules of folders.
 
-ghost use Rattle.std.specs.Prelude.{◌≡◌, ◌++◌, ◌∷◌, [], None, Some, IfOk, OnOk, map, string_bytes, true};
+ghost use Rattle.std.specs.Prelude.{◌≡◌, ◌&&◌, ◌++◌, ◌∷◌, [], None, Some, IfOk, IfSome, OnOk, map, string_bytes, true};
+ghost use Rattle.std.specs.List.{Contains};
 ghost use Rattle.std.specs.Str.{is_utf8};
-ghost use Rattle.module_find.specs.Inner.Adding.{AddsModule, TakesFound};
-ghost use Rattle.module_find.specs.Modules.{AreModules, IsModule, IsModuleOf, fault_by, is_module_file, lost_in};
+ghost use Rattle.file_tree.specs.declared.walk.Looked.{Looked};
+ghost use Rattle.module_find.specs.Inner.Adding.{AddsModule, TakesFound, told_by};
+ghost use Rattle.module_find.specs.Modules.{AreModules, IsModule, IsModuleOf, fault_by, is_module_file, told_as};
 
+use crate::folders::copy_of;
 use crate::lost::is_lost;
 use crate::module::Module;
 use crate::names::{is_module_file, is_of_module};
 use file_tree::fault::TreeFault;
 use file_tree::tree::Tree;
-use file_tree::walk::{Found, find_in};
+use file_tree::walk::{Found, Looked, find_in};
 use std::alloc::{AllocError, Global};
 
 /// Whether a name is UTF-8.
@@ -23,6 +26,12 @@ fn is_text(name: &[u8]) -> bool
     }
 }
 
+fn both(one: bool, other: bool) -> bool
+    ensures { result ≡ (one && other) }
+{
+    one && other
+}
+
 /// The module of a folder, and what is told of the folder.
 #[derive(Drop)]
 struct Sorted {
@@ -31,19 +40,21 @@ struct Sorted {
 }
 
 impl Sorted {
-    /// Adds what can't be linted, if that is told.
-    fn tell(&mut self, found: Found) -> Result<(), AllocError>
-        ensures faults { OnOk result (self.new.faults.items
-            ≡ self.old.faults.items ++ lost_in found) }
+    /// Tells what can't be linted, for this reason, if that is told.
+    fn tell(&mut self, alloc: Global, found: &Found, fault: TreeFault) -> Result<(), AllocError>
+        ensures faults { OnOk result (map told_as self.new.faults.items
+            ≡ map told_as self.old.faults.items ++ told_by (found.now.name.items, Some fault)) }
         ensures module { self.new.module ≡ self.old.module }
     {
-        if !is_lost(&found) {
+        let mut copy = copy_of(alloc, found)?;
+        copy.fault = Some(fault);
+        if !is_lost(&copy) {
             return Ok(());
         }
-        match self.faults.push(found) {
-            Ok(()) => Ok(()),
-            Err(_) => Err(AllocError),
-        }
+        let Ok(()) = self.faults.push(copy) else {
+            return Err(AllocError);
+        };
+        Ok(())
     }
 
     /// Adds a file of this name, which is UTF-8.
@@ -63,40 +74,41 @@ impl Sorted {
     }
 
     /// Takes what was found of a folder and can't be linted, for this reason.
-    fn take_fault(&mut self, found: Found, fault: TreeFault) -> Result<(), AllocError>
-        requires why { fault_by found.fault found.file found.name.items ≡ Some fault }
-        ensures { OnOk result (TakesFound found self.old self.new) }
+    fn take_fault(
+        &mut self,
+        alloc: Global,
+        found: &Found,
+        fault: TreeFault,
+    ) -> Result<(), AllocError>
+        requires why { fault_by found.now.fault found.now.file found.now.name.items ≡ Some fault }
+        ensures { OnOk result (TakesFound found.now self.old self.new) }
     {
         let is_sound = !is_of_module(found.name.as_slice());
-        self.module.is_whole = self.module.is_whole && is_sound;
-        self.tell(Found {
-            name: found.name,
-            fault: Some(fault),
-            file: found.file,
-        })
+        self.module.is_whole = both(self.module.is_whole, is_sound);
+        self.tell(alloc, found, fault)
     }
 
     /// Takes what was found of a folder and has the name of a file of a module.
-    fn take_file(&mut self, alloc: Global, found: Found) -> Result<(), AllocError>
-        requires good { found.fault ≡ None }
-        requires named { is_module_file found.name.items ≡ true }
-        ensures { OnOk result (TakesFound found self.old self.new) }
+    fn take_file(&mut self, alloc: Global, found: &Found) -> Result<(), AllocError>
+        requires good { found.now.fault ≡ None }
+        requires named { is_module_file found.now.name.items ≡ true }
+        ensures { OnOk result (TakesFound found.now self.old self.new) }
     {
         if found.file.is_none() {
-            return self.take_fault(found, TreeFault::NotAFile);
+            return self.take_fault(alloc, found, TreeFault::NotAFile);
         }
         if is_text(found.name.as_slice()) {
             return self.add_file(alloc, found.name.as_slice());
         }
-        self.take_fault(found, TreeFault::NotUtf8)
+        self.take_fault(alloc, found, TreeFault::NotUtf8)
     }
 
     /// Takes what was found of a folder.
-    fn take(&mut self, alloc: Global, found: Found) -> Result<(), AllocError>
-        ensures { OnOk result (TakesFound found self.old self.new) }
+    fn take(&mut self, alloc: Global, found: &Found) -> Result<(), AllocError>
+        ensures { OnOk result (TakesFound found.now self.old self.new) }
     {
         if let Some(fault) = found.fault {
-            return self.take_fault(found, fault);
+            return self.take_fault(alloc, found, fault);
         }
         if is_module_file(found.name.as_slice()) {
             return self.take_file(alloc, found);
@@ -106,8 +118,8 @@ impl Sorted {
 }
 
 /// The module of a folder in which this was found.
-fn module_of(alloc: Global, folder: Vec<u8>, found: Vec<Found>) -> Result<Sorted, AllocError>
-    ensures { IfOk result (λ s. IsModuleOf folder.items found.items s.module s.faults.items) }
+fn module_of(alloc: Global, folder: Vec<u8>, found: &[Found]) -> Result<Sorted, AllocError>
+    ensures { IfOk result (λ s. IsModuleOf folder.items found.now s.module s.faults.items) }
 {
     let mut taken = Sorted {
         module: Module {
@@ -123,15 +135,39 @@ fn module_of(alloc: Global, folder: Vec<u8>, found: Vec<Found>) -> Result<Sorted
     Ok(taken)
 }
 
-/// The module of a folder.
-fn module_in<T: Tree>(alloc: Global, folder: Vec<u8>, tree: &mut T) -> Result<Sorted, AllocError>
+/// What was found in a folder, if it is one of these, which are in the order of their names.
+fn found_in<'l>(looked: &'l [Looked], folder: &[u8]) -> Option<&'l [Found]>
+    ensures { IfSome result (λ found. (l : Looked) × Contains looked.entry.now l
+        × (l.folder.items ≡ folder.now) × (l.found.items ≡ found.now)) }
+{
+    let Ok(number) = looked.binary_search_by(|one| one.folder.as_slice().cmp(folder)) else {
+        return None;
+    };
+    let one = looked.get(number)?;
+    if one.folder.as_slice() == folder {
+        Some(one.found.as_slice())
+    } else {
+        None
+    }
+}
+
+/// The module of a folder, which is looked into unless it was before.
+fn module_in<T: Tree>(
+    alloc: Global,
+    folder: Vec<u8>,
+    looked: &[Looked],
+    tree: &mut T,
+) -> Result<Sorted, AllocError>
     ensures files { T.files tree.new ≡ T.files tree.old }
     ensures asked { T.asked tree.new ≡ T.asked tree.old }
-    ensures is { IfOk result (λ s. IsModule (T.files tree.old) folder.items s.module
+    ensures is { IfOk result (λ s. IsModule (T.files tree.old) looked.now folder.items s.module
         s.faults.items (T.faults tree.old) (T.faults tree.new)) }
 {
+    if let Some(found) = found_in(looked, folder.as_slice()) {
+        return module_of(alloc, folder, found);
+    }
     let found = find_in(alloc, folder.as_slice(), tree)?;
-    module_of(alloc, folder, found)
+    module_of(alloc, folder, found.as_slice())
 }
 
 /// Modules, and what is told of their folders.
@@ -143,13 +179,19 @@ pub struct Modules {
 
 impl Modules {
     /// Adds the module of a folder.
-    fn add<T: Tree>(&mut self, alloc: Global, folder: Found, tree: &mut T) -> Result<(), AllocError>
+    fn add<T: Tree>(
+        &mut self,
+        alloc: Global,
+        folder: Found,
+        looked: &[Looked],
+        tree: &mut T,
+    ) -> Result<(), AllocError>
         ensures files { T.files tree.new ≡ T.files tree.old }
         ensures asked { T.asked tree.new ≡ T.asked tree.old }
-        ensures adds { OnOk result (AddsModule (T.files tree.old) folder.name.items
+        ensures adds { OnOk result (AddsModule (T.files tree.old) looked.now folder.name.items
             self.old self.new (T.faults tree.old) (T.faults tree.new)) }
     {
-        let Sorted { module, mut faults } = module_in(alloc, folder.name, tree)?;
+        let Sorted { module, mut faults } = module_in(alloc, folder.name, looked, tree)?;
         let Ok(()) = self.modules.push(module) else {
             return Err(AllocError);
         };
@@ -161,24 +203,27 @@ impl Modules {
 }
 
 /// The modules of folders, in their order, and what is told of these: each name that can't be looked at or linted, and why.
+/// A folder that was looked into isn't listed again.
 pub fn modules_of<T: Tree>(
     alloc: Global,
     folders: Vec<Found>,
+    mut looked: Vec<Looked>,
     tree: &mut T,
 ) -> Result<Modules, AllocError>
     // Nothing is changed, nor asked to be.
     ensures files { T.files tree.new ≡ T.files tree.old }
     ensures asked { T.asked tree.new ≡ T.asked tree.old }
     // Where the device tells the faults of its calls, each that is told is one of these, or that of a name.
-    ensures are { IfOk result (λ all. AreModules (T.files tree.old) folders.items
+    ensures are { IfOk result (λ all. AreModules (T.files tree.old) looked.items folders.items
         all.modules.items all.faults.items (T.faults tree.old) (T.faults tree.new)) }
 {
     let mut all = Modules {
         modules: Vec::new(alloc),
         faults: Vec::new(alloc),
     };
+    looked.sort_unstable();
     for folder in folders {
-        all.add(alloc, folder, tree)?;
+        all.add(alloc, folder, looked.as_slice(), tree)?;
     }
     Ok(all)
 }
