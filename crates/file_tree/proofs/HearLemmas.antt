@@ -247,6 +247,12 @@ heard_real files chosen paths first found some before mid after one two only = r
     by f fault e (inl d) = first_of f fault (one.real f fault d e)
     by f fault e (inr d) = inl (Contains-append_right one.noted (failures_in two.more) (failure f.name.items fault) (reported_in two.more f fault d e))
 
+-- the same where what judges has this choice
+pub real_chosen : (files : Files) (told chosen : Chosen) (paths : List Name) (first found ordered : List Found) (before mid after : Faults) → told ≡ chosen → AreReal files told paths before mid first
+    → Hears first found mid after → Orders found ordered → AreReal files chosen paths before after ordered
+real_chosen files told chosen paths first found ordered before mid after is one two o =
+    subst (λ (c : Chosen). AreReal files c paths before after ordered) is (heard_real files told paths first found ordered before mid after one two o.only)
+
 -- ---- one folder
 
 pub folder_heard : (old found ordered : List Found) (before after : Faults) → old ≡ [] → Hears old found before after → Orders found ordered → AreHeard before after ordered

@@ -11,7 +11,7 @@ use Rattle.file_tree.specs.FolderFiles.{FindsIn}
 use Rattle.file_tree.specs.Names.{is_taken}
 use Rattle.file_tree.specs.Paths.{place}
 use Rattle.file_tree.specs.Inner.Searching.{AreLooks, AreOrdered, IsLook, Keeps, LooksInto, Searches, SeesAll, nothing, searched}
-use Rattle.file_tree.specs.Inner.Walking.{Adds, Enters, Hears, Reached, TakesAll, TakesEntry, TakesFolder, TakesIf, TakesKind, TakesLink, TakesLinked, TakesSpecial, Walked, failures_in, reached}
+use Rattle.file_tree.specs.Inner.Walking.{Adds, Enters, Hears, Reached, TakesAll, TakesEntry, TakesFolder, TakesIf, TakesKind, TakesLink, TakesLinked, TakesSpecial, Walked, reached}
 use Rattle.file_tree.specs.Ordered.{IsFound, Orders}
 use Rattle.file_tree.specs.Seen.{Sees, all_found}
 use Rattle.file_tree.specs.declared.fault.TreeFault.{TreeFault}
@@ -163,15 +163,6 @@ sees_all files later chosen paths was mid is walk first last same begins none wa
 
 -- ---- in order
 
-pub finds_all : (files : Files) (told chosen : Chosen) (paths : List Name) (was is : Faults) (s : Search) (found ordered : List Found) → told ≡ chosen → SeesAll files told paths was is s → found ≡ (searched s).found → Orders found ordered → Finds files chosen paths ordered
-finds_all files told chosen paths was is s found ordered same sees all o =
-    subst (λ (c : Chosen). Finds files c paths ordered) same (finds_from files told paths (searched s).found ordered sees.walked (subst (λ l. Orders l ordered) all o))
-
-pub real_all : (files : Files) (told chosen : Chosen) (paths : List Name) (was is : Faults) (s : Search) (found ordered : List Found) → told ≡ chosen → SeesAll files told paths was is s → found ≡ (searched s).found → Orders found ordered → AreReal files chosen paths was is ordered
-real_all files told chosen paths was is s found ordered same sees all o =
-    subst (λ (c : Chosen). AreReal files c paths was is ordered) same
-    (record { noted = sees.real.noted; is = sees.real.is; real = λ f fault c e. sees.real.real f fault (subst (λ l. Contains l f) all (o.only f c)) e })
-
 -- what stands in a folder is the same for each choice by which nothing is excluded
 whole_all : (files : Files) (folder : Name) (names : List Name) (old new : Reached) → TakesAll files any folder names old new → TakesAll files whole folder names old new
 whole_all files folder [] old new h = h
@@ -274,7 +265,7 @@ ordered_each files (l ∷ ls) (p ∷ os) so looks o c = by (λ d. ordered_each f
 
 pub sees_any : (files : Files) (told : Chosen) (paths : List Name) (was is : Faults) (s : Search) (ordered : List Looked) → told ≡ any → SeesAll files told paths was is s → AreOrdered s.looked.items ordered → Sees files paths was is s.walk.found.items ordered
 sees_any files told paths was is s ordered same sees so = record {
-  finds = λ found o. finds_all files told any paths was is s (searched s).found found same sees refl (orders_all s.walk.found.items s.looked.items ordered found so o);
+  finds = λ found o. subst (λ (c : Chosen). Finds files c paths found) same (finds_from files told paths (searched s).found found sees.walked (orders_all s.walk.found.items s.looked.items ordered found so o));
   real = subst (λ (c : Chosen). AreReal files c paths was is (all_found s.walk.found.items ordered)) same
       (record { noted = sees.real.noted; is = sees.real.is; real = λ f fault c e. sees.real.real f fault (all_only s.walk.found.items s.looked.items ordered so f c) e });
   each = ordered_each files s.looked.items ordered so (subst (λ (x : Chosen). AreLooks files x s.looked.items) same sees.looks);

@@ -6,7 +6,7 @@ ghost use Rattle.file_tree.specs.Files.{Name, Tells};
 ghost use Rattle.file_tree.specs.Finds.{AreReal, Finds};
 ghost use Rattle.file_tree.specs.FolderFiles.{AreHeard, FindsIn};
 ghost use Rattle.file_tree.specs.Inner.Chosen.{told};
-ghost use Rattle.file_tree.specs.Inner.Searching.{AreOrdered, Keeps, LooksInto, Searches, SeesAll, searched};
+ghost use Rattle.file_tree.specs.Inner.Searching.{AreOrdered, Keeps, LooksInto, Searches, SeesAll};
 ghost use Rattle.file_tree.specs.Inner.Walking.{Adds, Enters, Hears, HearsGiven, TakesAll, TakesAsked, TakesEntry, TakesFolder, TakesGiven, TakesIf, TakesKind, TakesKindGiven, TakesLink, TakesLinked, TakesMet, TakesNamedFile, TakesSpecial, TakesWanted, Walked, reached};
 ghost use Rattle.file_tree.specs.Ordered.{Orders};
 ghost use Rattle.file_tree.specs.Seen.{Sees};
@@ -62,7 +62,7 @@ pub struct Seen {
     pub looked: Vec<Looked>,
 }
 
-/// A walk over folders, each of which is looked into by itself.
+/// A walk that keeps apart what it found in each folder.
 #[derive(Drop)]
 struct Search {
     /// What was found of the names themselves, and the folders that are still to be looked into.
@@ -479,6 +479,32 @@ impl Walk {
         }
         Ok(walk)
     }
+
+    /// Looks into the folders, and those in them, until none is left.
+    fn look_into_all<T: Tree>(
+        &mut self,
+        alloc: Global,
+        chooser: &Chooser<'_>,
+        tree: &mut T,
+    ) -> Result<(), AllocError>
+        // Nothing is changed.
+        ensures files { T.files tree.new ≡ T.files tree.old }
+        ensures asked { T.asked tree.new ≡ T.asked tree.old }
+        ensures walked { OnOk result ((paths : List Name)
+            → Walked (T.files tree.old) (told chooser.now) paths (reached self.old)
+            → Walked (T.files tree.old) (told chooser.now) paths
+            (record { found = self.new.found.items; folders = [] })) }
+        ensures hears { OnOk result (Hears (reached self.old).found self.new.found.items
+            (T.faults tree.old) (T.faults tree.new)) }
+    {
+        for _ in 0..u64::MAX {
+            let Some(folder) = self.folders.pop() else {
+                return Ok(());
+            };
+            self.take_folder(alloc, chooser, folder.as_slice(), tree)?;
+        }
+        Err(AllocError)
+    }
 }
 
 impl Search {
@@ -563,27 +589,6 @@ impl Search {
         search.look_into_all(alloc, chooser, tree)?;
         Ok(search)
     }
-
-    /// All that was found.
-    fn all(self) -> Result<Vec<Found>, AllocError>
-        ensures { IfOk result (λ found. found.items ≡ (searched self).found) }
-    {
-        let Search { walk, looked } = self;
-        let Walk {
-            found: mut all,
-            folders: _,
-        } = walk;
-        for one in looked {
-            let Looked {
-                folder: _,
-                mut found,
-            } = one;
-            let Ok(()) = all.append(&mut found) else {
-                return Err(AllocError);
-            };
-        }
-        Ok(all)
-    }
 }
 
 /// What was found in the order of the names, each once: where one was found with a fault and without, without.
@@ -615,8 +620,9 @@ pub fn find<T: Tree>(
         found.items) }
 {
     let chooser = Chooser::new(alloc, choice)?;
-    let search = Search::of(alloc, &chooser, operands, tree)?;
-    Ok(in_order(search.all()?))
+    let mut walk = Walk::over(alloc, &chooser, operands, tree)?;
+    walk.look_into_all(alloc, &chooser, tree)?;
+    Ok(in_order(walk.found))
 }
 
 /// The same folders, and in each what was found in the order of the names, each once.

@@ -1,6 +1,7 @@
 -- Folders and modules, one after another.
 use Rattle.std.proofs.Common.{Option, flat_map, ◌≡◌, ◌∙◌, ◌<◌, ◌+◌, ◌⊎◌, ◌++◌, ◌∷◌, [], ℕ, Bool, true, false, Global, List, None, String, Contains, ap, append-nil, append_assoc, get_or, inl, inr, length, map, refl, subst, string_bytes, sym, take, true≢false}
-use Rattle.std.specs.Prelude.{◌&&◌, Some, not, slice_get, Result, Ok, Err, IfOk, OnOk, if◌then◌else◌}
+use Rattle.std.specs.String.{string_vec}
+use Rattle.std.specs.Prelude.{◌&&◌, Some, is_some, not, slice_get, Result, Ok, Err, IfOk, OnOk, if◌then◌else◌}
 use Rattle.std.specs.Str.{IsUtf8, is_utf8}
 use Rattle.std.proofs.lemmas.Grind.{flat_map-append}
 use Rattle.std.proofs.lemmas.List.{map-append, take_more}
@@ -8,16 +9,18 @@ use Rattle.std.specs.List.{list_all}
 use Rattle.std.proofs.lemmas.List.Folds.{list_all-append}
 use Rattle.std.proofs.lemmas.List.Elements.{Contains-append_left, Contains-push, Contains-push_cases}
 use Rattle.std.proofs.lemmas.Option.{get_or_from_slice_get, slice_get_within}
-use Rattle.std.proofs.lemmas.Str.{IsUtf8-from_is_utf8}
+use Rattle.std.proofs.lemmas.Str.{IsUtf8-from_is_utf8, IsUtf8-string_bytes, is_utf8-from_IsUtf8}
 use Rattle.file_tree.specs.Files.{Faults, Files, Name}
 use Rattle.file_tree.specs.Ordered.{HasName, Orders}
 use Rattle.file_tree.specs.Seen.{all_found}
 use Rattle.file_tree.specs.declared.fault.TreeFault.{TreeFault}
+use Rattle.file_tree.specs.declared.fault.TreeFault.TheVariants.{NotUtf8}
 use Rattle.file_tree.specs.declared.walk.Found.{Found}
+use Rattle.file_tree.specs.declared.walk.FoundFile.{FoundFile}
 use Rattle.file_tree.specs.declared.walk.Looked.{Looked}
 use Rattle.file_tree.proofs.OrderLemmas.{none_in}
 use Rattle.module_find.specs.Inner.Adding.{AddsFolder, AddsModule, TakesFound, told_by}
-use Rattle.module_find.specs.Modules.{AreFolders, AreFoldersOf, AreModules, IsModule, IsModuleOf, StandsIn, breaks_by, fault_by, file_in, folder_of, is_file_by, is_lost, is_lost_by, is_of_module, is_sound, lost_in, stands, told_as, told_in}
+use Rattle.module_find.specs.Modules.{AreFolders, AreFoldersOf, AreModules, IsModule, IsModuleOf, StandsIn, breaks_by, fault_by, file_in, folder_of, is_file_by, is_lost, is_module_file, is_of_module, is_sound, lost_in, name_fault, stands, told_as, told_in}
 use Rattle.module_find.specs.declared.module.Module.{Module}
 use Rattle.module_find.specs.declared.modules.Modules.{Modules}
 use Rattle.module_find.specs.declared.modules.Sorted.{Sorted}
@@ -29,8 +32,15 @@ not_utf8 word isnt = by (is_utf8 word) refl
     by true e = absurd (isnt (IsUtf8-from_is_utf8 word e))
     by false e = e
 
-pub text_more : (old new : List (String Global)) (t : String Global) (name : List ℕ) → new ≡ old ++ t ∷ [] → string_bytes t ≡ name → map string_bytes new ≡ map string_bytes old ++ name ∷ []
-text_more old new t name e is = ap (map string_bytes) e ∙ map-append string_bytes old (t ∷ []) ∙ ap (λ n. map string_bytes old ++ n ∷ []) is
+-- the name of a file isn't UTF-8
+pub not_named : (f : Found) (name : Name) → name ≡ f.name.items → f.fault ≡ None → is_module_file f.name.items ≡ true → is_some f.file ≡ true → (IsUtf8 f.name.items → ⊥) → fault_by f.fault f.file name ≡ Some NotUtf8
+not_named f name same good named is isnt =
+    subst (λ n. fault_by f.fault f.file n ≡ Some NotUtf8) (sym same)
+    (subst (λ o. fault_by o f.file f.name.items ≡ Some NotUtf8) (sym good) (by f.file is))
+  where
+    by : (file : Option FoundFile) → is_some file ≡ true → name_fault file f.name.items ≡ Some NotUtf8
+    by None e = absurd (true≢false (sym e))
+    by (Some file) e = λ i. if named i && not (not_utf8 f.name.items isnt i) then Some NotUtf8 else None
 
 -- ---- folders
 
@@ -126,25 +136,8 @@ told_both : (v : Bool) (f : Found) → map told_as (if v then f ∷ [] else []) 
 told_both true f = refl
 told_both false f = refl
 
-pub told_of_lost : (f : Found) → map told_as (lost_in f) ≡ told_by (told_as f)
+told_of_lost : (f : Found) → map told_as (lost_in f) ≡ told_by (told_as f)
 told_of_lost f = told_both (is_lost f) f
-
-pub none_told : (v : Bool) (t : Name × Option TreeFault) (old : List (Name × Option TreeFault)) → v ≡ is_lost_by t.1 t.0 → v ≡ false → old ≡ old ++ told_by t
-none_told v t old is f = by (is_lost_by t.1 t.0) (sym is ∙ f)
-  where
-    by : (w : Bool) → w ≡ false → old ≡ old ++ (if w then t ∷ [] else [])
-    by true e = absurd (true≢false e)
-    by false e = sym (append-nil old)
-
-pub one_told : (v : Bool) (t : Name × Option TreeFault) → v ≡ is_lost_by t.1 t.0 → v ≡ true → t ∷ [] ≡ told_by t
-one_told v t is f = by (is_lost_by t.1 t.0) (sym is ∙ f)
-  where
-    by : (w : Bool) → w ≡ true → t ∷ [] ≡ (if w then t ∷ [] else [])
-    by true e = refl
-    by false e = absurd (true≢false (sym e))
-
-pub told_push : (old new : List Found) (f : Found) → new ≡ old ++ f ∷ [] → map told_as new ≡ map told_as old ++ told_as f ∷ []
-told_push old new f e = ap (map told_as) e ∙ map-append told_as old (f ∷ [])
 
 -- one more of some
 pub told_more : (tells : Found → List Found) (found : List Found) (i : ℕ) (f : Found) (first old new : List Found) → i < length found → f ≡ get_or found i f
@@ -155,6 +148,32 @@ told_more tells found i f first old new within is so h =
     ∙ ap (λ l. map told_as first ++ l)
     (sym (map-append told_as (flat_map tells (take i found)) (tells f))
     ∙ ap (map told_as) (sym (ap (flat_map tells) (take_more found i f within ∙ ap (λ x. take i found ++ x ∷ []) (sym is)) ∙ flat_map-append tells (take i found) (f ∷ []) ∙ ap (λ l. flat_map tells (take i found) ++ l) (append-nil (tells f)))))
+
+and_true : (b : Bool) → (b && true) ≡ b
+and_true true = refl
+and_true false = refl
+
+-- it is a file of the module
+pub file_taken : (f : Found) (text : String Global) (old new : Sorted) → f.fault ≡ None → is_module_file f.name.items ≡ true → is_some f.file ≡ true → string_vec text ≡ f.name
+    → new.module.is_whole ≡ old.module.is_whole → new.module.folder ≡ old.module.folder → new.faults ≡ old.faults → map string_bytes new.module.files.items ≡ map string_bytes old.module.files.items ++ string_bytes text ∷ [] → TakesFound f old new
+file_taken f text old new good named is same whole folder told files = record {
+  folder = folder;
+  files = subst (λ o. map string_bytes new.module.files.items ≡ map string_bytes old.module.files.items ++ (if is_file_by o f.name.items then f.name.items ∷ [] else [])) (sym none)
+      (files ∙ ap (λ l. map string_bytes old.module.files.items ++ l) (ap (λ v. v.items ∷ []) same ∙ (λ i. if sym named i then f.name.items ∷ [] else [])));
+  whole = subst (λ o. new.module.is_whole ≡ (old.module.is_whole && not (breaks_by o f.name.items))) (sym none) (whole ∙ sym (and_true old.module.is_whole));
+  faults = subst (λ o. map told_as new.faults.items ≡ map told_as old.faults.items ++ map told_as (lost_in (record f { fault = o }))) (sym none)
+      (ap (λ v. map told_as v.items) told ∙ sym (append-nil (map told_as old.faults.items)));
+}
+  where
+    utf8 : is_utf8 f.name.items ≡ true
+    utf8 = subst (λ v. is_utf8 v.items ≡ true) same (is_utf8-from_IsUtf8 (string_bytes text) (IsUtf8-string_bytes text))
+
+    by : (file : Option FoundFile) → is_some file ≡ true → name_fault file f.name.items ≡ None
+    by None e = absurd (true≢false (sym e))
+    by (Some file) e = λ i. if named i && not (utf8 i) then Some NotUtf8 else None
+
+    none : fault_by f.fault f.file f.name.items ≡ None
+    none = subst (λ o. fault_by o f.file f.name.items ≡ None) (sym good) (by f.file is)
 
 -- what is told for this reason
 pub fault_taken : (f : Found) (fault : TreeFault) (old new : Sorted) (sound : Bool) → fault_by f.fault f.file f.name.items ≡ Some fault → new.module ≡ record old.module { is_whole = old.module.is_whole && sound } → sound ≡ not (is_of_module f.name.items)
@@ -169,7 +188,7 @@ fault_taken f fault old new sound why is so told = record {
 }
 
 -- some more, after others
-pub told_then : (tells : Found → List Found) (before more : List Found) (old new : List Found) → map told_as old ≡ map told_as (flat_map tells before) → map told_as new ≡ map told_as old ++ map told_as (flat_map tells more)
+told_then : (tells : Found → List Found) (before more : List Found) (old new : List Found) → map told_as old ≡ map told_as (flat_map tells before) → map told_as new ≡ map told_as old ++ map told_as (flat_map tells more)
     → map told_as new ≡ map told_as (flat_map tells (before ++ more))
 told_then tells before more old new so h = h ∙ ap (λ l. l ++ map told_as (flat_map tells more)) so ∙ sym (map-append told_as (flat_map tells before) (flat_map tells more)) ∙ ap (map told_as) (sym (flat_map-append tells before more))
 
@@ -178,22 +197,13 @@ told_then tells before more old new so h = h ∙ ap (λ l. l ++ map told_as (fla
 more_of : {A B : Type 0} (f : A → List B) (xs : List A) (x : A) (old new : List B) → old ≡ flat_map f xs → new ≡ old ++ f x → new ≡ flat_map f (xs ++ x ∷ [])
 more_of f xs x old new e h = h ∙ ap (λ l. l ++ f x) e ∙ sym (flat_map-append f xs (x ∷ []) ∙ ap (λ l. flat_map f xs ++ l) (append-nil (f x)))
 
-and_true : (b : Bool) → (b && true) ≡ b
-and_true true = refl
-and_true false = refl
-
-module_more : (name : Name) (found : List Found) (f : Found) (old new : Sorted) → IsModuleOf name found old.module old.faults.items → TakesFound f old new → IsModuleOf name (found ++ f ∷ []) new.module new.faults.items
+pub module_more : (name : Name) (found : List Found) (f : Found) (old new : Sorted) → IsModuleOf name found old.module old.faults.items → TakesFound f old new → IsModuleOf name (found ++ f ∷ []) new.module new.faults.items
 module_more name found f old new before h = record {
   folder = ap (λ v. v.items) h.folder ∙ before.folder;
   files = more_of file_in found f _ _ before.files h.files;
   whole = h.whole ∙ ap (λ w. w && is_sound f) before.whole ∙ sym (list_all-append is_sound found (f ∷ []) ∙ ap (λ v. list_all is_sound found && v) (and_true (is_sound f)));
   lost = told_then told_in found (f ∷ []) old.faults.items new.faults.items before.lost (h.faults ∙ ap (λ l. map told_as old.faults.items ++ map told_as l) (sym (append-nil (told_in f))));
 }
-
-pub module_at : (name : Name) (found : List Found) (i : ℕ) (f : Found) (old new : Sorted) → i < length found → f ≡ get_or found i f → IsModuleOf name (take i found) old.module old.faults.items → TakesFound f old new
-    → IsModuleOf name (take (i + 1) found) new.module new.faults.items
-module_at name found i f old new within is before h =
-    subst (λ l. IsModuleOf name l new.module new.faults.items) (sym (take_more found i f within ∙ ap (λ x. take i found ++ x ∷ []) (sym is))) (module_more name (take i found) f old new before h)
 
 -- ---- all modules
 

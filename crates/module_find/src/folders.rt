@@ -111,7 +111,7 @@ fn is_gone(found: &Found) -> bool
 }
 
 /// The same name with its fault.
-pub(crate) fn copy_of(alloc: Global, found: &Found) -> Result<Found, AllocError>
+fn copy_of(alloc: Global, found: &Found) -> Result<Found, AllocError>
     ensures { IfOk result (λ copy. told_as copy ≡ told_as found.now) }
 {
     let name = joined(alloc, found.name.as_slice(), b"")?;

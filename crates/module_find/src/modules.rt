@@ -2,12 +2,10 @@
 
 ghost use Rattle.std.specs.Prelude.{◌≡◌, ◌&&◌, ◌++◌, ◌∷◌, [], None, Some, IfOk, IfSome, OnOk, map, string_bytes, true};
 ghost use Rattle.std.specs.List.{Contains};
-ghost use Rattle.std.specs.Str.{is_utf8};
 ghost use Rattle.file_tree.specs.declared.walk.Looked.{Looked};
 ghost use Rattle.module_find.specs.Inner.Adding.{AddsModule, TakesFound, told_by};
 ghost use Rattle.module_find.specs.Modules.{AreModules, IsModule, IsModuleOf, fault_by, is_module_file, told_as};
 
-use crate::folders::copy_of;
 use crate::lost::is_lost;
 use crate::module::Module;
 use crate::names::{is_module_file, is_of_module};
@@ -15,16 +13,6 @@ use file_tree::fault::TreeFault;
 use file_tree::tree::Tree;
 use file_tree::walk::{Found, Looked, find_in};
 use std::alloc::{AllocError, Global};
-
-/// Whether a name is UTF-8.
-fn is_text(name: &[u8]) -> bool
-    ensures { result ≡ is_utf8 name.now }
-{
-    match std::str::from_utf8(name) {
-        Ok(_) => true,
-        Err(_) => false,
-    }
-}
 
 fn both(one: bool, other: bool) -> bool
     ensures { result ≡ (one && other) }
@@ -40,86 +28,85 @@ struct Sorted {
 }
 
 impl Sorted {
-    /// Tells what can't be linted, for this reason, if that is told.
-    fn tell(&mut self, alloc: Global, found: &Found, fault: TreeFault) -> Result<(), AllocError>
+    /// Tells what can't be linted, if that is told.
+    fn tell(&mut self, found: Found) -> Result<(), AllocError>
         ensures faults { OnOk result (map told_as self.new.faults.items
-            ≡ map told_as self.old.faults.items ++ told_by (found.now.name.items, Some fault)) }
+            ≡ map told_as self.old.faults.items ++ told_by (told_as found)) }
         ensures module { self.new.module ≡ self.old.module }
     {
-        let mut copy = copy_of(alloc, found)?;
-        copy.fault = Some(fault);
-        if !is_lost(&copy) {
+        if !is_lost(&found) {
             return Ok(());
         }
-        let Ok(()) = self.faults.push(copy) else {
+        let Ok(()) = self.faults.push(found) else {
             return Err(AllocError);
         };
         Ok(())
     }
 
-    /// Adds a file of this name, which is UTF-8.
-    fn add_file(&mut self, alloc: Global, name: &[u8]) -> Result<(), AllocError>
-        requires text { is_utf8 name.now ≡ true }
+    /// Adds a file.
+    fn add_file(&mut self, name: String) -> Result<(), AllocError>
         ensures files { OnOk result (map string_bytes self.new.module.files.items
-            ≡ map string_bytes self.old.module.files.items ++ name.now ∷ []) }
+            ≡ map string_bytes self.old.module.files.items ++ string_bytes name ∷ []) }
         ensures whole { self.new.module.is_whole ≡ self.old.module.is_whole }
         ensures folder { self.new.module.folder ≡ self.old.module.folder }
         ensures told { self.new.faults ≡ self.old.faults }
     {
-        let text = String::from_utf8_lossy(alloc, name)?;
-        let Ok(()) = self.module.files.push(text) else {
-            return Err(AllocError);
-        };
-        Ok(())
+        match self.module.files.push(name) {
+            Ok(()) => Ok(()),
+            Err(_) => Err(AllocError),
+        }
     }
 
     /// Takes what was found of a folder and can't be linted, for this reason.
-    fn take_fault(
-        &mut self,
-        alloc: Global,
-        found: &Found,
-        fault: TreeFault,
-    ) -> Result<(), AllocError>
-        requires why { fault_by found.now.fault found.now.file found.now.name.items ≡ Some fault }
-        ensures { OnOk result (TakesFound found.now self.old self.new) }
+    fn take_fault(&mut self, found: Found, fault: TreeFault) -> Result<(), AllocError>
+        requires why { fault_by found.fault found.file found.name.items ≡ Some fault }
+        ensures { OnOk result (TakesFound found self.old self.new) }
     {
         let is_sound = !is_of_module(found.name.as_slice());
         self.module.is_whole = both(self.module.is_whole, is_sound);
-        self.tell(alloc, found, fault)
+        self.tell(Found {
+            name: found.name,
+            fault: Some(fault),
+            file: found.file,
+        })
     }
 
     /// Takes what was found of a folder and has the name of a file of a module.
-    fn take_file(&mut self, alloc: Global, found: &Found) -> Result<(), AllocError>
-        requires good { found.now.fault ≡ None }
-        requires named { is_module_file found.now.name.items ≡ true }
-        ensures { OnOk result (TakesFound found.now self.old self.new) }
+    fn take_file(&mut self, found: Found) -> Result<(), AllocError>
+        requires good { found.fault ≡ None }
+        requires named { is_module_file found.name.items ≡ true }
+        ensures { OnOk result (TakesFound found self.old self.new) }
     {
         if found.file.is_none() {
-            return self.take_fault(alloc, found, TreeFault::NotAFile);
+            return self.take_fault(found, TreeFault::NotAFile);
         }
-        if is_text(found.name.as_slice()) {
-            return self.add_file(alloc, found.name.as_slice());
+        let Found { name, fault, file } = found;
+        match String::from_utf8(name) {
+            Ok(text) => self.add_file(text),
+            Err(error) => {
+                let name = error.into_bytes();
+                self.take_fault(Found { name, fault, file }, TreeFault::NotUtf8)
+            }
         }
-        self.take_fault(alloc, found, TreeFault::NotUtf8)
     }
 
     /// Takes what was found of a folder.
-    fn take(&mut self, alloc: Global, found: &Found) -> Result<(), AllocError>
-        ensures { OnOk result (TakesFound found.now self.old self.new) }
+    fn take(&mut self, found: Found) -> Result<(), AllocError>
+        ensures { OnOk result (TakesFound found self.old self.new) }
     {
         if let Some(fault) = found.fault {
-            return self.take_fault(alloc, found, fault);
+            return self.take_fault(found, fault);
         }
         if is_module_file(found.name.as_slice()) {
-            return self.take_file(alloc, found);
+            return self.take_file(found);
         }
         Ok(())
     }
 }
 
 /// The module of a folder in which this was found.
-fn module_of(alloc: Global, folder: Vec<u8>, found: &[Found]) -> Result<Sorted, AllocError>
-    ensures { IfOk result (λ s. IsModuleOf folder.items found.now s.module s.faults.items) }
+fn module_of(alloc: Global, folder: Vec<u8>, found: Vec<Found>) -> Result<Sorted, AllocError>
+    ensures { IfOk result (λ s. IsModuleOf folder.items found.items s.module s.faults.items) }
 {
     let mut taken = Sorted {
         module: Module {
@@ -130,44 +117,48 @@ fn module_of(alloc: Global, folder: Vec<u8>, found: &[Found]) -> Result<Sorted, 
         faults: Vec::new(alloc),
     };
     for each in found {
-        taken.take(alloc, each)?;
+        taken.take(each)?;
     }
     Ok(taken)
 }
 
-/// What was found in a folder, if it is one of these, which are in the order of their names.
-fn found_in<'l>(looked: &'l [Looked], folder: &[u8]) -> Option<&'l [Found]>
-    ensures { IfSome result (λ found. (l : Looked) × Contains looked.entry.now l
-        × (l.folder.items ≡ folder.now) × (l.found.items ≡ found.now)) }
+/// Takes out what was found in a folder, if it is one of these: their last one is the first by its name. What comes before the
+/// folder is let go.
+fn take_looked(looked: &mut Vec<Looked>, folder: &[u8]) -> Option<Vec<Found>>
+    ensures taken { IfSome result (λ found. (l : Looked) × Contains looked.old.items l
+        × (l.folder.items ≡ folder.now) × (l.found.items ≡ found.items)) }
+    ensures left { (l : Looked) → Contains looked.new.items l → Contains looked.old.items l }
 {
-    let Ok(number) = looked.binary_search_by(|one| one.folder.as_slice().cmp(folder)) else {
-        return None;
-    };
-    let one = looked.get(number)?;
-    if one.folder.as_slice() == folder {
-        Some(one.found.as_slice())
-    } else {
-        None
+    for _ in 0..looked.len() {
+        if looked.as_slice().last()?.folder.as_slice() > folder {
+            return None;
+        }
+        let one = looked.pop()?;
+        if one.folder.as_slice() == folder {
+            return Some(one.found);
+        }
     }
+    None
 }
 
 /// The module of a folder, which is looked into unless it was before.
 fn module_in<T: Tree>(
     alloc: Global,
     folder: Vec<u8>,
-    looked: &[Looked],
+    looked: &mut Vec<Looked>,
     tree: &mut T,
 ) -> Result<Sorted, AllocError>
     ensures files { T.files tree.new ≡ T.files tree.old }
     ensures asked { T.asked tree.new ≡ T.asked tree.old }
-    ensures is { IfOk result (λ s. IsModule (T.files tree.old) looked.now folder.items s.module
-        s.faults.items (T.faults tree.old) (T.faults tree.new)) }
+    ensures left { (l : Looked) → Contains looked.new.items l → Contains looked.old.items l }
+    ensures is { IfOk result (λ s. IsModule (T.files tree.old) looked.old.items folder.items
+        s.module s.faults.items (T.faults tree.old) (T.faults tree.new)) }
 {
-    if let Some(found) = found_in(looked, folder.as_slice()) {
+    if let Some(found) = take_looked(looked, folder.as_slice()) {
         return module_of(alloc, folder, found);
     }
     let found = find_in(alloc, folder.as_slice(), tree)?;
-    module_of(alloc, folder, found.as_slice())
+    module_of(alloc, folder, found)
 }
 
 /// Modules, and what is told of their folders.
@@ -183,13 +174,14 @@ impl Modules {
         &mut self,
         alloc: Global,
         folder: Found,
-        looked: &[Looked],
+        looked: &mut Vec<Looked>,
         tree: &mut T,
     ) -> Result<(), AllocError>
         ensures files { T.files tree.new ≡ T.files tree.old }
         ensures asked { T.asked tree.new ≡ T.asked tree.old }
-        ensures adds { OnOk result (AddsModule (T.files tree.old) looked.now folder.name.items
-            self.old self.new (T.faults tree.old) (T.faults tree.new)) }
+        ensures left { (l : Looked) → Contains looked.new.items l → Contains looked.old.items l }
+        ensures adds { OnOk result (AddsModule (T.files tree.old) looked.old.items
+            folder.name.items self.old self.new (T.faults tree.old) (T.faults tree.new)) }
     {
         let Sorted { module, mut faults } = module_in(alloc, folder.name, looked, tree)?;
         let Ok(()) = self.modules.push(module) else {
@@ -221,9 +213,9 @@ pub fn modules_of<T: Tree>(
         modules: Vec::new(alloc),
         faults: Vec::new(alloc),
     };
-    looked.sort_unstable();
+    looked.sort_unstable_by(|one, other| other.cmp(one));
     for folder in folders {
-        all.add(alloc, folder, looked.as_slice(), tree)?;
+        all.add(alloc, folder, &mut looked, tree)?;
     }
     Ok(all)
 }

@@ -1,5 +1,5 @@
 -- A walk over folders, each of which is looked into by itself.
-use Rattle.std.specs.Prelude.{◌≡◌, List, [], ◌∷◌, ◌++◌, flat_map, map}
+use Rattle.std.specs.Prelude.{◌≡◌, List, [], ◌∷◌, ◌++◌, map}
 use Rattle.std.specs.List.{Contains}
 use Rattle.file_tree.specs.Choices.{Chosen}
 use Rattle.file_tree.specs.Files.{Faults, Files, Name}

@@ -1,4 +1,4 @@
-use Rattle.std.proofs.Common.{◌++◌, ◌∙◌, [], append-nil, subst, sym, take}
+use Rattle.std.proofs.Common.{◌++◌, [], append-nil, subst, sym, take}
 use Rattle.file_tree.specs.Seen.{all_found}
 use Rattle.module_find.specs.Modules.{AreFoldersOf}
 use Rattle.module_find.proofs.ModuleLemmas.{looked_more, no_folders}
