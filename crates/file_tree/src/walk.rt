@@ -512,7 +512,12 @@ impl Search {
     fn keep(&mut self, folder: Vec<u8>, here: Walk) -> Result<(), AllocError>
         ensures { OnOk result (Keeps folder.items (reached here) self.old self.new) }
     {
-        let Walk { found, mut folders } = here;
+        let Walk {
+            mut found,
+            mut folders,
+        } = here;
+        // There are as many of these as folders.
+        found.shrink_to_fit();
         let Ok(()) = self.walk.folders.append(&mut folders) else {
             return Err(AllocError);
         };
