@@ -44,18 +44,7 @@ fn newline_or(kind: Kind, number: u32, other: u32) -> u32
 fn changes_depth(kind: Kind) -> bool
     ensures { result ≡ (is_opener kind || is_closer kind) }
 {
-    matches!(
-        kind,
-        Kind::ParenOpen
-            | Kind::BracketOpen
-            | Kind::BraceOpen
-            | Kind::InterpOpen
-            | Kind::ControlOpen
-            | Kind::ParenClose
-            | Kind::BracketClose
-            | Kind::BraceClose
-            | Kind::SeqClose
-    )
+    !matches!(kind.nesting(), Nesting::Neither)
 }
 
 #[inline(always)]
