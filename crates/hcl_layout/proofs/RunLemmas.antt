@@ -1,12 +1,12 @@
 -- Reading a run ahead, line by line.
-use Rattle.std.proofs.Common.{◌*◌, ◌≡◌, ◌∙◌, ◌+◌, ◌-◌, ◌<◌, ◌≤◌, ◌^◌, ℕ, suc, zero, Bool, true, false, List, [], ◌∷◌, Option, Some, None, length, ap, refl, subst, sym, arith, take, drop}
+use Rattle.std.proofs.Common.{◌*◌, ◌≡◌, ◌∙◌, ◌+◌, ◌-◌, ◌<◌, ◌≤◌, ◌^◌, ℕ, suc, zero, Bool, true, false, List, [], ◌∷◌, Option, Some, None, length, ap, refl, sym, arith, take, drop}
 use Rattle.std.specs.Prelude.{IfSome, slice_set, if◌then◌else◌}
 use Rattle.hcl_tokens.specs.Lexemes.{Lexeme}
 use Rattle.hcl_tokens.specs.Balanced.{max_open}
 use Rattle.hcl_layout.specs.Cells.{assign_cell, before_comment, has_multiline, if_level, is_level, is_assignment, is_trailing, first_place_from, trailing_comment, until}
 use Rattle.hcl_layout.specs.Gaps.{align, gap_to, plain_gaps, width}
 use Rattle.hcl_layout.specs.Levels.{net_of}
-use Rattle.hcl_layout.specs.Inner.LineGaps.{AreSet, IsKnown, IsSigned, len_with_blanks, gaps_in, plain_of, set_cell}
+use Rattle.hcl_layout.specs.Inner.LineGaps.{IsKnown, IsSigned, len_with_blanks, gaps_in, plain_of, set_cell}
 use Rattle.hcl_layout.specs.Lines.{Line}
 use Rattle.hcl_layout.specs.Inner.LineGaps.{Cell}
 use Rattle.hcl_layout.specs.Inner.LineGaps.{LineGaps}
@@ -137,14 +137,5 @@ commented_in level assign comment i own gap line e =
 
 pub comment_cell : (gaps : List ℕ) (l : Line) (column : Option ℕ) (i gap : ℕ) → trailing_comment l ≡ Some i → gap ≡ gap_to column (width i gaps l) → slice_set gaps i gap ≡ align trailing_comment gaps l column
 comment_cell gaps l column i gap e f = rw (e, f) refl
-
-pub set_signed : (g : LineGaps) (l : Line) → IsSigned g l → AreSet g
-set_signed g l p = record {
-  level = p.level;
-  sign_gap = p.gap;
-  comment_gap = subst (λ (o : Option Cell). IfSome o (λ c. c.gap ≤ 2 ^ 34)) (sym p.plain) tt;
-  sign_front = p.front;
-  comment_front = subst (λ (o : Option Cell). IfSome o (λ c. 0 < c.place)) (sym p.plain) tt;
-}
 
 -- ---- the column of a line's comment

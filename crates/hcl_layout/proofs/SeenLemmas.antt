@@ -1,7 +1,6 @@
 -- What was seen of a line, and what its survey is, token by token.
-use Rattle.std.proofs.Common.{◌≡◌, ◌∙◌, ◌+◌, ◌-◌, ◌≤◌, ◌==◌, ◌&&◌, ◌||◌, ◌^◌, not, ℕ, Bool, true, false, List, Option, Some, None, length, ap, ap₂, refl, sym, arith, subst, drop}
+use Rattle.std.proofs.Common.{◌≡◌, ◌∙◌, ◌+◌, ◌-◌, ◌≤◌, ◌&&◌, ◌||◌, ◌^◌, not, ℕ, Bool, true, false, List, Option, Some, None, length, ap, ap₂, refl, sym, arith, subst, drop}
 use Rattle.std.specs.Prelude.{is_some, option_map, slice_get}
-use Rattle.std.specs.List.{list_any}
 use Rattle.hcl_tokens.specs.Lexemes.{Lexeme}
 use Rattle.hcl_tokens.specs.Balanced.{max_open}
 use Rattle.hcl_tokens.specs.Kinds.{is}
@@ -10,7 +9,7 @@ use Rattle.hcl_grammar.specs.Items.{deepen}
 use Rattle.hcl_layout.specs.Cells.{is_assignment, is_multiline, is_trailing}
 use Rattle.hcl_layout.specs.Lines.{ends_line}
 use Rattle.hcl_layout.specs.Inner.Depths.{BalancedFrom}
-use Rattle.hcl_layout.specs.Inner.Survey.{IsLine, Survey, facts_in, facts_of, Notes, first_noted, marks, noted, stops, survey_of, surveyed, takes_sign}
+use Rattle.hcl_layout.specs.Inner.Survey.{IsLine, Survey, facts_in, facts_of, first_noted, marks, noted, survey_of, surveyed, takes_sign}
 use Rattle.hcl_layout.specs.declared.line.Line.{Line}
 use Rattle.hcl_layout.specs.declared.line.Seen.{Seen}
 use Rattle.hcl_spacing.proofs.KindLemmas.{each}
@@ -53,20 +52,6 @@ pub seen_noted : (s : Seen) (t : Lexeme) (d first n : ℕ) → first ≤ n → m
 seen_noted s t d first n le m =
     let parts = unmarked (is LineComment t.kind) (is InlineComment t.kind) (is Assign t.kind) m in
     seen_kept s t d first n le (rw parts.0 refl) (rw parts.1 refl) (rw parts.2 refl)
-
--- a token inside a heredoc
-pub seen_inside : (s : Seen) (t : Lexeme) (d n : ℕ) → t.inside_heredoc ≡ true → stops t.kind ≡ true → Notes s n d t s
-seen_inside s t d n inside more first le =
-    ap (λ k. survey_of s k first (n + 1)) (sym (stopped_level t.kind d more))
-    ∙ seen_kept s t d first n le (rw inside (none (is LineComment t.kind))) (rw inside (neither (is InlineComment t.kind) (list_any (λ b. b == 10) t.text))) (rw inside (none (is Assign t.kind)))
-  where
-    none : (b : Bool) → (b && false) ≡ false
-    none true = refl
-    none false = refl
-
-    neither : (b c : Bool) → (b && false && c) ≡ false
-    neither true c = refl
-    neither false c = refl
 
 -- the newline that ends the line
 end_unmarked : (t : Lexeme) → ends_line t ≡ true → marks t.kind ≡ false

@@ -1,5 +1,5 @@
 -- A line that is passed, and the widths and columns of those after it.
-use Rattle.std.proofs.Common.{◌≡◌, ◌∙◌, ◌+◌, ◌-◌, ◌<◌, ◌≤◌, ◌^◌, ℕ, Bool, true, false, List, ◌∷◌, Option, Some, None, length, ap, refl, sym, arith, subst, take, drop, length-take}
+use Rattle.std.proofs.Common.{◌≡◌, ◌∙◌, ◌+◌, ◌-◌, ◌<◌, ◌≤◌, ◌^◌, ℕ, Bool, true, false, List, ◌∷◌, Option, Some, None, length, ap, sym, arith, take, drop, length-take}
 use Rattle.std.specs.Prelude.{if◌then◌else◌, nat_lt, not, option_map}
 use Rattle.std.proofs.lemmas.Bool.Decides.{nat_tests}
 use Rattle.hcl_tokens.specs.Balanced.{max_open}
@@ -8,12 +8,10 @@ use Rattle.hcl_layout.specs.Cells.{assign_cell, trailing_comment}
 use Rattle.hcl_layout.specs.Gaps.{plain_gaps}
 use Rattle.hcl_layout.specs.Lines.{Line, lines}
 use Rattle.hcl_layout.specs.Inner.Depths.{BalancedFrom, fresh, level_at, next_levels}
-use Rattle.hcl_layout.specs.Inner.Laid.{IsAt, bare_line, shape}
-use Rattle.hcl_layout.specs.Inner.LineGaps.{plain_of}
+use Rattle.hcl_layout.specs.Inner.Laid.{IsAt}
 use Rattle.hcl_layout.specs.Inner.Stream.{assign_width, assign_widths, plain}
 use Rattle.hcl_layout.specs.Inner.Survey.{IsLine, facts_in}
 use Rattle.hcl_layout.specs.declared.line.Line.{Line as LineRead}
-use Rattle.hcl_layout.specs.declared.lines.LaidLine.{LaidLine}
 use Rattle.hcl_layout.specs.declared.lines.Lines.{Lines}
 use Rattle.std.proofs.lemmas.List.{length-replicate}
 use Rattle.hcl_layout.proofs.StreamLemmas.{zeros_get}
@@ -39,9 +37,6 @@ module _ (ts : List Lexeme) (d : ℕ) (r : LineRead) (p : IsLine ts r.first d (f
 
   pub read_cut : lines (drop r.first ts) ≡ take (r.end - r.first) (drop r.first ts) ∷ lines (drop r.end ts)
   read_cut = let place : r.first + (r.end - r.first) ≡ r.end = omega (arith, p.some) in p.cut ∙ ap (λ k. text ∷ lines (drop k ts)) place
-
-  pub read_rest : BalancedFrom r.depth (drop r.end ts)
-  read_rest = let place : r.first + (r.end - r.first) ≡ r.end = omega (arith, p.some) in subst (λ k. BalancedFrom r.depth (drop k ts)) place p.rest
 
   pub read_level : (levels : List ℕ) → plain_gaps (level_at d r.depth levels) (take (r.end - r.first) (drop r.first ts)) ≡ plain d levels (take (r.end - r.first) (drop r.first ts))
   read_level levels = ap (λ k. plain_gaps (level_at d k levels) text) p.depth
@@ -73,12 +68,6 @@ module _ (ts : List Lexeme) (d : ℕ) (r : LineRead) (p : IsLine ts r.first d (f
   sign_step levels =
       ap (assign_widths d levels) read_cut
       ∙ ap (λ k. assign_width d levels text ∷ assign_widths k (next_levels d k levels) (lines (drop r.end ts))) (sym p.depth)
-
-pub bare_shape : (l : LaidLine) (r : LineRead) (level : ℕ) → l ≡ bare_line r level → shape l ≡ plain_of l.level
-bare_shape l r level e = subst (λ (x : LaidLine). shape x ≡ plain_of x.level) (sym e) (shaped (not_less r.end))
-  where
-    shaped : nat_lt r.end r.end ≡ false → shape (bare_line r level) ≡ plain_of level
-    shaped h = rw h refl
 
 pub running_some : (runs : Bool) (x : Option ℕ) (n : ℕ) → (if not runs then None else x) ≡ Some n → x ≡ Some n
 running_some true x n e = e

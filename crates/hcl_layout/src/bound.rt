@@ -17,7 +17,7 @@
 ghost use Rattle.std.specs.Prelude.{◌≡◌, ◌↔◌, ◌<◌, ◌≤◌, ◌+◌, ◌*◌, ◌^◌, ℕ, IsTrue, Some, length};
 ghost use Rattle.hcl_tokens.specs.Balanced.{max_open};
 ghost use Rattle.hcl_layout.specs.Inner.Depths.{BalancedFrom};
-ghost use Rattle.hcl_layout.specs.Inner.Rooms.{IsSmall, cells_of, room_in, taken as taken_of, with_line_at};
+ghost use Rattle.hcl_layout.specs.Inner.Rooms.{IsSmall, cells_of, room_in, with_line_at};
 ghost use Rattle.hcl_layout.specs.Inner.Survey.{IsLine, facts_in};
 ghost use Rattle.hcl_layout.specs.Print.{print};
 
@@ -64,14 +64,6 @@ fn cells_in(line: Line) -> u64
 }
 
 impl Extent {
-    /// What the cells of the group at hand take.
-    fn taken(self) -> u64
-        requires { IsSmall (2 ^ 22) self }
-        ensures { result ≡ taken_of self }
-    {
-        self.cells * self.width
-    }
-
     /// With a line that begins at a depth.
     fn with_line(self, tokens: &Measured<'_, '_>, depth: u32, line: Line) -> Extent
         requires line { IsLine tokens.now.tokens line.first depth (facts_in line) }
@@ -84,7 +76,7 @@ impl Extent {
         let cells = cells_in(line);
         if cells == 0 {
             return Extent {
-                passed: self.passed + indent + self.taken(),
+                passed: self.passed + indent + self.cells * self.width,
                 cells: 0,
                 width: 0,
             };
@@ -119,23 +111,15 @@ fn bound(tokens: &Measured<'_, '_>) -> u64
         depth = line.depth;
         at = line.end;
     }
-    tokens.len_bound() + extent.passed + extent.taken()
-}
-
-/// Whether the bound tells that the print has no more bytes than that.
-fn is_bound_to_fit(tokens: &Measured<'_, '_>, most: u64) -> bool
-    requires balanced { BalancedFrom 0 tokens.now.tokens }
-    ensures { IsTrue result → length (print tokens.now.tokens) ≤ most }
-{
-    tokens.len_bound() <= most && bound(tokens) <= most
+    tokens.len_bound() + extent.passed + extent.cells * extent.width
 }
 
 /// Whether the print has no more bytes than that.
 pub fn fits(accepted: &Accepted<'_, '_>, most: u64) -> bool
     ensures { IsTrue result ↔ (length (print accepted.now.tokens) ≤ most) }
 {
-    let unmeasured = Measured::unmeasured(accepted);
-    if is_bound_to_fit(&unmeasured, most) {
+    let tokens = Measured::unmeasured(accepted);
+    if tokens.len_bound() <= most && bound(&tokens) <= most {
         return true;
     }
     printed_len(accepted) <= most

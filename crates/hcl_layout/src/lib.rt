@@ -1,8 +1,9 @@
 //! The layout of accepted tokens: how many blanks stand before each, and so what is printed.
 //!
 //! It is written once, as a walk over the lines ([`lines`]): each line comes with its level and with its cells in the
-//! columns of their runs, and gives its pieces, each a token with the gap before it. Three loops over lines and
-//! pieces compare them with the source ([`is_formatted`]), count them ([`printed_len`]) and write them ([`emit`]).
+//! columns of their runs, and gives its pieces, each a token with the gap before it. Loops over lines and pieces
+//! compare them with the source ([`is_formatted`]), count them ([`printed_len`]) and write them ([`emit`]); the first
+//! is there twice, since a loop that calls nothing keeps its registers, and finds a formatted file in place.
 //! Nothing is stored of a line that was passed but the depth, the levels by depth and the two runs in which it
 //! stands. The column of a run is found at its first line: the lines ahead are measured, or, for a comparison, it is
 //! where the cell stands in the source, and the run tells at its end whether that was right. [`fits`] counts only

@@ -4,7 +4,7 @@ ghost use Rattle.hcl_tokens.specs.Scanned.{lexeme};
 ghost use Rattle.hcl_tokens.specs.Balanced.{max_open};
 ghost use Rattle.hcl_layout.specs.Gaps.{indent as indent_of};
 ghost use Rattle.hcl_layout.specs.Inner.Depths.{Sound};
-ghost use Rattle.hcl_layout.specs.Inner.Laid.{FindsComment, FindsSign, GoesBack, HasGaps, HasOwnGap, HasSignGaps, IsAt, IsCommentColumn, IsDone, IsLaid, IsPlainOn, IsSignColumn, KeepsRuns, Laid, LeavesGaps, Moves, MovesSign, Reads, RunsGrow, SignsGrow, Spans, Stops, TellsWrong, bare_after, cell_in, comment_width_on, comments_ended, ends_all_wrong, ends_wrong, gap_on, greatest_of, left_after, no_lines, none_at, shape, sign_width_on, signs_ended, text_of, widest_comment, widest_sign, width_on, with_comment_in, with_sign_in};
+ghost use Rattle.hcl_layout.specs.Inner.Laid.{FindsComment, FindsSign, GoesBack, HasGaps, HasOwnGap, HasSignGaps, IsAt, IsCommentColumn, IsDone, IsLaid, IsPlainOn, IsSignColumn, KeepsRuns, Laid, LeavesGaps, Moves, MovesSign, Reads, RunsGrow, SignsGrow, Spans, Stops, bare_after, cell_in, comment_width_on, comments_ended, ends_all_wrong, ends_wrong, gap_on, greatest_of, left_after, no_lines, shape, sign_width_on, signs_ended, text_of, widest_comment, widest_sign, width_on, with_comment_in, with_sign_in};
 ghost use Rattle.hcl_layout.specs.Inner.Left.{IsGapAt, IsGapBefore, token_before};
 ghost use Rattle.hcl_layout.specs.Inner.LineGaps.{IsSigned, plain_of};
 ghost use Rattle.hcl_layout.specs.Inner.Simple.{IsFrom};
@@ -111,17 +111,6 @@ fn found_column(tokens: &Measured<'_, '_>, number: usize, width: u64) -> u64
         .start
         .saturating_sub(before.start + before.text.len());
     width + (gap as u64).saturating_sub(1)
-}
-
-/// No cell, in a line with this end.
-fn no_cell(end: usize) -> Cell
-    ensures { result ≡ none_at end }
-{
-    Cell {
-        number: end,
-        width: 0,
-        gap: 0,
-    }
 }
 
 fn token_before<'s>(tokens: &Measured<'_, 's>, first: usize, number: usize) -> Option<Token<'s>>
@@ -381,12 +370,17 @@ impl Lines {
         let level = next_level(&mut self.levels, self.depth, line.depth);
         self.depth = line.depth;
         self.next = line.end;
+        let none = Cell {
+            number: line.end,
+            width: 0,
+            gap: 0,
+        };
         LaidLine {
             first: line.first,
             end: line.end,
             level,
-            sign: no_cell(line.end),
-            comment: no_cell(line.end),
+            sign: none,
+            comment: none,
         }
     }
 
@@ -439,7 +433,6 @@ impl Lines {
         ensures gaps { HasSignGaps tokens.now.tokens self.old self.new result }
         ensures moved { MovesSign tokens.now.tokens self.old line self.new }
         ensures grows { SignsGrow tokens.now.tokens self.old self.new result }
-        ensures wrong { TellsWrong tokens.now.tokens self.old self.new result }
         ensures ahead { FindsSign tokens.now.tokens self.old self.new }
     {
         let laid = self.pass(line);

@@ -194,14 +194,6 @@ impl<'t, 's> Measured<'t, 's> {
         (self.tokens.len() + self.tokens.source().text().len()) as u64
     }
 
-    /// Whether all texts are as wide as they have bytes.
-    pub fn is_simple(&self) -> bool
-        ensures { IsTrue result → is_simple_of self.now.text ≡ true }
-    {
-        let _ = &self.tokens;
-        self.simple
-    }
-
     /// How many tokens there are.
     pub fn len(&self) -> usize
         ensures len { result ≡ length self.now.tokens }

@@ -181,18 +181,12 @@ signed_gaps old new l = align assign_cell (plain old.depth old.levels l) l (colu
 abbrev pub laid_gaps : Lines → Lines → Line → List ℕ
 laid_gaps old new l = align trailing_comment (signed_gaps old new l) l (column_of new.comments)
 
--- the columns are those of the definition
-abbrev pub IsSignAhead : List Lexeme → Lines → Lines → Type 0
-IsSignAhead ts old new = column_of new.signs ≡ assign_column old.depth old.levels (column_of old.signs) (lines (drop old.next ts))
-
-abbrev pub IsCommentAhead : List Lexeme → Lines → Lines → Type 0
-IsCommentAhead ts old new = column_of new.comments ≡ comment_column old.depth old.levels (column_of old.signs) (column_of old.comments) (lines (drop old.next ts))
-
+-- columns that are measured ahead are those of the definition
 abbrev pub FindsSign : List Lexeme → Lines → Lines → Type 0
-FindsSign ts old new = old.columns ≡ Ahead → IsSignAhead ts old new
+FindsSign ts old new = old.columns ≡ Ahead → column_of new.signs ≡ assign_column old.depth old.levels (column_of old.signs) (lines (drop old.next ts))
 
 abbrev pub FindsComment : List Lexeme → Lines → Lines → Type 0
-FindsComment ts old new = old.columns ≡ Ahead → IsCommentAhead ts old new
+FindsComment ts old new = old.columns ≡ Ahead → column_of new.comments ≡ comment_column old.depth old.levels (column_of old.signs) (column_of old.comments) (lines (drop old.next ts))
 
 -- the greatest width before a cell of the run that goes on with the next line, and the column of such a run
 abbrev pub widest_sign : List Lexeme → Lines → ℕ
@@ -218,11 +212,11 @@ HasGaps ts old new l = gaps_in (shape l) (text_of ts l) ≡ laid_gaps old new (t
 abbrev pub MovesSign : List Lexeme → Lines → LineRead → Lines → Type 0
 MovesSign ts old r new = Moves old r new × IsAt ts new × (new.comments ≡ old.comments)
 
+-- the run of signs goes over it, or ends and tells whether it was wrong
 abbrev pub SignsGrow : List Lexeme → Lines → Lines → LaidLine → Type 0
-SignsGrow ts old new l = Grows old.signs (assign_width old.depth old.levels (text_of ts l)) new.signs
-
-abbrev pub TellsWrong : List Lexeme → Lines → Lines → LaidLine → Type 0
-TellsWrong ts old new l = new.wrong ≡ (old.wrong || ends_wrong_at old.signs (assign_cell (text_of ts l)))
+SignsGrow ts old new l =
+    Grows old.signs (assign_width old.depth old.levels (text_of ts l)) new.signs
+    × (new.wrong ≡ (old.wrong || ends_wrong_at old.signs (assign_cell (text_of ts l))))
 
 -- both runs go over it
 pub record RunsGrow (old : Lines) (l : Line) (new : Lines) : Type 0 where

@@ -1,5 +1,5 @@
 -- The gaps of a line from its level and two cells, token by token.
-use Rattle.std.specs.Prelude.{◌≡◌, ◌<◌, ◌≤◌, ◌+◌, ◌-◌, ◌^◌, ◌==◌, ℕ, List, [], ◌∷◌, Option, Some, None, IfSome, length, slice_set, if◌then◌else◌}
+use Rattle.std.specs.Prelude.{◌≡◌, ◌<◌, ◌≤◌, ◌+◌, ◌^◌, ◌==◌, ℕ, List, [], ◌∷◌, Option, Some, None, IfSome, length, slice_set, if◌then◌else◌}
 use Rattle.hcl_tokens.specs.Lexemes.{Lexeme}
 use Rattle.hcl_tokens.specs.Balanced.{max_open}
 use Rattle.hcl_layout.specs.Lines.{Line}
@@ -73,11 +73,3 @@ pub record IsSigned (g : LineGaps) (line : Line) : Type 0 where
   pub gap : IfSome g.assign (λ c. c.gap ≤ 2 ^ 33)
   pub front : IfSome g.assign (λ c. 0 < c.place)
   pub order : (i : ℕ) → trailing_comment line ≡ Some i → known_place g.assign ≤ i
-
--- the cells of a line are set: none is the line's first token
-pub record AreSet (g : LineGaps) : Type 0 where
-  pub level : g.level ≤ max_open
-  pub sign_gap : IfSome g.assign (λ c. c.gap ≤ 2 ^ 33)
-  pub comment_gap : IfSome g.comment (λ c. c.gap ≤ 2 ^ 34)
-  pub sign_front : IfSome g.assign (λ c. 0 < c.place)
-  pub comment_front : IfSome g.comment (λ c. 0 < c.place)

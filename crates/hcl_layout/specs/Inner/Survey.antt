@@ -6,7 +6,7 @@ use Rattle.hcl_tokens.specs.declared.token.Kind.TheVariants as kind
 use Rattle.hcl_layout.specs.Lines.{Line, ends_line, lines}
 use Rattle.hcl_tokens.specs.Kinds.{is}
 use Rattle.hcl_layout.specs.Cells.{assign_cell, is_assignment, is_multiline, is_trailing, running_comment, trailing_comment}
-use Rattle.hcl_tokens.specs.Balanced.{is_closer, is_opener, max_open}
+use Rattle.hcl_tokens.specs.Balanced.{max_open}
 use Rattle.hcl_grammar.specs.Items.{deepen}
 use Rattle.hcl_layout.specs.Inner.Depths.{BalancedFrom, depth_after}
 use Rattle.std.specs.Prelude.{option_map, slice_get, ◌-◌}
@@ -31,10 +31,6 @@ pub record LineFacts : Type 0 where
   pub assign : Option ℕ
   pub comment : Option ℕ
   pub running : Option ℕ
-
--- a token of the kind changes the depth, or may be or tear a cell
-abbrev pub changes : Kind → Bool
-changes k = is_opener k || is_closer k || is kind.LineComment k || is kind.InlineComment k || is kind.Assign k
 
 -- a token of the kind may be or tear a cell
 abbrev pub marks : Kind → Bool

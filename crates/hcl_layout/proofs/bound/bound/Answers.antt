@@ -16,6 +16,5 @@ returns c =
       arith,
       print_within ts c.requires.balanced c.len-count.ensures.bounded.apart,
       ap (λ (e : Extent). e.passed + taken e) all,
-      c.taken.ensures,
       c.len_bound.ensures.bound,
     )

@@ -1,5 +1,4 @@
 use Rattle.std.proofs.Common.{◌≡◌, ◌∙◌, ◌+◌, ◌≤◌, ℕ, ap, arith, drop, subst, sym}
-use Rattle.hcl_tokens.specs.Scanned.{lexeme}
 use Rattle.hcl_tokens.specs.Balanced.{max_open}
 use Rattle.hcl_grammar.specs.Items.{deepen}
 use Rattle.hcl_layout.specs.Inner.Depths.{BalancedFrom}

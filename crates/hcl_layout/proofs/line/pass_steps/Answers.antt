@@ -3,7 +3,7 @@ use Rattle.std.proofs.lemmas.Option.{slice_get_within}
 use Rattle.hcl_tokens.specs.Balanced.{max_open}
 use Rattle.hcl_grammar.specs.Items.{deepen}
 use Rattle.hcl_layout.specs.Inner.Depths.{BalancedFrom}
-use Rattle.hcl_layout.specs.Inner.Survey.{going, noted, step_of, survey_of}
+use Rattle.hcl_layout.specs.Inner.Survey.{going, step_of, survey_of}
 use Rattle.hcl_layout.proofs.NotedKindLemmas.{pointed, unstopped_goes_on, unstopped_unmarked}
 use Rattle.hcl_layout.proofs.SeenLemmas.{seen_noted}
 use Rattle.hcl_layout.proofs.SurveyLemmas.{going_on, low_at, rest_at, step_at, token_at}

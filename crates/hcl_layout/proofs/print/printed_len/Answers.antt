@@ -1,11 +1,10 @@
-use Rattle.std.proofs.Common.{◌+◌, ap, arith, length, subst, sym, refl}
+use Rattle.std.proofs.Common.{◌+◌, ap, arith, length, subst, sym}
 use Rattle.hcl_tokens.specs.Scanned.{Scanned, lexeme}
 use Rattle.hcl_tokens.specs.Balanced.{IsBalanced}
 use Rattle.hcl_layout.specs.Inner.Depths.{BalancedFrom}
 use Rattle.hcl_layout.specs.Inner.Laid.{gaps_after, left_on}
 use Rattle.hcl_layout.specs.declared.lines.Lines.{Lines}
 use Rattle.hcl_layout.proofs.BalanceLemmas.{balanced_from}
-use Rattle.hcl_layout.proofs.LaidLemmas.{stops_here}
 use Rattle.hcl_layout.proofs.PrintedLemmas.{left_all, left_piece, piece_len}
 use Rattle.hcl_layout.proofs.WalkLemmas.{start_at}
 use Rattle.hcl_layout.proofs.print.printed_len.Goals as goal

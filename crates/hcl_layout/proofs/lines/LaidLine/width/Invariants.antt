@@ -1,4 +1,4 @@
-use Rattle.std.proofs.Common.{◌≡◌, ◌<◌, ◌≤◌, ◌+◌}
+use Rattle.std.proofs.Common.{◌≡◌, ◌<◌, ◌+◌}
 use Rattle.hcl_layout.specs.Inner.Laid.{width_on}
 use Rattle.hcl_layout.proofs.lines.LaidLine.width.Given as goal
 
