@@ -125,13 +125,6 @@ occurs_at marker text place within begun = record {
   reads = λ j lt. sym (get_or-drop place text j 0) ∙ starts_reads (drop place text) marker begun j lt;
 }
 
--- one byte tells that it doesn't
-pub other_first : (marker text : List ℕ) (place : ℕ) → 0 < length marker → get_or text place 0 ≢ get_or marker 0 0 → starts (drop place text) marker ≡ false
-other_first marker text place some other = elim (cases_Bool (starts (drop place text) marker)) [
-  | inl begun ↦ absurd (other (ap (λ i. get_or text i 0) (omega arith) ∙ sym (get_or-drop place text 0 0) ∙ starts_reads (drop place text) marker begun 0 some))
-  | inr differs ↦ differs
-]
-
 -- what has the marker's bytes begins with it
 reads_starts : (text marker : List ℕ) → length marker ≤ length text → ((j : ℕ) → j < length marker → get_or text j 0 ≡ get_or marker j 0) → starts text marker ≡ true
 reads_starts [] [] fits reads = refl

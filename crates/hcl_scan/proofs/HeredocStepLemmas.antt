@@ -25,7 +25,7 @@ use Rattle.hcl_tokens.specs.declared.token.Kind.TheVariants.{HeredocOpen, Dot}
 use Rattle.hcl_scan.proofs.SliceLemmas.{front_of, back_of, slice_len, part_boundary}
 use Rattle.hcl_scan.proofs.StackLemmas.{push_offsets, closes_is, opens_so}
 use Rattle.hcl_scan.proofs.LiteralLemmas.{starts_len}
-use Rattle.hcl_scan.proofs.MarkerLemmas.{some_marker, marker_no_blank, long_opener}
+use Rattle.hcl_scan.proofs.MarkerLemmas.{some_marker, marker_no_blank}
 use Rattle.hcl_scan.proofs.KindPlaceLemmas.{heredoc}
 use Rattle.hcl_scan.proofs.TextStartLemmas.{both}
 use Rattle.hcl_scan.proofs.StepLemmas.{ahead_is, entry_is, text_len, blank_ascii}
@@ -81,9 +81,6 @@ module _ (s : Scanner) (e : Entry) (sound : IsSound s) (this : IsNext s e) (open
 
   spelled_so : (context (openers_of s.stack) ≡ Expression) × IsHeredocOpen word
   spelled_so = heredoc (openers_of s.stack) s.after_dot word rest e.kind this.longest.spelled kind_is
-
-  pub word_long : 2 ≤ length word
-  word_long = long_opener word spelled_so.1
 
   pub marker_some : 0 < length (marker_of word)
   marker_some = some_marker word spelled_so.1

@@ -1,10 +1,9 @@
 -- Literal text before the token that ends it: whatever follows that token, the elements are the same.
-use Rattle.std.proofs.Common.{◌≡◌, ℕ, zero, suc, ◌-◌, ◌<◌, ◌≤◌, ◌&&◌, ◌||◌, ◌==◌, not, Bool, true, false, List, [], ◌∷◌, ◌++◌, length, if◌then◌else◌, refl, sym, ap, ◌∙◌, arith, Option, Some, None}
+use Rattle.std.proofs.Common.{◌≡◌, ℕ, zero, suc, ◌-◌, ◌≤◌, ◌&&◌, ◌||◌, ◌==◌, not, Bool, true, false, List, [], ◌∷◌, ◌++◌, length, if◌then◌else◌, refl, sym, ap, ◌∙◌, arith, Option, Some, None}
 use Rattle.std.specs.List.{list_all}
 use Rattle.std.specs.Option.{option_map_or}
 use Rattle.std.specs.Char.{is_ascii_hexdigit}
 use Rattle.hcl_tokens.specs.Spelling.{starts, element_len, escape_len, are_elements, ends_quoted, is_dollar_or_percent, hex_digits_after}
-use Rattle.hcl_scan.proofs.ElementLemmas.{no_longer_lit}
 
 -- a front that is short looks at nothing after
 short_front : (w x y front : List ℕ) → length front ≤ length w → starts (w ++ x) front ≡ starts (w ++ y) front
@@ -102,7 +101,3 @@ pub ends_here : (y y' : List ℕ) → CloseAlike y' y → element_len true y ≡
 ends_here y y' (quote a b e e') = ap (element_len true) e'
 ends_here y y' (dollar a b e e') = ap (element_len true) e'
 ends_here y y' (percent a b e e') = ap (element_len true) e'
-
--- and no longer text is
-pub lit_alone : (text x y longer after : List ℕ) → CloseAlike x y → are_elements true 0 text x ≡ true → longer ++ after ≡ text ++ y → length text < length longer → are_elements true 0 longer after ≡ true → ⊥
-lit_alone text x y longer after h is whole lt k = no_longer_lit true 0 text y longer after (sym (literal_only true 0 text x y h) ∙ is) (ends_here y x h) whole lt k

@@ -1,9 +1,9 @@
 -- What follows a token, in a text of the same tokens with other gaps that fit, leaves the token as it is: by kinds, for
 -- literal text here.
-use Rattle.std.proofs.Common.{◌≡◌, ℕ, ◌&&◌, ◌||◌, Bool, true, false, cond, List, [], ◌∷◌, ◌++◌, drop, replicate, ◌⊎◌, inl, inr, ⊎_elim, refl, sym, ap, subst, ◌∙◌, arith, length-append, append_assoc}
+use Rattle.std.proofs.Common.{◌≡◌, ℕ, Bool, true, false, cond, List, [], ◌∷◌, ◌++◌, drop, replicate, ◌⊎◌, inl, inr, ⊎_elim, refl, sym, ap, subst, ◌∙◌, arith, length-append, append_assoc}
 use Rattle.std.specs.List.{prefix_len}
 use Rattle.hcl_tokens.specs.Lexemes.{Lexeme, Opener, in_heredoc, open_after}
-use Rattle.hcl_tokens.specs.Spelling.{IsTextIn, IsLiteral, context, Template, starts, is_blank, are_elements}
+use Rattle.hcl_tokens.specs.Spelling.{IsTextIn, IsLiteral, context, Template, is_blank, are_elements}
 use Rattle.hcl_tokens.specs.Scans.{State, gap_in, has_gaps_in, owed_opener, IsLongest, Leaves, Reads, Closes, Run, IsComplete}
 use Rattle.hcl_tokens.specs.Neighbours.{same_close, stays}
 use Rattle.hcl_tokens.specs.Regapped.{without_gaps, text_with_gaps, touches, gap_fits, AllFit}
@@ -54,9 +54,6 @@ template_of : (opens : List Opener) (dot : Bool) (kind : Kind) (text rest : List
 template_of opens dot kind text rest c (expression e k h) = absurd (not_both (context opens) true e c)
 template_of opens dot kind text rest c (template true e w) = w
 template_of opens dot kind text rest c (template false e w) = absurd (let k : true ≡ false = ap is_quoted (sym c ∙ e) in cc)
-
-close_by : (rest other : List ℕ) (a b c : Bool) → (starts rest (34 ∷ []) && starts other (34 ∷ [])) ≡ a → (starts rest (36 ∷ 123 ∷ []) && starts other (36 ∷ 123 ∷ [])) ≡ b → (starts rest (37 ∷ 123 ∷ []) && starts other (37 ∷ 123 ∷ [])) ≡ c → (a || b || c) ≡ true → same_close rest other ≡ true
-close_by rest other a b c e f g h = (λ i. e i || f i || g i) ∙ h
 
 -- the token of a template that is first in both
 close_with : (kind : Kind) (text more other : List ℕ) → Way true kind text more → (kind ≡ Lit) ⊎ (same_close (text ++ more) (text ++ other) ≡ true)

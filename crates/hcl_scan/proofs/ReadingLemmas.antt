@@ -1,10 +1,9 @@
 -- What the stack keeps stands for what is open.
-use Rattle.std.proofs.Common.{◌≡◌, ℕ, ◌+◌, ◌<◌, ◌≤◌, List, [], ◌∷◌, length, take, drop, reverse, get_or, None, refl, sym, ap, subst, ◌∙◌, arith, slice_set}
+use Rattle.std.proofs.Common.{◌≡◌, ℕ, ◌+◌, ◌<◌, List, [], ◌∷◌, length, take, drop, reverse, get_or, None, refl, sym, ap, subst, ◌∙◌, arith, slice_set}
 use Rattle.std.specs.Prelude.{map}
-use Rattle.std.proofs.lemmas.List.{reverse-append, take_more, take_more_set, length-map, length-reverse, length-take-le}
-use Rattle.std.proofs.Math.ListN.{length-set}
+use Rattle.std.proofs.lemmas.List.{reverse-append, take_more, take_more_set}
 use Rattle.hcl_tokens.specs.Spelling.{context, context_in}
-use Rattle.hcl_scan.specs.Inner.Openings.{opener_of, openers_of, closes_on, top_closes, opened_on, quoted_in}
+use Rattle.hcl_scan.specs.Inner.Openings.{opener_of, openers_of, closes_on, top_closes, quoted_in}
 use Rattle.hcl_scan.specs.Inner.Readings.{closes_in, template_in, group_reading, reading_on, opener_in, opened_of, frames_of, reading_under, AreFrames, IsRoom}
 use Rattle.hcl_scan.specs.declared.stack.Opener as kept
 use Rattle.hcl_scan.specs.declared.stack.Opener.TheVariants as by
@@ -51,34 +50,11 @@ closes_top : (fs : List Frame) → closes_in (reading_under fs) ≡ top_closes (
 closes_top [] = refl
 closes_top (f ∷ fs) = refl
 
--- THE FRAMES, OF WHICH n ARE OPEN
-pub how_many : (fs : List Frame) (n : ℕ) → n ≤ length fs → length (map opened_of (frames_of n fs)) ≡ n
-how_many fs n within = length-map (frames_of n fs) opened_of ∙ length-reverse (take n fs) ∙ length-take-le n fs within
-
 pub one_more : (fs : List Frame) (n : ℕ) (f : Frame) → n < length fs → frames_of (n + 1) (slice_set fs n f) ≡ f ∷ frames_of n fs
 one_more fs n f within = ap reverse (take_more_set fs n f within) ∙ reverse-append (take n fs) (f ∷ [])
 
 pub top_frame : (fs : List Frame) (n : ℕ) (d : Frame) → n < length fs → frames_of (n + 1) fs ≡ get_or fs n d ∷ frames_of n fs
 top_frame fs n d within = ap reverse (take_more fs n d within) ∙ reverse-append (take n fs) (get_or fs n d ∷ [])
-
--- something opens
-pub opens_frame : (fs : List Frame) (n : ℕ) (reading : Reading) (f : Frame) → n < length fs → IsRoom n fs reading → f.around ≡ reading → IsRoom (n + 1) (slice_set fs n f) (reading_on (opener_in f) reading)
-opens_frame fs n reading f within is around =
-    let more = one_more fs n f within in
-    let under : f.around ≡ reading_under (frames_of n fs) = around ∙ is.read_so in
-    record {
-      room = length-set fs n f ∙ is.room;
-      within = omega (arith, within, is.room);
-      frames = subst (λ (l : List Frame). AreFrames l) (sym more) (under, is.frames);
-      read_so = ap (reading_on (opener_in f)) (sym around) ∙ ap reading_under (sym more);
-    }
-
-pub opened_frame : (fs : List Frame) (n : ℕ) (reading : Reading) (f : Frame) → n < length fs → IsRoom n fs reading → f.around ≡ reading
-    → map opened_of (frames_of (n + 1) (slice_set fs n f)) ≡ opened_on (opener_in f) f.at (map opened_of (frames_of n fs))
-opened_frame fs n reading f within is around =
-    let closes : closes_in (reading_on (opener_in f) f.around) ≡ closes_on (opener_in f) (top_closes (map opened_of (frames_of n fs))) =
-    closes_by (opener_in f) f.around ∙ ap (λ r. closes_on (opener_in f) (closes_in r)) (around ∙ is.read_so) ∙ ap (closes_on (opener_in f)) (closes_top (frames_of n fs)) in
-    ap (map opened_of) (one_more fs n f within) ∙ ap (λ v. record { by = opener_in f; at = f.at; closes_sequence = v } ∷ map opened_of (frames_of n fs)) closes
 
 -- the top, and what is open without it
 module _ (fs : List Frame) (m n : ℕ) (reading : Reading) (f : Frame) (one : n + 1 ≡ m) (top : f ≡ get_or fs n f) (is : IsRoom m fs reading) where

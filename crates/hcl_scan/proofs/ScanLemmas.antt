@@ -1,5 +1,5 @@
 -- The scan as a whole: a run grows by the tokens read, and where it ends in a fault this is the fault of the text.
-use Rattle.std.proofs.Common.{◌≡◌, ℕ, List, [], ◌∷◌, ◌++◌, length, Result, Ok, Err, sym, ap, subst, ◌∙◌, arith}
+use Rattle.std.proofs.Common.{◌≡◌, ℕ, List, [], ◌∷◌, ◌++◌, Result, Ok, Err, sym, ap, subst, ◌∙◌, arith}
 use Rattle.std.specs.Prelude.{All, IfOk, IfErr}
 use Rattle.std.proofs.lemmas.List.{map_push}
 use Rattle.std.proofs.lemmas.List.Elements.{All-push}
@@ -27,9 +27,6 @@ stopped_there read s fault is h = subst (λ (r : Result Entry Stopped). IfErr r 
 pub none_yet : (text : List ℕ) (es : List Entry) → es ≡ [] → All (IsEntry text) es
 none_yet text es is = subst (λ (l : List Entry). All (IsEntry text) l) (sym is) (λ k d h. absurd (omega arith))
 
-pub starts_run : (text : List ℕ) (es : List Entry) (s : Scanner) → es ≡ [] → state_of s ≡ begin text → Run (begin text) (lexemes_of text es) (state_of s)
-starts_run text es s none is = subst (λ (l : List Entry). Run (begin text) (lexemes_of text l) (state_of s)) (sym none) (sym is)
-
 module _ (text : List ℕ) (es new : List Entry) (s next : Scanner) (e : Entry) (same : s.text.now ≡ text) (moved : Moves s e next) (new_is : new ≡ es ++ e ∷ []) where
   pub more_parts : All (IsEntry text) es → All (IsEntry text) new
   more_parts parts = subst (λ (l : List Entry). All (IsEntry text) l) (sym new_is) (All-push (IsEntry text) es e parts (subst (λ t. IsEntry t e) same moved.entry))
@@ -42,9 +39,6 @@ module _ (text : List ℕ) (es new : List Entry) (s next : Scanner) (e : Entry) 
       let tokens_are : lexemes_of text new ≡ lexemes_of text es ++ lexeme_of text e ∷ [] = ap (lexemes_of text) new_is ∙ map_push (lexeme_of text) es e in
       let one : Next (state_of s) (lexeme_of text e) (state_of next) = subst (λ t. Next (state_of s) (lexeme_of t e) (state_of next)) same moved.read in
       subst (λ (ts : List Lexeme). Run (begin text) ts (state_of next)) (sym tokens_are) (Run-push (begin text) (lexemes_of text es) (state_of s) (lexeme_of text e) (state_of next) run one)
-
-  pub less_left : length next.text.now ≡ length s.text.now
-  less_left = ap (λ t. length t.now) moved.same_text
 
 -- it is the fault of the text
 pub scan_fault : (text : List ℕ) (ts : List Lexeme) (s : Scanner) (fault : Stopped) → s.text.now ≡ text → Run (begin text) ts (state_of s) → IsStopped s fault → IsScanFault text fault.kind fault.at

@@ -1,5 +1,5 @@
 -- Parts of a text, and where it may be cut in them.
-use Rattle.std.proofs.Common.{◌≡◌, ℕ, suc, ◌+◌, ◌-◌, ◌≤◌, ◌<◌, List, [], ◌∷◌, length, take, drop, get_or, slice_range, sym, ap, subst, ◌∙◌, arith, length-drop, length-take-le, get_or-take, get_or-drop, ⊎_elim}
+use Rattle.std.proofs.Common.{◌≡◌, ℕ, suc, ◌+◌, ◌-◌, ◌≤◌, ◌<◌, List, ◌∷◌, length, take, drop, get_or, slice_range, sym, ap, subst, ◌∙◌, arith, length-drop, length-take-le, get_or-take, get_or-drop, ⊎_elim}
 use Rattle.std.specs.Str.{IsCharBoundary}
 use Rattle.std.proofs.Math.Nat.{add-sub_cancel_left}
 use Rattle.std.proofs.Math.Seq.{drop-cons}
@@ -14,9 +14,6 @@ back_of text at end n le =
     let m : ℕ = end - (at + n) in
     let e : end - at ≡ n + m = omega arith in
     sym (ap (λ k. drop n (take k (drop at text))) e ∙ drop-take n m (drop at text) ∙ ap (λ l. take m l) (drop-drop n at text))
-
-pub nothing_of : (text : List ℕ) (at : ℕ) → slice_range text at at ≡ []
-nothing_of text at = let e : at - at ≡ 0 = omega arith in ap (λ k. take k (drop at text)) e
 
 pub slice_len : (text : List ℕ) (at end : ℕ) → at ≤ end → end ≤ length text → length (slice_range text at end) + at ≡ end
 slice_len text at end le within = omega (arith, length-take-le (end - at) (drop at text) (omega (arith, length-drop at text)), length-drop at text)

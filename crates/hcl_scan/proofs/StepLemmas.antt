@@ -113,18 +113,9 @@ sound_new s small utf8 at end stack = record {
 pub blank_ascii : (b : ℕ) → is_blank b ≡ true → b < 128
 blank_ascii b h = grind (arith, nat_tests)
 
-pub quoted_none : (c : Context) → quoted_in c ≡ None → c ≡ Expression
-quoted_none Expression h = refl
-quoted_none (Template quoted) h = absurd (cc)
-
 pub quoted_some : (c : Context) (quoted : Bool) → quoted_in c ≡ Some quoted → c ≡ Template quoted
 quoted_some Expression quoted h = absurd (cc)
 quoted_some (Template q) quoted h = let e : q ≡ quoted = cc in ap Template e
-
-pub start_plain : (s : Scanner) → IsSound s → has_gaps_in (context (openers_of s.stack)) (in_heredoc (openers_of s.stack)) ≡ false → IsStart s s.at
-start_plain s sound none =
-    let g : gap_len (state_of s) ≡ 0 = ap (λ v. if v then prefix_len is_blank (slice_range s.text.now s.at s.end) else 0) none in
-    record { gap = omega (arith, g); within = sound.order; boundary = sound.start }
 
 pub start_gap : (s : Scanner) (start : ℕ) → IsSound s → IsUtf8 s.text.now → start ≡ s.at + prefix_len is_blank (slice_range s.text.now s.at s.end) → has_gaps_in (context (openers_of s.stack)) (in_heredoc (openers_of s.stack)) ≡ true → IsStart s start
 start_gap s start sound utf8 start_is gaps =
@@ -137,14 +128,6 @@ start_gap s start sound utf8 start_is gaps =
     let inner : IsCharBoundary seen n = run_cut is_blank blank_ascii seen (IsUtf8-between s.text.now s.at s.end utf8 sound.order sound.start sound.end) in
     let boundary : IsCharBoundary s.text.now (s.at + n) = part_boundary s.text.now s.at s.end n within sound.within sound.end inner in
     record { gap = start_is ∙ ap (λ k. s.at + k) (sym g); within = subst (λ m. m ≤ s.end) (sym start_is) within; boundary = subst (IsCharBoundary s.text.now) (sym start_is) boundary }
-
-pub no_gaps_inside : (c : Context) (inside : Bool) → inside ≡ true → has_gaps_in c inside ≡ false
-no_gaps_inside (Template q) inside h = refl
-no_gaps_inside Expression inside h = ap not h
-
-pub no_gaps_template : (c : Context) (inside quoted : Bool) → quoted_in c ≡ Some quoted → has_gaps_in c inside ≡ false
-no_gaps_template (Template q) inside quoted h = refl
-no_gaps_template Expression inside quoted h = absurd (cc)
 
 pub gaps_plain : (c : Context) (inside : Bool) → quoted_in c ≡ None → inside ≡ false → has_gaps_in c inside ≡ true
 gaps_plain (Template q) inside h k = absurd (cc)
@@ -211,18 +194,6 @@ pub record TemplateTop (text : List ℕ) (stack : List Opened) (top : Opened) : 
   pub here : context (openers_of stack) ≡ Template quoted
   pub at : top.at ≡ owed_offset (openers_of stack) (offsets_in stack)
   pub boundary : IsCharBoundary text top.at
-
-pub template_some : (text : List ℕ) (stack : List Opened) (end : ℕ) (top : Opened) → IsStack text stack end → template_top stack ≡ Some top → TemplateTop text stack top
-template_some text [] end top sound h = absurd (cc)
-template_some text (o ∷ stack) end top sound h =
-    let so = option_some (context_in (opener_of o.by)) o top h in
-    let at : top.at ≡ o.at = ap (λ (z : Opened). z.at) (sym so.0) in
-    record {
-      quoted = so.1.0;
-      here = so.1.1;
-      at = at ∙ owed_if (opener_of o.by) o.at (openers_of stack) (offsets_in stack) so.1.0 so.1.1;
-      boundary = subst (IsCharBoundary text) (sym at) sound.2;
-    }
 
 -- WHERE ALL WAS READ
 owed_none_by : (o : Opened) (stack : List Opened) (v : Bool) → (innermost_owed stack ≡ None → owed_opener (openers_of stack) ≡ None) → (if v then Some o else innermost_owed stack) ≡ None → (if v then Some (opener_of o.by) else owed_opener (openers_of stack)) ≡ None

@@ -226,9 +226,6 @@ pub waits-down : (m : Newlines) (n : ℕ) → n ≢ 0 → waits m n [] ≡ the S
 waits-down m zero h = absurd (h refl)
 waits-down m (suc n) h = let e : suc n - 1 ≡ n = omega arith in ap (λ k. the Separator at m ∷ expr at m ∷ waits m k []) (sym e)
 
-pub waits-up : (m : Newlines) (n : ℕ) → waits m (n + 1) [] ≡ the Separator at m ∷ expr at m ∷ waits m n []
-waits-up m n = let e : n + 1 ≡ suc n = omega arith in ap (λ k. waits m k []) e
-
 -- from equal symbols
 pub renamed : {A : Type 0} {count : ℕ} {xs ys zs : List Marked} {old new : List Lookahead} {r : Result A Refusal} → ys ≡ zs → Advances count xs old r ys new → Advances count xs old r zs new
 renamed {count = count} {xs = xs} {old = old} {new = new} {r = r} e h = subst (λ l. Advances count xs old r l new) e h

@@ -1,6 +1,5 @@
 -- The item of a piece, by its first two words.
-use Rattle.std.proofs.Common.{◌≡◌, ◌∙◌, ap, sym, refl, ℕ, ◌+◌, ◌≤◌, true, false, cond, List, [], ◌∷◌, ◌++◌, arith}
-use Rattle.std.proofs.lemmas.List.{append-nil}
+use Rattle.std.proofs.Common.{◌≡◌, ◌∙◌, ap, sym, refl, ℕ, ◌+◌, false, cond, List, [], ◌∷◌, ◌++◌, arith}
 use Rattle.hcl_tokens.specs.Kinds.{is}
 use Rattle.hcl_tokens.specs.declared.token.Kind.TheVariants as kind
 use Rattle.hcl_tokens.specs.Lexemes.{Lexeme}
@@ -12,18 +11,9 @@ use Rattle.hcl_syntax.specs.declared.pieces.Body.{Body}
 use Rattle.hcl_syntax.specs.declared.words.NumberedKind.{NumberedKind}
 use Rattle.hcl_grammar.specs.declared.item.Item.{Item}
 use Rattle.hcl_grammar.specs.declared.item.Item.TheVariants as item
-use Rattle.hcl_syntax.proofs.WordRangeLemmas.{words_none}
 
 abbrev head_of : NumberedKind → List ℕ → Numbered
 head_of w text = record { number = w.number; kind = w.kind; text = text }
-
-pub puts_nothing : (ts : List Lexeme) (level from to : ℕ) (old : List Item) → from ≤ to → words ts from to ≡ [] → PutsPiece ts level from to old old (record { first = to; end = to })
-puts_nothing ts level from to old h none = record {
-  is = λ inner nothing. ap (λ ws. old ++ inner ws) (words_none ts to to (omega arith)) ∙ ap (λ r. old ++ r) nothing ∙ ap (λ ws. old ++ item_of inner level ws) (sym none);
-  within = omega arith;
-  deeper = λ less. absurd (omega (arith, less));
-  begins = λ less. absurd (omega (arith, less));
-}
 
 pub puts_alone : (ts : List Lexeme) (level from to : ℕ) (old new : List Item) (name : NumberedKind) (b : Body) → IsFirst ts from to name → words ts (name.number + 1) to ≡ [] → PutsBlock ts level name.number to old new b
     → PutsPiece ts level from to old new b
@@ -50,18 +40,4 @@ puts_labelled ts level from to old new name second b f s plain h = record {
   within = h.within;
   deeper = λ less. omega (arith, h.deeper, f.from_on);
   begins = h.begins;
-}
-
-pub puts_attribute : (ts : List Lexeme) (level from to end : ℕ) (old new : List Item) (name second : NumberedKind) → IsFirst ts from to name → IsFirst ts (name.number + 1) to second → is kind.Assign second.kind ≡ true
-    → end ≡ end_of (words ts (name.number + 1) to) → new ≡ old ++ item.Attribute level name.number (second.number + 1) end ∷ [] → PutsPiece ts level from to old new (record { first = to; end = to })
-puts_attribute ts level from to end old new name second f s assign at pushed = record {
-  is = λ inner nothing.
-      ap (λ ws. new ++ inner ws) (words_none ts to to (omega arith)) ∙ ap (λ r. new ++ r) nothing ∙ append-nil new ∙ pushed
-      ∙ ap (λ n. old ++ item.Attribute level name.number (second.number + 1) n ∷ []) (at ∙ ap end_of s.first)
-      ∙ ap (λ c. old ++ cond c (item.Attribute level name.number (second.number + 1) (end_of (head_of second s.text ∷ words ts (second.number + 1) to)) ∷ []) (block inner level (head_of name f.text) (head_of second s.text ∷ words ts (second.number + 1) to))) (sym assign)
-      ∙ ap (λ ws. old ++ item_of inner level (head_of name f.text ∷ ws)) (sym s.first)
-      ∙ ap (λ ws. old ++ item_of inner level ws) (sym f.first);
-  within = omega arith;
-  deeper = λ less. absurd (omega (arith, less));
-  begins = λ less. absurd (omega (arith, less));
 }

@@ -1,5 +1,5 @@
 -- The labels of a block, token by token.
-use Rattle.std.proofs.Common.{◌≡◌, ◌∙◌, ap, sym, refl, true≢false, ℕ, ◌+◌, ◌≤◌, ◌<◌, Bool, true, false, cond, not, List, [], ◌∷◌, ◌++◌, append_assoc}
+use Rattle.std.proofs.Common.{◌≡◌, ◌∙◌, ap, sym, refl, true≢false, ℕ, ◌+◌, ◌<◌, Bool, true, false, cond, not, List, [], ◌∷◌, ◌++◌, append_assoc}
 use Rattle.std.specs.Prelude.{Some, slice_get}
 use Rattle.std.proofs.lemmas.List.{append-nil}
 use Rattle.hcl_tokens.specs.Kinds.{is}
@@ -11,7 +11,7 @@ use Rattle.hcl_grammar.specs.Items.{label_at, labels}
 use Rattle.hcl_syntax.specs.Inner.Pieces.{words}
 use Rattle.hcl_grammar.specs.declared.item.Item.{Item}
 use Rattle.hcl_grammar.proofs.NumberedLemmas.{number_of}
-use Rattle.hcl_syntax.proofs.WordRangeLemmas.{words_none, words_step, words_here, open_word}
+use Rattle.hcl_syntax.proofs.WordRangeLemmas.{words_step, words_here, open_word}
 
 comment_label : (n : ℕ) (k : Kind) (rest : List Numbered) → is_comment k ≡ true → label_at n k rest ≡ []
 comment_label n kind.LineComment rest e = refl
@@ -23,9 +23,6 @@ abbrev pub AreLabels : List Lexeme → ℕ → ℕ → List Item → List Item �
 AreLabels ts from to old new n = new ++ labels (words ts n to) ≡ old ++ labels (words ts from to)
 
 module _ (ts : List Lexeme) (from to : ℕ) (old new : List Item) (n : ℕ) where
-  pub labels_end : to ≤ n → AreLabels ts from to old new n → new ≡ old ++ labels (words ts from to)
-  labels_end past h = sym (append-nil new) ∙ ap (λ ws. new ++ labels ws) (sym (words_none ts n to past)) ∙ h
-
   pub labels_brace : (t : Lexeme) → slice_get ts n ≡ Some t → n < to → is kind.BraceOpen t.kind ≡ true → AreLabels ts from to old new n → new ≡ old ++ labels (words ts from to)
   labels_brace t e less brace h =
       sym (append-nil new)

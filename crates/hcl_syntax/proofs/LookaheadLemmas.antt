@@ -29,10 +29,6 @@ pub length-shown : (m : Newlines) (ts : List Lookahead) → length (shown m ts) 
 length-shown m [] = omega arith
 length-shown m (t ∷ ts) = elim (drops m t.class) as (λ b. length (cond b (shown m ts) (t ∷ ts)) ≤ length (t ∷ ts)) [ true ↦ omega (arith, length-shown m ts) | false ↦ omega arith ]
 
-pub length-after_first : (ts : List Lookahead) → length (after_first ts) ≤ length ts
-length-after_first [] = omega arith
-length-after_first (t ∷ ts) = omega arith
-
 shown-by : (m : Newlines) (t : Lookahead) (ts : List Lookahead) (b : Bool) → drops m t.class ≡ b → shown m ts ≡ shown m (shown m ts) → cond b (shown m ts) (t ∷ ts) ≡ shown m (cond b (shown m ts) (t ∷ ts))
 shown-by m t ts true e h = h
 shown-by m t ts false e h = sym (ap (λ b. cond b (shown m ts) (t ∷ ts)) e)

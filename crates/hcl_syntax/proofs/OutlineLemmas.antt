@@ -22,10 +22,6 @@ pub record AreItems (ts : List Lexeme) (level from to : ℕ) (old new : List Ite
 pub items_begin : (ts : List Lexeme) (level from to : ℕ) (old : List Item) → AreItems ts level from to old old from
 items_begin ts level from to old = record { is = ap (λ r. old ++ r) (sym (items_at_pieces level (words ts from to))); from_on = omega arith }
 
-pub items_end : (ts : List Lexeme) (level from to : ℕ) (old new : List Item) (start : ℕ) → to ≤ start → AreItems ts level from to old new start → new ≡ old ++ items_at level (words ts from to)
-items_end ts level from to old new start past h =
-    sym (append-nil new) ∙ ap (λ ws. new ++ flat_map (item_of (items_at (level + 1)) level) (pieces 0 ws)) (sym (words_none ts start to past)) ∙ h.is
-
 pub items_step : (ts : List Lexeme) (level from to : ℕ) (old new mid next : List Item) (start end : ℕ) (b : Body) → start < to → end ≡ min (newline_from ts 0 start) to
     → PutsPiece ts level start end new mid b → next ≡ mid ++ items_at (level + 1) (words ts b.first b.end) → AreItems ts level from to old new start → AreItems ts level from to old next (end + 1)
 items_step ts level from to old new mid next start end b less at piece deeper h = record {

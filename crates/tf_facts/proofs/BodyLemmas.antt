@@ -40,9 +40,6 @@ module _ (ts : List Numbered) (items : List Item) (n : ℕ) (i : Item) (e : slic
   pub attributes_here : attributes_in ts (drop n items) ≡ cond (is_inside i) (with_attribute (attribute ts i) (attributes_in ts (drop (n + 1) items))) []
   attributes_here = ap (attributes_in ts) (drop_at items n i e)
 
-pub labels_none : (ts : List Numbered) (items : List Item) (n : ℕ) → length items ≤ n → labels_in ts (drop n items) ≡ []
-labels_none ts items n all = ap (labels_in ts) (drop_all n items all)
-
 pub attributes_none : (ts : List Numbered) (items : List Item) (n : ℕ) → length items ≤ n → attributes_in ts (drop n items) ≡ []
 attributes_none ts items n all = ap (attributes_in ts) (drop_all n items all)
 

@@ -53,11 +53,6 @@ module _ (text : List ℕ) (byte n : ℕ) (h : n < length text) where
       ∙ prepended-onto (take n text) (get_or text n 0) (slice_split (λ b. b == byte) (drop (n + 1) text))
       ∙ ap (λ r. prepended r (slice_split (λ b. b == byte) (drop (n + 1) text))) (sym upto)
 
-  pub cuts : (rest : List ℕ) → (get_or text n 0 == byte) ≡ true → rest ≡ drop (n + 1) text → ArePassed text byte n → take n text ∷ slice_split (λ b. b == byte) rest ≡ slice_split (λ b. b == byte) text
-  cuts rest same is so =
-      ap₂ (λ r parts. r ∷ parts) (sym (append-nil (take n text))) (ap (slice_split (λ b. b == byte)) is)
-      ∙ sym (so ∙ ap (prepended (take n text)) (split_here ∙ ap (λ b. cond b ([] ∷ slice_split (λ c. c == byte) (drop (n + 1) text)) (onto_first (get_or text n 0) (slice_split (λ c. c == byte) (drop (n + 1) text)))) same))
-
 pub ends : (text : List ℕ) (byte n : ℕ) → length text ≤ n → ArePassed text byte n → text ∷ [] ≡ slice_split (λ b. b == byte) text
 ends text byte n past so =
     ap (λ r. r ∷ []) (sym (append-nil text))

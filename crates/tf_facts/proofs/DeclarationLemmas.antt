@@ -3,7 +3,7 @@ use Rattle.std.proofs.Common.{◌≡◌, ◌∙◌, ap, sym, refl, ℕ, suc, zer
 use Rattle.std.specs.Prelude.{◌==◌, Option, Some, None, IfSome, codes, find, slice_get}
 use Rattle.std.specs.Option.{option_map}
 use Rattle.std.specs.Str.{bytes_eq}
-use Rattle.std.proofs.lemmas.List.{append-nil, drop_all}
+use Rattle.std.proofs.lemmas.List.{append-nil}
 use Rattle.hcl_tokens.specs.Lexemes.{Lexeme}
 use Rattle.hcl_grammar.specs.Numbered.{Numbered, numbered}
 use Rattle.hcl_grammar.specs.Items.{is_closed, outline}
@@ -26,7 +26,7 @@ use Rattle.tf_facts.specs.declared.names.Names.{Names}
 use Rattle.tf_facts.specs.declared.names.Names.TheVariants as names
 use Rattle.tf_facts.specs.declared.value.Value.{Value}
 use Rattle.tf_facts.specs.declared.value.Plain.{Plain}
-use Rattle.tf_facts.proofs.BodyLemmas.{attributes_here, attributes_none}
+use Rattle.tf_facts.proofs.BodyLemmas.{attributes_here}
 
 -- ---- labels
 
@@ -112,16 +112,8 @@ module _ (ts : List Numbered) (token : ℕ) (texts : List (List ℕ)) (attribute
   abbrev pub whole : List (Declaration ℕ)
   whole = by_declarer ts token texts attributes (declarer (text_of ts token))
 
-  pub declares_none : None ≡ declarer word → [] ≡ whole
-  declares_none none = ap (by_declarer ts token texts attributes) (none ∙ ap declarer same)
-
   abbrev one : Declarer → Declaration ℕ
   one d = made d.kind texts token (has (codes "description") attributes) (has (codes "type") attributes) (has (codes "version") attributes) (cond (is_module d.kind) (module_source ts attributes) None)
-
-  pub declares_other : (d : Declarer) → Some d ≡ declarer word → (length texts == d.labels) ≡ false → [] ≡ whole
-  declares_other d some other =
-      ap (λ b. cond b (one d ∷ []) []) (sym other)
-      ∙ ap (by_declarer ts token texts attributes) (some ∙ ap declarer same)
 
   pub declares_one : (d : Declarer) → Some d ≡ declarer word → (length texts == d.labels) ≡ true → (found : Declared) → found.kind ≡ d.kind → texts_of found.names ≡ texts → found.at ≡ token
       → found.is_described ≡ has (codes "description") attributes → found.is_typed ≡ has (codes "type") attributes → found.is_versioned ≡ has (codes "version") attributes
@@ -144,9 +136,6 @@ abbrev pub AreLocals : List Numbered → List Item → ℕ → List Declared →
 AreLocals ts items from old new n = map declaration new ++ map of_local (attributes_in ts (drop n items)) ≡ map declaration old ++ map of_local (attributes_in ts (drop from items))
 
 module _ (ts : List Numbered) (items : List Item) (from : ℕ) (old new : List Declared) (n : ℕ) where
-  pub locals_end : length items ≤ n → AreLocals ts items from old new n → map declaration new ≡ map declaration old ++ map of_local (attributes_in ts (drop from items))
-  locals_end past h = sym (append-nil (map declaration new)) ∙ ap (λ more. map declaration new ++ map of_local more) (sym (attributes_none ts items n past)) ∙ h
-
   module _ (i : Item) (e : slice_get items n ≡ Some i) where
     pub locals_over : is_inside i ≡ false → AreLocals ts items from old new n → map declaration new ≡ map declaration old ++ map of_local (attributes_in ts (drop from items))
     locals_over outside h =
@@ -175,9 +164,6 @@ abbrev pub AreDeclared : List Numbered → List Item → List Declared → ℕ �
 AreDeclared ts items found n = map declaration found ++ of_items ts (drop n items) ≡ of_items ts items
 
 module _ (ts : List Numbered) (items : List Item) (found : List Declared) (n : ℕ) where
-  pub declared_end : length items ≤ n → AreDeclared ts items found n → map declaration found ≡ of_items ts items
-  declared_end past h = sym (append-nil (map declaration found)) ∙ ap (λ is. map declaration found ++ of_items ts is) (sym (drop_all n items past)) ∙ h
-
   there_is : (k : ℕ) (xs : List Item) → k < length xs → (i : Item) × (slice_get xs k ≡ Some i)
   there_is k [] h = absurd (omega (arith, h))
   there_is zero (x ∷ xs) h = (x, refl)

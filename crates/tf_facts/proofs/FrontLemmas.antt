@@ -41,8 +41,5 @@ end_here_at passes text end n at h e = ap (λ k. without_end passes (take k text
 
 -- ---- after the first `?`
 
-pub question_past : (text : List ℕ) (n : ℕ) → n < length text → (get_or text n 0 == 63) ≡ false → after_question (drop n text) ≡ after_question (drop (n + 1) text)
-question_past text n h e = ap after_question (drop_here text n h) ∙ ap (λ b. cond b (drop (n + 1) text) (after_question (drop (n + 1) text))) e
-
 pub question_here : (text : List ℕ) (n : ℕ) → n < length text → (get_or text n 0 == 63) ≡ true → after_question (drop n text) ≡ drop (n + 1) text
 question_here text n h e = ap after_question (drop_here text n h) ∙ ap (λ b. cond b (drop (n + 1) text) (after_question (drop (n + 1) text))) e

@@ -1,7 +1,6 @@
 -- Whether a reference stands in the block of its own variable.
 use Rattle.std.proofs.Common.{◌≡◌, ◌∙◌, ap, sym, refl, ℕ, suc, zero, ◌+◌, ◌≤◌, ◌<◌, Bool, true, false, cond, max, List, [], ◌∷◌, ◌++◌, map, length, drop, arith, subst}
 use Rattle.std.specs.Prelude.{◌&&◌, ◌||◌, nat_le, nat_lt, codes, Some, None, Option, slice_get, filter, ◌==◌}
-use Rattle.std.specs.List.{list_any}
 use Rattle.std.proofs.lemmas.Bool.{lt-ltb, le-ltb, lt-leb}
 use Rattle.std.specs.Str.{bytes_eq}
 use Rattle.tf_facts.specs.OwnBlocks.{own_of, Apart, ArePassed}
@@ -20,11 +19,6 @@ use Rattle.tf_facts.specs.declared.reference.Reference.{Reference}
 use Rattle.tf_facts.specs.declared.reference.Reference.TheVariants.{Variable, Local, Data}
 use Rattle.tf_facts.specs.Inner.Spelled.{spelled}
 use denote.Bor.{Bor}
-use Rattle.tf_facts.proofs.TextLemmas.{list_any-map}
-
-pub own_variable : (blocks : List OwnBlock) (number : ℕ) (name : List ℕ)
-    → is_own (map own_of blocks) number (variable_reference name) ≡ list_any (λ o. nat_le o.first number && nat_lt number o.end && bytes_eq o.name.now name) blocks
-own_variable blocks number name = list_any-map (λ o. nat_le o.first number && nat_lt number o.end && bytes_eq (variable_reference o.name) (variable_reference name)) own_of blocks
 
 and_false : (b : Bool) → (b && false) ≡ false
 and_false true = refl

@@ -114,9 +114,6 @@ module _ (ts : List Numbered) (items : List Item) (n level token end : ℕ) (e :
   at_level : (b : Bool) → is_closed level ≡ b → map own_as (variables (cond b inside [])) ≡ own_of_item ts x rest
   at_level b is = ap (λ c. map own_as (variables (cond c inside []))) (sym is) ∙ ap (λ i. own_of_item ts i rest) same
 
-  pub owner_deeper : is_closed level ≡ false → [] ≡ own_of_item ts x (drop (n + 1) items)
-  owner_deeper deeper = at_level false deeper
-
   at_top : is_closed level ≡ true → (ds : List (Declaration ℕ)) → ds ≡ all_by → map own_as (variables ds) ≡ own_of_item ts x rest
   at_top top ds is = ap (λ es. map own_as (variables es)) is ∙ ap (map own_as) (variables_in ts token (labels_in ts rest) (attributes_in ts rest)) ∙ at_level true top
 

@@ -172,6 +172,3 @@ module _ (ts : List Lexeme) (n m : ℕ) (at : m ≡ n + 1) (indexes interpolatio
       let says = at_closer t.kind (part_is part.Closes p) in
       walk_over false false false true (λ d. d - 1) indexes interpolations rest closed says (sym (append-nil indexes)) (sym (append-nil interpolations)) (λ never. absurd (cc))
       (closes ts n t e openers rest flag says (is_flag ∙ h.quote) pushed h.closes)
-
-pub walk_ends : (ts : List Lexeme) (test : List Numbered → Bool) (n : ℕ) (found turned : List ℕ) → n ≡ 0 → reverse found ≡ numbers_where test (seen_from ts n) → turned ≡ reverse found → turned ≡ numbers_where test (seen_from ts 0)
-walk_ends ts test n found turned at h is = is ∙ h ∙ ap (λ k. numbers_where test (seen_from ts k)) at

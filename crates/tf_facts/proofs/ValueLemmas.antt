@@ -1,5 +1,5 @@
 -- The tokens of a value, one by one.
-use Rattle.std.proofs.Common.{◌≡◌, ◌∙◌, ap, sym, ℕ, suc, ◌+◌, ◌-◌, ◌<◌, ◌≤◌, true, false, cond, List, [], ◌∷◌, take, drop, arith}
+use Rattle.std.proofs.Common.{◌≡◌, ◌∙◌, ap, sym, ℕ, suc, ◌+◌, ◌-◌, ◌<◌, true, false, cond, List, ◌∷◌, take, drop, arith}
 use Rattle.std.specs.Prelude.{Some, filter, slice_get}
 use Rattle.hcl_tokens.specs.Lexemes.{Lexeme}
 use Rattle.hcl_grammar.specs.Numbered.{numbered}
@@ -19,6 +19,3 @@ values_here ts n to t e h within = values_step ts n to t e h ∙ ap (λ b. cond 
 
 pub values_past : (ts : List Lexeme) (n to : ℕ) (t : Lexeme) → slice_get ts n ≡ Some t → n < to → in_value (number_of n t) ≡ false → values ts n to ≡ values ts (n + 1) to
 values_past ts n to t e h out = values_step ts n to t e h ∙ ap (λ b. cond b (number_of n t ∷ values ts (n + 1) to) (values ts (n + 1) to)) out
-
-pub values_none : (ts : List Lexeme) (n to : ℕ) → to ≤ n → values ts n to ≡ []
-values_none ts n to h = let none : to - n ≡ 0 = omega arith in ap (λ k. filter in_value (take k (drop n (numbered ts)))) none

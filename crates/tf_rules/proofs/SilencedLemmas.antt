@@ -77,13 +77,6 @@ module _ (comments : List (Comment Place)) (c : KeptComment) (file line : ℕ) (
   pub on_more : (list_any (is_on file line rule) comments || ((c.at.file == file) && (c.at.at.line == line) && holds c.silences rule)) ≡ list_any (is_on file line rule) (comments ++ kept_comment c ∷ [])
   on_more = ap (λ b. list_any (is_on file line rule) comments || ((c.at.file == file) && (c.at.at.line == line) && b)) (sym (among c.silences rule)) ∙ sym with_one
 
-  pub on_none : is_any (rules_of c.silences) ≡ false → list_any (is_on file line rule) comments ≡ list_any (is_on file line rule) (comments ++ kept_comment c ∷ [])
-  on_none none =
-      sym (or_false (list_any (is_on file line rule) comments))
-      ∙ ap (λ b. list_any (is_on file line rule) comments || b)
-      (sym (and_right ((c.at.file == file) && (c.at.at.line == line)) (list_any (is_rule rule) (rules_of c.silences)) (none_among (is_rule rule) (rules_of c.silences) none)))
-      ∙ sym with_one
-
 pub kept_more : (xs : List KeptComment) (i : ℕ) (d : KeptComment) → i < length xs → map kept_comment (take i xs) ++ kept_comment (get_or xs i d) ∷ [] ≡ map kept_comment (take (i + 1) xs)
 kept_more xs i d less = sym (ap (map kept_comment) (take_more xs i d less) ∙ map-append kept_comment (take i xs) (get_or xs i d ∷ []))
 
