@@ -107,6 +107,22 @@ def instructions(words, path):
     return int(found[-1]) if found else None
 
 
+def where_taken(load):
+    """A sentence that says where figures are from: the processor, the load at the start and the day."""
+    model = [it.split(':', 1)[1].strip() for it in open('/proc/cpuinfo') if it.startswith('model name')]
+    where = (model[0] if model else 'unknown processor', os.cpu_count(), load, time.strftime('%d %B %Y'))
+    return 'Taken on %s, %d cores, begun at a load of %.1f, on %s:\n\n' % where
+
+
+def into(document, mark, text):
+    """Puts a text between the marks that a document has for it."""
+    before, begin, rest = document.read_text(encoding='utf-8').partition('<!-- %s -->\n' % mark)
+    if not begin:
+        raise SystemExit('%s has no mark for %s' % (document, mark))
+    _, end, after = rest.partition('<!-- end -->')
+    document.write_text(before + begin + text + end + after, encoding='utf-8')
+
+
 def in_ms(seconds):
     return '%.2f ms' % (seconds * 1000) if seconds < 0.1 else '%.0f ms' % (seconds * 1000)
 
