@@ -204,8 +204,12 @@ void *calloc(size_t count, size_t size) {
     return is_refused(MEMORY, ENOMEM) ? NULL : counted_in(__libc_calloc(count, size));
 }
 
+/* Whether a block is to give some of itself back, which is no request: no block has more than these bytes beyond what was
+   asked for it. */
+static int gives_back(void *kept, size_t size) { return size > 0 && size + 24 < malloc_usable_size(kept); }
+
 void *realloc(void *kept, size_t size) {
-    if (is_refused(MEMORY, ENOMEM))
+    if (!gives_back(kept, size) && is_refused(MEMORY, ENOMEM))
         return NULL;
     size_t before = malloc_usable_size(kept);
     void *made = __libc_realloc(kept, size);
