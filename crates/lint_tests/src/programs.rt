@@ -12,9 +12,6 @@ use tree_devices::memory_tree::MemoryTree;
 use tree_lint::module_tree::ModuleTree;
 use tree_lint::written::Terminals;
 
-/// How many calls a run over `a` and `other` makes of a tree.
-const FAILING_CALLS: u64 = 29;
-
 /// Words of a line.
 pub(crate) type Words = &'static [&'static [u8]];
 
@@ -454,38 +451,68 @@ fn modules_of_linked_files_are_linted(rt: HostRuntime) {
     shows(&rt, rt.alloc(), SHARED, &EACH_MODULE);
 }
 
-/// What a run over `a` and `other` shows of which this call of the tree fails, and whether one did.
-fn failing(rt: &impl Abort, alloc: Global, call: usize) -> (u8, bool, bool) {
+/// A run whose calls fail in turn: its words, and how many calls of a tree it makes.
+struct FailingRun {
+    words: Words,
+    calls: u64,
+}
+
+/// Over folders, which are walked, and over a file that is named, whose folder is looked into by itself.
+static FAILING: [FailingRun; 2] = [
+    FailingRun {
+        words: &[b"tfrules-all", b"--quiet", b"a", b"other"],
+        calls: 29,
+    },
+    FailingRun {
+        words: &[b"tfrules-all", b"--quiet", b"a/main.tf"],
+        calls: 12,
+    },
+];
+
+/// What stands on standard input of a run that isn't to read it.
+const UNREAD: &[u8] = b"a\0";
+
+/// What a run shows of which this call of the tree fails, and whether one did. It leaves standard input alone.
+fn failing(rt: &impl Abort, alloc: Global, words: Words, call: usize) -> (u8, bool, bool) {
     let failures = Failures {
         call: Some(call),
         ..STEADY
     };
     let tree = MemoryTree::new(alloc, ENTRIES, failures).expect(rt, "memory");
     let mut files = ModuleTree::new(tree, Hashing::shared());
-    let mut input = MemorySource::new(b"", 4096);
+    let mut input = MemorySource::new(UNREAD, 4096);
     let mut out = MemorySink::new(4096);
     let mut err = MemorySink::new(4096);
-    let words: [&[u8]; 4] = [b"tfrules-all", b"--quiet", b"a", b"other"];
     let status = program(
-        alloc, &words, PIPES, &mut files, &mut input, &mut out, &mut err,
+        alloc, words, PIPES, &mut files, &mut input, &mut out, &mut err,
     );
+    assert_eq!(rt; input.rest(), UNREAD, "standard input of {:?}", words);
     let has_failed = files.tree.calls().failed().is_some();
     (status, has_failed, !err.bytes().is_empty())
 }
 
-#[test]
-fn each_failed_call_is_told(rt: HostRuntime) {
+/// How many calls of a run fail in turn, each of which is told.
+fn failed_calls(rt: &impl Abort, alloc: Global, words: Words) -> u64 {
     let mut count: u64 = 0;
     for call in 0..100 {
-        let (status, has_failed, is_told) = failing(&rt, rt.alloc(), call);
+        let (status, has_failed, is_told) = failing(rt, alloc, words, call);
         let wanted = if has_failed { 1 } else { 2 };
-        assert!(&rt;
+        assert!(rt;
             status == wanted && is_told == has_failed,
-            "where call {call} fails"
+            "where call {call} of {:?} fails",
+            words
         );
         if has_failed {
             count = count.saturating_add(1);
         }
     }
-    assert_eq!(&rt; count, FAILING_CALLS, "calls of a run");
+    count
+}
+
+#[test]
+fn each_failed_call_is_told(rt: HostRuntime) {
+    for run in &FAILING {
+        let count = failed_calls(&rt, rt.alloc(), run.words);
+        assert_eq!(&rt; count, run.calls, "calls of {:?}", run.words);
+    }
 }
