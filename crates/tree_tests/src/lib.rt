@@ -1,5 +1,6 @@
-//! Tests of `tree_command` by its public items: whole runs of `program` over a tree in memory, of which calls fail. They
-//! stand in a crate of their own, since a crate with tests is proved twice.
+//! Tests of `tree_command` by its public items: whole runs of `program` over a tree in memory, of which calls fail, and
+//! the mode of a new file, which no such run shows. They stand in a crate of their own, since a crate with tests is
+//! proved twice.
 #![tactic(auto)]
 
 #[cfg(test)]
@@ -12,6 +13,8 @@ mod devices;
 mod expected;
 #[cfg(test)]
 mod failure_tests;
+#[cfg(test)]
+mod mode_tests;
 #[cfg(test)]
 mod rows;
 #[cfg(test)]
