@@ -103,7 +103,7 @@ def ordinary_table(words, store, times, measured=None):
     if all(peaks):
         kept = (peaks[3] - peaks[1]) / (len(modules[3]) - 1)
         shown += (
-            '\n\nWhat is kept of a file of 4 MiB: %.1f MiB; the peak less that of all files: %.1f MiB, %.1f times the '
+            '\n\nStored facts of a file of 4 MiB: %.1f MiB; the peak less those of all files: %.1f MiB, %.1f times the '
             'largest file.' % (kept / MIB, (peaks[1] - kept) / MIB, (peaks[1] - kept) / len(modules[1][0]))
         )
     return shown
