@@ -1,4 +1,4 @@
--- Of accepted tokens no more are open than may be.
+-- Accepted tokens never have more open than is allowed.
 use Rattle.std.proofs.Common.{◌≡◌, ◌+◌, ◌-◌, ◌<◌, ◌≤◌, ℕ, suc, Bool, true, false, List, [], ◌∷◌, length, refl, sym, arith, take, drop}
 use Rattle.std.proofs.lemmas.List.{take-append-drop}
 use Rattle.std.specs.Prelude.{IsTrue, if◌then◌else◌, not, ◌&&◌}

@@ -1,4 +1,4 @@
--- A print is no longer than what its lines tell one by one: without its one blank, a gap before a sign is no wider than the
+-- A print is no longer than the bound from its lines: without its one blank, a gap before a sign is no wider than the
 -- greatest width before a cell of its group, and one before a comment no wider than twice that.
 use Rattle.std.proofs.Common.{◌≡◌, ◌∙◌, ◌+◌, ◌-◌, ◌*◌, ◌++◌, ◌<◌, ◌≤◌, ℕ, suc, zero, Bool, true, false, List, [], ◌∷◌, Option, Some, None, length, ap, ap₂, refl, sym, arith, subst, drop, get_or, max, min, take, replicate, length-append}
 use Rattle.std.specs.Prelude.{IfSome, nat_lt, option_map, slice_get, slice_set}
@@ -26,7 +26,7 @@ use Rattle.hcl_layout.proofs.StreamLemmas.{BalancedLines, after_low, balanced_li
 
 -- ---- the gaps of one line
 
--- what the gaps take, but for one blank before each token
+-- the gaps, apart from one blank before each token
 abbrev excess : List ℕ → ℕ
 excess [] = 0
 excess (g ∷ gs) = (g - 1) + excess gs
@@ -62,11 +62,11 @@ set_excess (g ∷ gs) (suc i) gap = omega (arith, set_excess gs i gap)
 
 -- ---- cells in columns
 
--- at most so much, where it is known
+-- at most this much, if it is known
 abbrev UpTo : ℕ → Option ℕ → Type 0
 UpTo most column = IfSome column (λ c. c ≤ most)
 
--- so much for a cell
+-- this much for a cell
 abbrev share : Option ℕ → ℕ → ℕ
 share None most = 0
 share (Some i) most = most
@@ -107,7 +107,7 @@ sound_after d e levels low p = go (nat_lt d e) refl
 plain_low : (d : ℕ) (levels : List ℕ) (l : Line) → Sound d levels → excess (plain d levels l) ≤ 2 * d
 plain_low d levels l p = omega (arith, plain_excess (level_at d (depth_after d l) levels) l, level_low d (depth_after d l) levels p)
 
--- ---- what stands before a cell in the source
+-- ---- the source text before a cell
 
 front_room : (l : Line) (i n : ℕ) → AreApart n l → i < length l → len_with_blanks (take i l) + n ≤ start_of (drop i l) + i
 front_room [] i n p lt = absurd (omega (arith, lt))
@@ -131,7 +131,7 @@ room_tells l (Some j) i n p e lt =
     by : (a b : ℕ) → Some a ≡ Some b → b ≡ a
     by a b e = cc
 
--- where the token at a place of a line stands
+-- the place of the token at a place of a line
 pub place_starts : (ts : List Lexeme) (at len i : ℕ) (t : Lexeme) → slice_get ts (at + i) ≡ Some t → i < len → start_of (drop i (take len (drop at ts))) ≡ t.start
 place_starts ts at len i t e lt =
     let whole : len ≡ i + (len - i) = omega (arith, lt) in
@@ -168,7 +168,7 @@ lines_apart (t ∷ ts) n p = go (lines_apart ts (t.start + length t.text) p.1) (
     go r true e = rw e ((p.0, tt), lines_lower (lines ts) (t.start + length t.text) r)
     go r false e = rw e (onto_apart t n (lines ts) p.0 r)
 
--- lines that begin where no more are open than may be
+-- lines that begin with no more open than is allowed
 record Fair (d : ℕ) (levels : List ℕ) (ls : List Line) : Type 0 where
   sound : Sound d levels
   low : d ≤ max_open
@@ -180,7 +180,7 @@ fair_after d levels l ls p =
     let low : depth_after d l ≤ max_open = after_low l d p.balanced.0 p.low in
     record { sound = sound_after d (depth_after d l) levels low p.sound; low = low; balanced = p.balanced.1; apart = p.apart.1 }
 
--- ---- the width that the group at hand has at last
+-- ---- the least width of the current group
 
 abbrev last_by : ℕ → ℕ → ℕ → ℕ
 last_by zero w then = w
@@ -203,7 +203,7 @@ signed_excess : (d : ℕ) (levels : List ℕ) (l : Line) (column : Option ℕ) (
     → excess (align assign_cell (plain d levels l) l column) ≤ 2 * d + share (assign_cell l) most
 signed_excess d levels l column most p q = omega (arith, cell_excess most (assign_cell l) (plain d levels l) l column q, plain_low d levels l p)
 
--- the width before a sign, and before a comment where the sign's column is no wider
+-- the width before a sign, and before a comment if the sign's column is no wider
 sign_upto : (d w i : ℕ) (levels : List ℕ) (l : Line) (ls : List Line) → Fair d levels (l ∷ ls) → assign_cell l ≡ Some i
     → width i (plain d levels l) l ≤ last (depth_after d l) (max w (room_of d l)) ls
 sign_upto d w i levels l ls p e =
@@ -229,7 +229,7 @@ comment_upto d w j levels l ls column most p e q le =
       le,
     )
 
--- no width before a sign is more
+-- no width before a sign is greater
 signs_widest : (ls : List Line) (d w : ℕ) (levels : List ℕ) → Fair d levels ls → widest (assign_widths d levels ls) ≤ last d w ls
 signs_widest [] d w levels p = omega arith
 signs_widest (l ∷ ls) d w levels p =
@@ -247,7 +247,7 @@ signs_widest (l ∷ ls) d w levels p =
 column_upto : (ls : List Line) (d w : ℕ) (levels : List ℕ) (column : Option ℕ) → Fair d levels ls → UpTo (last d w ls) column → UpTo (last d w ls) (assign_column d levels column ls)
 column_upto ls d w levels column p q = next_upto (last d w ls) column (assign_widths d levels ls) (signs_widest ls d w levels p) q
 
--- a column of signs that is no wider than the group isn't so after a line of it, nor where there is none
+-- a column of signs that is no wider than the group stays so only over a line of the group
 carried : (a b : Option ℕ) (f : ℕ → ℕ) (ws : List (Option ℕ)) (column : Option ℕ) (indent room : ℕ) (e : Extent) (g : ℕ → ℕ)
     → UpTo (last_by (cells_of a b) e.width (g (max e.width room))) (next_of column (option_map f a ∷ ws))
     → UpTo (g (with_cells (cells_of a b) indent room e).width) (next_of column (option_map f a ∷ ws))
@@ -281,18 +281,18 @@ comments_widest (l ∷ ls) d w levels column p q =
     by None (Some j) f ws then column p q r = omega (arith, q j refl p, r p)
     by (Some i) (Some j) f ws then column p q r = omega (arith, q j refl p, r p)
 
--- the column of the comment of a line, which is none where the line has none of a run
+-- the column of the comment of a line; none if its comment is in no run
 beside : (f : ℕ → ℕ) (ws : List (Option ℕ)) (cell column : Option ℕ) (most : ℕ) → UpTo most (next_of column (option_map f cell ∷ ws)) → UpTo (share cell most) (next_of column (option_map f cell ∷ ws))
 beside f ws None column most p = tt
 beside f ws (Some i) column most p = p
 
 -- ---- all lines
 
--- so many blanks at most, where the group at hand is no wider
+-- this many blanks at most, if the current group is no wider
 abbrev cost : ℕ → Extent → ℕ
 cost most e = e.passed + e.cells * most
 
--- a line more
+-- another line
 cost_more : (a b : Option ℕ) (indent room : ℕ) (e : Extent) (g : ℕ → ℕ)
     → cost (g (with_cells (cells_of a b) indent room e).width) (with_cells (cells_of a b) indent room e)
     ≡ cost (last_by (cells_of a b) e.width (g (max e.width room))) e + (indent + share a (last_by (cells_of a b) e.width (g (max e.width room))) + share b (2 * last_by (cells_of a b) e.width (g (max e.width room))))

@@ -1,5 +1,5 @@
--- No more grapheme clusters than bytes, as many as characters in a text whose characters are alone, and as many as bytes in
--- one that is ASCII without CR.
+-- A text has no more grapheme clusters than bytes; as many as characters if each is a cluster by itself; and as many as
+-- bytes if it is ASCII without CR.
 use Rattle.std.proofs.Common.{IsUtf8, cond, get_or, not, one-add, subst, length-append, length-take-le, ◌≡◌, ◌∙◌, ◌+◌, ◌-◌, ◌*◌, ◌≤◌, ◌<◌, ◌==◌, ◌&&◌, ap, ap₂, sym, refl, true≢false, ℕ, suc, zero, Bool, true, false, List, [], ◌∷◌, length, arith, drop, take, add-one, inl, inr}
 use Rattle.std.specs.Prelude.{encode_utf8_all, ◌++◌, ◌||◌, map, nat_le, nat_lt, unwrap_or}
 use Rattle.hcl_layout.specs.Inner.Simple.{IsFrom, are_alone, first_alone, further_alone, is_alone, is_simple, is_simple_byte, within_any}
@@ -56,9 +56,9 @@ unfolding segments
 clusters_few text =
     omega (arith, length-map (cut (is_grapheme_break true) [] (chars text) []) encode_utf8_all, cut_few (is_grapheme_break true) [] (chars text) [], chars_few text)
 
--- ---- characters that are alone
+-- ---- characters that are clusters by themselves
 
--- what breaks on both sides, but for the ends of lines and what looks further back
+-- classes that break on both sides, apart from the ends of lines and the rules that look further back
 abbrev lone : GraphemeClusterBreak → Bool
 lone Other = true
 lone Control = true
@@ -99,7 +99,7 @@ alone_class c e = go (in_ranges alone_ranges c) (sym (within_any_is first_alone 
         (parts.0, not-true (is_consonant (indic_conjunct_break c)) parts.1)
     go false p h = absurd (true≢false (sym p))
 
--- whether two characters of these classes break, where the tables' further rules say so of two others
+-- whether two characters of these classes break, given the answer of the tables' further rules
 pair_breaks : (l r : GraphemeClusterBreak) (more : Bool) → lone l ≡ true → lone r ≡ true → (Other ≡ l → Other ≡ r → more ≡ true) → unwrap_or (break_by_pair true l r) more ≡ true
 pair_breaks Control Control more p q f = refl
 pair_breaks Control Cr more p q f = absurd (true≢false (sym q))
@@ -155,7 +155,7 @@ pair_breaks Other Other more p q f = f refl refl
 pair_breaks Other Zwj more p q f = absurd (true≢false (sym q))
 pair_breaks Zwj r more p q f = absurd (true≢false (sym p))
 
--- the rules that look further back part two others, if the second is no consonant
+-- the rules that look further back separate two characters if the second is no consonant
 others_break : (c n : ℕ) (before : List ℕ) → Other ≡ grapheme_cluster_break c → Other ≡ grapheme_cluster_break n → is_consonant (indic_conjunct_break n) ≡ false
     → not ((true && joins_conjunct (c ∷ before) n) || joins_emoji (c ∷ before) n || joins_flag (c ∷ before) n) ≡ true
 others_break c n before left right e =
@@ -221,7 +221,7 @@ front_boundary text (suc n) utf8 is =
     let low = simple_low (get_or text n 0) (prefix_len_passes is_simple_byte text n 0 there) in
     subst (IsCharBoundary text) (add-one n) (IsCharBoundary-after_ascii text n utf8 (omega (arith, there, prefix_len-le-length is_simple_byte text)) low)
 
--- as many as bytes there, and as characters after it
+-- as many clusters as bytes there, and as characters after it
 pub clusters_front : (text : List ℕ) (n count : ℕ) → IsUtf8 text → n ≡ prefix_len is_simple_byte text → are_alone (chars (drop n text)) ≡ true → count ≡ length (chars (drop n text)) → n + count ≡ length (graphemes true text)
 clusters_front text n count utf8 is alone counted =
     let front : List ℕ = take n text in
@@ -233,7 +233,7 @@ clusters_front text n count utf8 is alone counted =
     let within : n ≤ length text = omega (arith, is, prefix_len-le-length is_simple_byte text) in
     omega (arith, clusters_alone text all, ap length same, length-append front (chars rest), length-take-le n text within, counted)
 
--- a part of a text that is simple
+-- a part of a simple text
 simple_drop : (n : ℕ) (text : List ℕ) → is_simple text ≡ true → is_simple (drop n text) ≡ true
 simple_drop zero text e = e
 simple_drop (suc n) [] e = e

@@ -1,9 +1,9 @@
--- One column serves a whole run.
+-- One column is right for a whole run.
 use Rattle.std.proofs.Common.{◌≡◌, ℕ, List, [], ◌∷◌, Option, Some, None, max, ap, ap₂, arith, length, refl}
 use Rattle.hcl_layout.specs.Columns.{columns_after, widest}
 use Rattle.hcl_layout.specs.Inner.Stream.{next_of}
 
--- the columns from here on, by the column of the line before
+-- the columns from here on, given the column of the line before
 abbrev pub columns_at : Option ℕ → List (Option ℕ) → List (Option ℕ)
 columns_at column [] = []
 columns_at column (width ∷ rest) = next_of column (width ∷ rest) ∷ columns_at (next_of column (width ∷ rest)) rest
@@ -22,7 +22,7 @@ mutual
   outside before (None ∷ rest) e = ap (λ l. None ∷ l) (outside (None ∷ before) rest refl)
   outside before (Some width ∷ rest) e = ap₂ (λ c l. some c ∷ l) (omega (arith, e)) (in_run (Some width ∷ before) (max width (widest rest)) rest (omega (arith, e)))
 
--- outside a run the lines before don't count
+-- outside a run the lines before make no difference
 pub before_run : (xs : List (Option ℕ)) → columns_after [] xs ≡ columns_at None xs
 before_run xs = outside [] xs refl
 

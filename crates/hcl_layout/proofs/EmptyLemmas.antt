@@ -1,4 +1,4 @@
--- Only no tokens print nothing.
+-- Only an empty token list prints nothing.
 use Rattle.std.proofs.Common.{◌≡◌, ◌==◌, ◌++◌, ◌<◌, ◌∙◌, ℕ, false, sym, List, [], ◌∷◌, inl, inr, length, ap, arith, refl, replicate, length-append}
 use Rattle.std.proofs.lemmas.Bool.Decides.{nat_tests}
 use Rattle.hcl_tokens.specs.Lexemes.{Lexeme, Opener}

@@ -22,7 +22,7 @@ blanks_pass : (n : ℕ) → list_all blank (replicate n 32) ≡ true
 blanks_pass zero = refl
 blanks_pass (suc n) = blanks_pass n
 
--- so many blanks at the front
+-- this many blanks at the front
 pub blank_front : (xs : List ℕ) (gap : ℕ) → gap ≤ length xs → list_all (λ b. b == 32) (take gap xs) ≡ true → xs ≡ replicate gap 32 ++ drop gap xs
 blank_front xs gap le e =
     let long : length (take gap xs) ≡ gap = length-take-le gap xs le in
@@ -47,7 +47,7 @@ text_front xs text e = sym (take-append-drop (length text) xs) ∙ ap (λ l. l +
 pub not_text : (xs text rest : List ℕ) → starts_with nat_eq xs text ≡ false → xs ≢ text ++ rest
 not_text xs text rest e f = other_text text (take (length text) xs) (sym e) (sym (front_of (length text) xs text rest refl f))
 
--- the text is a part of what it is looked for in
+-- the text is a part of the text in which it is searched for
 pub front_text : (xs text : List ℕ) → text ≡ take (length text) xs → starts_with nat_eq xs text ≡ true
 front_text xs text e = go (starts_with nat_eq xs text) refl
   where
@@ -71,7 +71,7 @@ piece_found xs at gap text e f =
     let there : drop (length text) (drop gap (drop at xs)) ≡ drop (at + gap + length text) xs = grind (arith, common_steps) in
     e ∙ ap (λ l. replicate gap 32 ++ l) (f ∙ ap (λ l. text ++ l) there) ∙ sym (append_assoc (replicate gap 32) text (drop (at + gap + length text) xs))
 
--- a piece of the source, after so many blanks there
+-- a piece of the source, after this many blanks there
 pub piece_there : (xs : List ℕ) (at gap start : ℕ) (text : List ℕ) → at + gap ≡ start → text ≡ take (length text) (drop start xs) → drop at xs ≡ replicate gap 32 ++ drop gap (drop at xs)
     → drop at xs ≡ (replicate gap 32 ++ text) ++ drop (start + length text) xs
 piece_there xs at gap start text e s b =
@@ -87,7 +87,7 @@ other_piece xs gap text rest e f g =
 
 -- ---- the whole
 
--- the source is the print where what is left of it is what is left to print
+-- the source is the print if its rest is the rest of the print
 pub record Agrees (whole text : List ℕ) (rest : List ℕ) (at : ℕ) : Type 0 where
   pub on : whole ≡ text → rest ≡ drop at text
   pub back : rest ≡ drop at text → whole ≡ text

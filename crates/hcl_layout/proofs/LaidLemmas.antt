@@ -1,4 +1,4 @@
--- The gaps and the widths of a laid line, by numbers of tokens.
+-- The gaps and the widths of a laid-out line, by token numbers.
 use Rattle.std.proofs.Common.{◌*◌, ◌≡◌, ◌∙◌, ◌+◌, ◌-◌, ◌<◌, ◌≤◌, ◌==◌, ◌^◌, ℕ, suc, Bool, true, false, List, Option, Some, None, length, ap, ap₂, refl, sym, arith, take, drop}
 use Rattle.std.specs.Prelude.{nat_lt, slice_get}
 use Rattle.std.proofs.lemmas.Bool.Decides.{nat_tests}
@@ -30,7 +30,7 @@ other_place a n f lt le apart = go (a - f == n - f) refl
 less : (a b : ℕ) → a < b → nat_lt a b ≡ true
 less a b h = grind (arith, nat_tests)
 
--- and no other
+-- and no other cell
 pub cell_elsewhere : (l : LaidLine) (c : CellLaid) (n x : ℕ) → l.first < c.number → l.first ≤ n → (n ≡ c.number → ⊥) → cell_gap (cell_of l c) (n - l.first) x ≡ x
 cell_elsewhere l c n x lt le apart = go (nat_lt c.number l.end) refl
   where
@@ -52,11 +52,11 @@ plain_before_small ts level first n t low = plain_small level (token_before ts f
 
 -- ---- stops
 
--- nothing stands before the stop that stands here
+-- no cell is before the stop at this token
 pub stops_here : (l : LaidLine) (n : ℕ) → HasOwnGap l n → Stops l n n
 stops_here l n own = record { order = omega arith; first = λ lt. absurd (omega (arith, lt)); sign = λ le. le; comment = λ le. le; own = λ lt. own }
 
--- a cell that isn't there has the number of the line's end
+-- a missing cell has the number of the line's end
 cell_none : (l : LaidLine) (c : CellLaid) → cell_of l c ≡ None → l.end ≤ c.number
 cell_none l c e = go (nat_lt c.number l.end) refl
   where
@@ -80,7 +80,7 @@ signed_plain ts l from stop p within known k lt le =
 
 -- ---- widths
 
--- a token more
+-- another token
 pub width_more : (ts : List Lexeme) (l : LaidLine) (n stop : ℕ) (t : Lexeme) → slice_get ts n ≡ Some t → l.first ≤ n → n < stop → stop ≤ l.end
     → width_on ts l n stop ≡ gap_before ts (shape l) l.first n t + clusters t + width_on ts l (n + 1) stop
 width_more ts l n stop t e le lt within =
@@ -120,7 +120,7 @@ pub width_all : (ts : List Lexeme) (l : LaidLine) (n : ℕ) → Laid ts l → l.
 width_all ts l n p le within =
     omega (arith, width_split ts l l.first n p (omega arith) le within, width_none (l.first - l.first) (gaps_in (shape l) (text_of ts l)) (text_of ts l) (omega arith))
 
--- before a sign, where no cell is set
+-- before a sign, with no cell set
 pub bare_width : (ts : List Lexeme) (l : LaidLine) (n : ℕ) → Laid ts l → shape l ≡ plain_of l.level → l.first ≤ n → n ≤ l.end → width_on ts l l.first n ≡ width (n - l.first) (plain_gaps l.level (text_of ts l)) (text_of ts l)
 bare_width ts l n p bare le within =
     width_all ts l n p le within ∙ ap (λ (g : LineGaps). width (n - l.first) (gaps_in g (text_of ts l)) (text_of ts l)) bare
@@ -130,7 +130,7 @@ pub bare_narrow : (ts : List Lexeme) (l : LaidLine) (n : ℕ) → Laid ts l → 
 bare_narrow ts l n p bare le within few =
     omega (arith, bare_width ts l n p bare le within, plain_low ts l.first (l.end - l.first) l.level (n - l.first) p.level, few)
 
--- before a comment, where the sign is set
+-- before a comment, with the sign set
 pub signed_low : (ts : List Lexeme) (l : LaidLine) (n : ℕ) → IsSigned (shape l) (text_of ts l) → len_with_blanks ts ≤ 2 ^ 23 → width n (gaps_in (shape l) (text_of ts l)) (text_of ts l) ≤ 2 ^ 33 + 2 ^ 24
 signed_low ts l n p few = omega (arith, signed_narrow ts l.first (l.end - l.first) (shape l) n (2 ^ 33) p.level p.plain p.gap, few)
 

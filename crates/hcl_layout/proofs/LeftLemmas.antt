@@ -1,4 +1,4 @@
--- What is left to print, piece by piece.
+-- The rest of the print, piece by piece.
 use Rattle.std.proofs.Common.{◌*◌, ◌≡◌, ◌∙◌, ◌+◌, ◌-◌, ◌++◌, ◌<◌, ◌≤◌, ◌^◌, ℕ, suc, zero, true, false, List, Option, Some, None, length, ap, ap₂, refl, sym, arith, subst, take, drop, replicate}
 use Rattle.std.specs.Prelude.{IfSome, nat_lt, slice_get}
 use Rattle.std.proofs.lemmas.Bool.Decides.{nat_tests}
@@ -24,21 +24,21 @@ start_all ts d levels column comment p e f g h =
     ap₂ (λ (x : ℕ) (y : List ℕ). flat_map (λ g. g) (commented x y column comment (lines ts))) e f
     ∙ ap₂ (λ (x y : Option ℕ). flat_map (λ g. g) (commented 0 fresh x y (lines ts))) g h ∙ sym (gaps_all ts p)
 
--- the first token of a line has none after it
+-- the first token of a line has no token of the line before it
 pub none_after : (ts : List Lexeme) (at n : ℕ) → n ≤ at → token_before ts at n ≡ None
 none_after ts at n le = rw (not_less at n le) refl
   where
     not_less : (a b : ℕ) → b ≤ a → nat_lt a b ≡ false
     not_less a b h = grind (arith, nat_tests)
 
--- the token that was printed is after the next
+-- the printed token is the one before the next
 pub printed_after : (ts : List Lexeme) (start next : ℕ) (t : Lexeme) → slice_get ts next ≡ Some t → start ≤ next → token_before ts start (next + 1) ≡ Some t
 printed_after ts start next t e le = rw (less start next le) (ap (slice_get ts) (omega arith) ∙ e)
   where
     less : (a b : ℕ) → a ≤ b → nat_lt a (b + 1) ≡ true
     less a b h = grind (arith, nat_tests)
 
--- the width on from a place of the line, by the tokens after it, is that of the token there and that on from the next
+-- the width from a place of the line on is the width of the token there plus that from the next
 pub width_after : (g : LineGaps) (ts : List Lexeme) (at len k i : ℕ) (t : Lexeme) → slice_get ts (at + k) ≡ Some t → i ≤ len → k < i
     → width (i - k) (gaps_from g k (token_before ts at ((at + k) - 1)) (token_before ts at (at + k)) (take (len - k) (drop (at + k) ts))) (take (len - k) (drop (at + k) ts))
     ≡ gap_of g k (token_before ts at ((at + k) - 1)) (token_before ts at (at + k)) t + clusters t
@@ -53,7 +53,7 @@ width_after g ts at len k i t e le lt =
     width_next g ts at len k i b s t e le lt
     ∙ ap₂ (λ (n : ℕ) (u : Option Lexeme). gap_of g k b s t + clusters t + width (i - (k + 1)) (gaps_from g (k + 1) (token_before ts at n) u rest) rest) last there
 
--- no token after the first of a line is of that line
+-- only the first token of a line has no token of that line before it
 pub width_front : (g : LineGaps) (ts : List Lexeme) (at len i : ℕ)
     → 0 + width (i - 0) (gaps_from g 0 (token_before ts at ((at + 0) - 1)) (token_before ts at (at + 0)) (take (len - 0) (drop (at + 0) ts))) (take (len - 0) (drop (at + 0) ts))
     ≡ width i (gaps_in g (take len (drop at ts))) (take len (drop at ts))

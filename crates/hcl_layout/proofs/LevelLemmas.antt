@@ -1,4 +1,4 @@
--- The levels of whole lists are those by depth.
+-- The levels of whole lists are the levels by depth.
 use Rattle.std.proofs.Common.{◌≡◌, ◌∙◌, ◌+◌, ◌-◌, ◌++◌, ◌<◌, ◌≤◌, ℕ, suc, zero, Bool, true, false, List, [], ◌∷◌, length, ap, ap₂, refl, sym, arith, add_assoc, get_or}
 use Rattle.std.specs.Prelude.{◌&&◌, filter, if◌then◌else◌, nat_lt, slice_set}
 use Rattle.std.proofs.Common.{length-set}
@@ -8,7 +8,7 @@ use Rattle.hcl_tokens.specs.Balanced.{max_open}
 use Rattle.hcl_layout.specs.Levels.{Net, is_above, level, levels_after, no_net, plus, stays_above}
 use Rattle.hcl_layout.specs.Inner.Depths.{Sound, raised, next_levels}
 
--- ---- the groups that are open, one after another
+-- ---- the open groups in turn
 
 -- a is deeper than b: it has more openers above its closers
 abbrev pub is_deeper : Net → Net → Bool
@@ -19,7 +19,7 @@ abbrev pub total : Net → List Net → Net
 total sum [] = sum
 total sum (n ∷ rest) = total (plus sum n) rest
 
--- where the groups that are open after the lines began
+-- where the open groups began
 abbrev pub open_groups : Net → List Net → List Net
 open_groups sum [] = []
 open_groups sum (n ∷ rest) = if stays_above no_net (n ∷ rest) then sum ∷ open_groups (plus sum n) rest else open_groups (plus sum n) rest
@@ -54,7 +54,7 @@ relative base (x ∷ xs) sum = ap (λ s. total s xs) (plus_assoc base sum x) ∙
 above_base : (base s : Net) → is_above s ≡ is_deeper (plus base s) base
 above_base base s = grind arith
 
--- the group of x is open still where it was, and the depth is above where it began
+-- the group of x is still open where it was, and the depth is above the depth at its beginning
 open_here : (sum x : Net) (xs : List Net) (n : Net)
     → stays_above no_net (x ∷ (xs ++ n ∷ [])) ≡ (stays_above no_net (x ∷ xs) && is_deeper (plus (total (plus sum x) xs) n) sum)
 open_here sum x xs n =
@@ -124,11 +124,11 @@ levels_of_state before (n ∷ rest) =
 abbrev pub Is : ℕ → Net → Type 0
 Is d n = n.opens ≡ d + n.closes
 
--- how many of the groups began above a depth
+-- the number of groups that began above a depth
 abbrev pub count : Net → List Net → ℕ
 count m groups = length (filter (λ g. is_deeper m g) groups)
 
--- the groups are counted by depth, and all began above the depth at hand
+-- the groups are counted by depth, and all began above the current depth
 pub record Counted (d : ℕ) (groups : List Net) (levels : List ℕ) : Type 0 where
   pub room : length levels ≡ (max_open + 1)
   pub below : (k : ℕ) (m : Net) → Is k m → k ≤ d → count m groups ≡ get_or levels k 0
@@ -140,7 +140,7 @@ deeper_is a b m n p q = grind arith
 pub above_is : (a b : ℕ) (s n : Net) → Is a s → Is b (plus s n) → is_above n ≡ nat_lt a b
 above_is a b s n p q = grind arith
 
--- what is above a depth is above a greater one
+-- a group above a depth is above a lesser one
 pub filter_lower : (j k : ℕ) (m n : Net) (groups : List Net) → Is j m → Is k n → j ≤ k → filter (λ g. is_deeper m g) (filter (λ g. is_deeper n g) groups) ≡ filter (λ g. is_deeper m g) groups
 filter_lower j k m n [] p q le = refl
 filter_lower j k m n (g ∷ groups) p q le = go (filter_lower j k m n groups p q le) (is_deeper n g) refl (is_deeper m g) refl
@@ -152,7 +152,7 @@ filter_lower j k m n (g ∷ groups) p q le = go (filter_lower j k m n groups p q
     go r false e false f = rw (e, f) r
     go r false e true f = absurd (grind arith)
 
--- what is above a greater depth too
+-- and one above a greater depth
 pub filter_higher : (j k : ℕ) (m n : Net) (groups : List Net) → Is j m → Is k n → k ≤ j → filter (λ g. is_deeper m g) (filter (λ g. is_deeper n g) groups) ≡ filter (λ g. is_deeper n g) groups
 filter_higher j k m n [] p q le = refl
 filter_higher j k m n (g ∷ groups) p q le = go (filter_higher j k m n groups p q le) (is_deeper n g) refl (is_deeper m g) refl
@@ -211,6 +211,6 @@ next_levels_sound d e levels new lt low p q = (ap length q ∙ next_levels_lengt
         le_of : nat_lt d k ≡ false → k ≤ d
         le_of w = grind arith
 
--- a line that goes no deeper
+-- a line that doesn't go deeper
 pub sound_less : (d e : ℕ) (levels : List ℕ) → e ≤ d → Sound d levels → Sound e levels
 sound_less d e levels le p = (p.0, λ k lt. p.1 k (omega arith))

@@ -104,7 +104,7 @@ width_before [] line (suc i) gap = refl
 width_before (g ∷ gs) [] (suc i) gap = refl
 width_before (g ∷ gs) (t ∷ line) (suc i) gap = ap (λ w. g + clusters t + w) (width_before gs line i gap)
 
--- ---- one token more of a line
+-- ---- one more token of a line
 
 pub line_next : (ts : List Lexeme) (at len k : ℕ) (t : Lexeme) → slice_get ts (at + k) ≡ Some t → k < len
     → take (len - k) (drop (at + k) ts) ≡ t ∷ take (len - (k + 1)) (drop (at + (k + 1)) ts)
@@ -113,7 +113,7 @@ line_next ts at len k t e lt =
     let further : at + k + 1 ≡ at + (k + 1) = omega arith in
     ap₂ take one (drop_at ts (at + k) t e ∙ ap (λ j. t ∷ drop j ts) further)
 
--- the width on from a place is that of the token there and the width on from the next
+-- the width from a place on is the width of the token there plus that from the next
 pub width_next : (g : LineGaps) (ts : List Lexeme) (at len k i : ℕ) (b s : Option Lexeme) (t : Lexeme) → slice_get ts (at + k) ≡ Some t → i ≤ len → k < i
     → width (i - k) (gaps_from g k b s (take (len - k) (drop (at + k) ts))) (take (len - k) (drop (at + k) ts))
     ≡ gap_of g k b s t + clusters t + width (i - (k + 1)) (gaps_from g (k + 1) s (Some t) (take (len - (k + 1)) (drop (at + (k + 1)) ts))) (take (len - (k + 1)) (drop (at + (k + 1)) ts))

@@ -1,4 +1,4 @@
--- What the kinds of tokens say of a walk along a line: tried for each kind.
+-- The facts about kinds in a walk along a line, proved by trying each kind.
 use Rattle.std.proofs.Common.{◌≡◌, ◌∙◌, ◌&&◌, ◌||◌, ◌+◌, ◌-◌, ◌≤◌, ℕ, Bool, true, false, not, ap, refl, sym, arith}
 use Rattle.hcl_tokens.specs.Balanced.{is_closer, is_opener}
 use Rattle.hcl_tokens.specs.Lexemes.{Lexeme}
@@ -15,11 +15,11 @@ pub passes : (a b : Bool) → (a || not b) ≡ true → a ≡ false → b ≡ fa
 passes a true h e = cc
 passes a false h e = refl
 
--- a kind of which no more is asked is no cell and tears none
+-- a kind that needs no closer look is no cell and tears none
 pub unstopped_unmarked : (k : Kind) → stops k ≡ false → marks k ≡ false
 unstopped_unmarked k e = passes (stops k) (marks k) (each (λ j. stops j || not (marks j)) refl k) e
 
--- nor the line's end
+-- nor does it end the line
 pub unstopped_goes_on : (t : Lexeme) → stops t.kind ≡ false → ends_line t ≡ false
 unstopped_goes_on t e = rw (passes (stops t.kind) (is kind.Newline t.kind) (each (λ j. stops j || not (is kind.Newline j)) refl t.kind) e) refl
 
@@ -33,7 +33,7 @@ end_stops t e = go (is kind.Newline t.kind) refl e
 
 -- ---- the steps
 
--- what a step that is no point does to a depth at which a token of its kind may stand
+-- the effect of a step with a digit on a depth that is allowed for a token of its kind
 pub record Stepped (d step : ℕ) (k : Kind) : Type 0 where
   pub on : stops k ≡ false
   pub rises : step ≤ 50
@@ -66,7 +66,7 @@ steps_deepen k d step e more s =
         let deep : deepen d k ≡ d = rw (p, q) (omega arith) in
         record { on = on; rises = omega (arith, is); stays = omega (arith, is); deepens = omega (arith, is, deep) }
 
--- a point stands for the kinds of which more is asked, which open and close nothing
+-- a point marks the kinds that need a closer look; they open and close nothing
 pub pointed : (k : Kind) (step : ℕ) → step ≡ step_of k → step ≡ 46 → stops k ≡ true
 pointed k step e is = go (stops k) refl
   where

@@ -1,4 +1,4 @@
--- Bytes that go out one after another, through a buffer.
+-- Bytes that go out in turn, through a buffer.
 use Rattle.std.proofs.Common.{◌≡◌, ◌∙◌, ◌++◌, ◌+◌, ◌-◌, ◌<◌, ◌≤◌, ℕ, suc, zero, List, [], ◌∷◌, Option, Some, None, ap, arith, sym, subst, refl, length, drop, take, append_assoc, replicate, length-append}
 use Rattle.std.proofs.Math.Seq.{take-add, take-append_seam}
 use Rattle.std.proofs.lemmas.List.{append-nil, length-take-le, take-append-le}
@@ -33,7 +33,7 @@ out_sent base now new b b' front e f long q p = record {
   out = Appends-then base now new p.sent (held b) p.out q;
 }
 
--- more was written past the empty buffer
+-- more bytes were written past the empty buffer
 pub out_past : (base now new : Option (List ℕ)) (b b' : Buffer) (front text : List ℕ) → b.len ≡ 0 → b'.len ≡ 0 → b'.sent ≡ b.sent + length text → Appends now new text → Out base now b front → Out base new b' (front ++ text)
 out_past base now new b b' front text e e' f q p =
     let all : front ≡ p.sent = p.whole ∙ ap (λ l. p.sent ++ l) (held_none b e) ∙ append-nil p.sent in
@@ -44,7 +44,7 @@ out_past base now new b b' front text e e' f q p =
       out = Appends-then base now new p.sent text p.out q;
     }
 
--- what stopped within a front stopped within what goes on from it
+-- a write that failed within a front failed within any continuation of it
 pub cut_short_more : (base new : Option (List ℕ)) (front text : List ℕ) (fault : WriteFault) → CutShort base new front fault → CutShort base new (front ++ text) fault
 cut_short_more base new front text fault p =
     let same : take fault.written (front ++ text) ≡ take fault.written front = take-append-le fault.written front text (omega (arith, p.0)) in
@@ -88,7 +88,7 @@ cut_short_blanks base new front k gap fault lt p =
 
 -- ---- a stretch of the source waits
 
--- what waits goes on with the next piece
+-- the waiting stretch continues with the next piece
 pub grown : (source : List ℕ) (s : Stretch) (piece : List ℕ) (end : ℕ) → s.start ≤ s.end → end ≡ s.end + length piece → drop s.end source ≡ piece ++ drop end source
     → stretched source (record { gap = s.gap; start = s.start; end = end }) ≡ stretched source s ++ piece
 grown source s piece end le e f =
@@ -105,7 +105,7 @@ pub print_grown : (whole front a b piece rest rest' : List ℕ) → whole ≡ fr
 print_grown whole front a b piece rest rest' e f g =
     e ∙ ap (λ l. front ++ l) (ap (λ l. a ++ l) f ∙ sym (append_assoc a piece rest') ∙ ap (λ l. l ++ rest') (sym g))
 
--- what waits was put, and the next piece waits
+-- the waiting stretch was written, and the next piece waits
 pub print_put : (whole front a b piece rest rest' : List ℕ) → whole ≡ front ++ (a ++ rest) → rest ≡ piece ++ rest' → b ≡ piece → whole ≡ (front ++ a) ++ (b ++ rest')
 print_put whole front a b piece rest rest' e f g = e ∙ sym (append_assoc front a rest) ∙ ap (λ l. (front ++ a) ++ l) (f ∙ ap (λ l. l ++ rest') (sym g))
 

@@ -1,4 +1,4 @@
--- A line that is passed with its sign, and with its comment, in the columns of their runs.
+-- Passing a line with its sign, and with its comment, in the columns of their runs.
 use Rattle.std.proofs.Common.{◌≡◌, ◌∙◌, ◌+◌, ◌-◌, ◌<◌, ◌≤◌, ◌^◌, ℕ, true, false, List, ◌∷◌, Option, Some, None, length, ap, ap₂, refl, sym, arith, subst, take, drop}
 use Rattle.std.specs.Prelude.{nat_lt, option_map, slice_set}
 use Rattle.std.proofs.lemmas.Bool.Decides.{nat_tests}
@@ -42,7 +42,7 @@ module _ (ts : List Lexeme) (d : ℕ) (r : LineRead) (p : IsLine ts r.first d (f
   bare_gaps column e =
       ap (λ (s : LineGaps). gaps_in s (text_in ts r)) bare ∙ plain_in level (text_in ts r) ∙ level_gaps ∙ aligned_none (plain d levels (text_in ts r)) (text_in ts r) column (sign_none ts d r p e)
 
-  -- a line with one
+  -- a line with a sign
   module _ (n w gap : ℕ) (e : r.sign ≡ Some n) (own : w ≡ width (n - r.first) (plain_gaps level (text_in ts r)) (text_in ts r)) where
     set : shape (with_sign_at (bare_line r level) n w gap) ≡ record { level = level; assign = Some (record { place = n - r.first; width = w; gap = gap }); comment = None }
     set = rw (less n r.end (sign_within ts d r p n e), not_less r.end) refl
@@ -73,7 +73,7 @@ module _ (ts : List Lexeme) (d : ℕ) (r : LineRead) (p : IsLine ts r.first d (f
         q ∙ ap (λ (x : Option ℕ). next_of run (x ∷ assign_widths r.depth (next_levels d r.depth levels) (lines (drop r.end ts)))) (sym set_width)
         ∙ sym (ap (next_of run) (sign_step ts d r p levels))
 
--- with its comment
+-- with its comment as well
 abbrev pub with_comment_at : LaidLine → ℕ → ℕ → ℕ → LaidLine
 with_comment_at b n w gap = record { first = b.first; end = b.end; level = b.level; sign = b.sign; comment = record { number = n; width = w; gap = gap } }
 
@@ -89,7 +89,7 @@ commented_gaps ts b n w gap column p lt e g =
     ∙ commented_in b.level (cell_of b b.sign) (cell_of b b.comment) (n - b.first) w gap (text_of ts b) p.plain
     ∙ comment_cell (gaps_in (shape b) (text_of ts b)) (text_of ts b) column (n - b.first) gap e g
 
--- its comment, where it is passed
+-- its comment, if it is passed
 pub comment_at : (ts : List Lexeme) (d : ℕ) (r : LineRead) (b : LaidLine) (n : ℕ) → IsLine ts r.first d (facts_in r) → b.first ≡ r.first → b.end ≡ r.end → r.comment ≡ Some n → trailing_comment (text_of ts b) ≡ Some (n - b.first)
 comment_at ts d r b n p f e c =
     ap₂ (λ (x y : ℕ). trailing_comment (take (y - x) (drop x ts))) f e ∙ comment_is ts d r p n c ∙ ap (λ (x : ℕ). Some (n - x)) (sym f)

@@ -1,4 +1,4 @@
--- What is left to print of the lines, piece by piece and line by line.
+-- The rest of the print of the lines, piece by piece and line by line.
 use Rattle.std.proofs.Common.{◌≡◌, ◌∙◌, ◌+◌, ◌-◌, ◌++◌, ◌<◌, ◌≤◌, ℕ, zero, List, Some, None, length, ap, ap₂, refl, sym, arith, take, drop, replicate, length-append}
 use Rattle.std.specs.Prelude.{slice_get}
 use Rattle.std.proofs.lemmas.List.{length-replicate}

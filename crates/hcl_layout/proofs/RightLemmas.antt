@@ -1,4 +1,4 @@
--- Columns that are right at the end of each run are those of the definition, whatever way they were come by.
+-- Columns that are right at the end of each run are those of the definition, however they were found.
 use Rattle.std.proofs.Common.{◌≡◌, ◌∙◌, ◌-◌, ◌++◌, ◌≤◌, ◌==◌, ◌||◌, not, ℕ, Bool, true, false, List, [], ◌∷◌, Option, Some, None, length, ap, ap₂, refl, sym, arith, subst, take, drop}
 use Rattle.std.specs.Prelude.{option_map}
 use Rattle.std.specs.List.{flat_map}
@@ -30,7 +30,7 @@ record RunBack (old new : Option Run) (own : Option ℕ) (rest : List (Option �
   right : IsRight old (own ∷ rest)
   column : column_of new ≡ next_of (column_of old) (own ∷ rest)
 
--- `cell` tells whether the line has the cell, and `own` the width before it
+-- `cell` says whether the line has the cell, and `own` is the width before it
 run_back : (old new : Option Run) (cell : Option ℕ) (f : ℕ → ℕ) (rest : List (Option ℕ)) → Grows old (option_map f cell) new → ends_wrong_at old cell ≡ false → IsRight new rest → RunBack old new (option_map f cell) rest
 run_back None new None f rest g e p = record { right = tt; column = ap column_of g }
 run_back (Some o) new None f rest g e p = record { right = omega (arith, equal o.column o.greatest e); column = ap column_of g }
@@ -76,7 +76,7 @@ module _ (ts : List Lexeme) (old new : Lines) (r : LineRead) (p : IsLine ts r.fi
       ap₂ (λ (d : ℕ) (v : List ℕ). flat_map (λ g. g) (commented d v (column_of new.signs) (column_of new.comments) (lines (drop new.next ts)))) m.depth m.levels
       ∙ ap (λ n. flat_map (λ g. g) (commented r.depth levels' (column_of new.signs) (column_of new.comments) (lines (drop n ts)))) m.next
 
-  -- what is left to print, where the columns are those of the definition
+  -- the rest of the print, if the columns are those of the definition
   left_step : column_of new.signs ≡ assign_column old.depth old.levels (column_of old.signs) (lines (drop r.first ts))
       → column_of new.comments ≡ comment_column old.depth old.levels (column_of old.signs) (column_of old.comments) (lines (drop r.first ts))
       → gaps_after ts old ≡ laid_gaps old new t ++ gaps_after ts new
@@ -90,7 +90,7 @@ module _ (ts : List Lexeme) (old new : Lines) (r : LineRead) (p : IsLine ts r.fi
       (sym (c ∙ ap (assign_column old.depth old.levels (column_of old.signs)) cut)) (sym (k ∙ ap (comment_column old.depth old.levels (column_of old.signs) (column_of old.comments)) cut))
       ∙ ap (λ gs. laid_gaps old new t ++ gs) (sym gaps_new)
 
-  -- the columns that were right after the line are right before it, and it stands in them
+  -- columns that were right after the line are right before it, and its cells are in them
   pub right_step : RunsGrow old t new → new.wrong ≡ false → AreRight ts new → (old.wrong ≡ false) × AreRight ts old × (gaps_after ts old ≡ laid_gaps old new t ++ gaps_after ts new)
   right_step g wrong right =
       let parts = or_false old.wrong (ends_wrong_at old.signs (assign_cell t)) (ends_wrong_at old.comments (running_comment t)) (sym g.wrong ∙ wrong) in

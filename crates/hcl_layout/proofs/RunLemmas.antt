@@ -75,12 +75,12 @@ assign_within [] i e = let h : None ≡ Some i = multiline_some (has_multiline [
 assign_within (t ∷ line) i e =
     omega (arith, (place_within is_assignment 1 (until is_trailing line) i (assign_sign t line i e)).1, until_short is_trailing line)
 
--- the assign cell stands before the trailing comment
+-- the assign cell is before the trailing comment
 pub assign_before : (line : Line) (i j : ℕ) → assign_cell line ≡ Some i → trailing_comment line ≡ Some j → i ≤ j
 assign_before [] i j e f = let h : None ≡ Some i = multiline_some (has_multiline []) None i e in cc
 assign_before (t ∷ line) i j e f = omega (arith, (place_within is_assignment 1 (until is_trailing line) i (assign_sign t line i e)).1, until_found is_trailing 1 line j f)
 
--- no cell stands at the line's front
+-- no cell is at the line's front
 pub assign_after : (line : Line) (i : ℕ) → assign_cell line ≡ Some i → 0 < i
 assign_after [] i e = let h : None ≡ Some i = multiline_some (has_multiline []) None i e in cc
 assign_after (t ∷ line) i e = omega (arith, (place_within is_assignment 1 (until is_trailing line) i (assign_sign t line i e)).0)
@@ -100,7 +100,7 @@ aligned_some gaps l column i gap e f = rw (e, f) refl
 pub assigned_in : (level i own gap : ℕ) (line : Line) → gaps_in (record { level = level; assign = Some (record { place = i; width = own; gap = gap }); comment = None }) line ≡ slice_set (plain_gaps level line) i gap
 assigned_in level i own gap line = gaps_in_is (record { level = level; assign = Some (record { place = i; width = own; gap = gap }); comment = None }) line
 
--- the width kept with an assign cell
+-- the width stored with an assign cell
 pub known_set : (level i own gap : ℕ) (line : Line) → own ≡ width i (plain_gaps level line) line → IsKnown (record { level = level; assign = Some (record { place = i; width = own; gap = gap }); comment = None }) line
 known_set level i own gap line e = e ∙ sym (ap (λ g. width i g line) (assigned_in level i own gap line) ∙ width_before (plain_gaps level line) line i gap)
 
@@ -108,7 +108,7 @@ signed_wide : (assign : Option Cell) (level : ℕ) (line : Line) (k n : ℕ) →
 signed_wide None level line k n p = omega (arith, width_small level k line)
 signed_wide (Some c) level line k n p = omega (arith, p, width_set (plain_gaps level line) line c.place k c.gap, width_small level k line)
 
--- with a sign whose gap is so much at most
+-- with a sign whose gap is at most this
 pub signed_narrow : (ts : List Lexeme) (at len : ℕ) (g : LineGaps) (k n : ℕ) → g.level ≤ max_open → g.comment ≡ None → IfSome g.assign (λ c. c.gap ≤ n)
     → width k (gaps_in g (take len (drop at ts))) (take len (drop at ts)) ≤ 2 * max_open + len_with_blanks ts + n
 signed_narrow ts at len g k n low plain small =

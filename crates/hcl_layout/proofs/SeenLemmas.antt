@@ -1,4 +1,4 @@
--- What was seen of a line, and what its survey is, token by token.
+-- The state of a walk along a line, and the survey of the line, token by token.
 use Rattle.std.proofs.Common.{◌≡◌, ◌∙◌, ◌+◌, ◌-◌, ◌≤◌, ◌&&◌, ◌||◌, ◌^◌, not, ℕ, Bool, true, false, List, Option, Some, None, length, ap, ap₂, refl, sym, arith, subst, drop}
 use Rattle.std.specs.Prelude.{is_some, option_map, slice_get}
 use Rattle.hcl_tokens.specs.Lexemes.{Lexeme}
@@ -21,7 +21,7 @@ unmarked true b c h = cc
 unmarked false true c h = cc
 unmarked false false c h = (refl, refl, h)
 
--- a token that is no cell and tears none
+-- a token that isn't a cell and tears none
 pub seen_kept : (s : Seen) (t : Lexeme) (d first n : ℕ) → first ≤ n → is_trailing t ≡ false → is_multiline t ≡ false → is_assignment t ≡ false
     → survey_of s (deepen d t.kind) first (n + 1) ≡ noted (survey_of s d first n) t
 seen_kept s t d first n le trailing inline assign =
@@ -47,7 +47,7 @@ seen_kept s t d first n le trailing inline assign =
         let made : ℕ → Bool → Survey = λ k b. record { len = k; depth = deepen d t.kind; multiline = b; comment = Some (i - first); body_depth = s.body_depth; sign = option_map (λ j. j - first) s.sign; sign_depth = s.sign_depth } in
         rw (takes, inline, trailing, e) (ap₂ made len (or_false s.multiline))
 
--- a token of a kind that neither is a cell nor tears one
+-- a token of a kind that isn't a cell and tears none
 pub seen_noted : (s : Seen) (t : Lexeme) (d first n : ℕ) → first ≤ n → marks t.kind ≡ false → survey_of s (deepen d t.kind) first (n + 1) ≡ noted (survey_of s d first n) t
 seen_noted s t d first n le m =
     let parts = unmarked (is LineComment t.kind) (is InlineComment t.kind) (is Assign t.kind) m in

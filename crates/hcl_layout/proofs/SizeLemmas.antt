@@ -16,7 +16,7 @@ abbrev hidden_length : List Hidden → ℕ
 hidden_length [] = 0
 hidden_length (h ∷ hidden) = length h.closer + length h.after + hidden_length hidden
 
--- how much is left to read, seen and hidden
+-- the rest of the text, visible and hidden
 abbrev left_length : State → ℕ
 left_length s = length s.seen + hidden_length s.hidden
 

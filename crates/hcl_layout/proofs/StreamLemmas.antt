@@ -1,4 +1,4 @@
--- The gaps of the whole text are the gaps of the lines that are left at its beginning.
+-- The gaps of the whole text are the gaps of the remaining lines at its beginning.
 use Rattle.std.proofs.Common.{◌≡◌, ◌∙◌, ◌+◌, ◌-◌, ◌++◌, ◌<◌, ◌≤◌, ℕ, suc, zero, Bool, true, false, List, [], ◌∷◌, Option, None, length, ap, ap₂, refl, sym, arith, subst, add_assoc, get_or, min, length-append, add-zero, replicate}
 use Rattle.std.specs.Prelude.{filter, nat_lt, if◌then◌else◌, map, IsTrue}
 use Rattle.std.specs.List.{flat_map}
@@ -60,7 +60,7 @@ balanced_lines (t ∷ ts) d p = go (balanced_lines ts (deepen d t.kind) p.1) (en
     go r true e = rw e ((p.0, tt), r)
     go r false e = rw e (onto_balanced t d (lines ts) p.0 r)
 
--- nor will more be open
+-- nor will more be open later
 step_low : (o c : Bool) (d : ℕ) → (IsTrue o → d < max_open) → d ≤ max_open → d + (if o then 1 else 0) - (if c then 1 else 0) ≤ max_open
 step_low true true d p q = omega (arith, p refl)
 step_low true false d p q = omega (arith, p refl)
@@ -76,7 +76,7 @@ after_low (t ∷ l) d p q = after_low l (deepen d t.kind) p.1 (deepen_low t.kind
 
 -- ---- levels
 
--- a group more, where it began above the depth
+-- another group, if it began above the depth
 count_more : (m sum : Net) (groups : List Net) (b : Bool) → is_deeper m sum ≡ b → count m (groups ++ sum ∷ []) ≡ count m groups + (if b then 1 else 0)
 count_more m sum groups true e = ap length (filter-append (λ g. is_deeper m g) groups (sum ∷ [])) ∙ length-append (filter (λ g. is_deeper m g) groups) (filter (λ g. is_deeper m g) (sum ∷ [])) ∙ rw e refl
 count_more m sum groups false e = ap length (filter-append (λ g. is_deeper m g) groups (sum ∷ [])) ∙ length-append (filter (λ g. is_deeper m g) groups) (filter (λ g. is_deeper m g) (sum ∷ [])) ∙ rw e refl
@@ -103,7 +103,7 @@ deeper_all d e sum groups levels p lt c k m q le =
     let one : filter (λ g. is_deeper m g) (sum ∷ []) ≡ sum ∷ [] = rw above refl in
     filter-append (λ g. is_deeper m g) groups (sum ∷ []) ∙ ap₂ (λ (a b : List Net). a ++ b) (c.all k m q (omega arith)) one
 
--- one line more
+-- another line
 counted_then : (d e : ℕ) (sum n : Net) (groups : List Net) (levels : List ℕ) → Is d sum → Is e (plus sum n) → e ≤ max_open → Counted d groups levels
     → Counted e (groups_then sum groups n) (next_levels d e levels)
 counted_then d e sum n groups levels p q low c = go (nat_lt d e) refl
@@ -188,6 +188,6 @@ commented_all ls p =
     ∙ ap (λ c. aligned_gaps_by trailing_comment (assigned 0 fresh None ls) ls c) (before_run (comment_widths 0 fresh None ls))
     ∙ commented_is ls 0 fresh None None
 
--- the gaps of the text are those that are left at its beginning
+-- the gaps of the text are those of the remaining lines at its beginning
 pub gaps_all : (ts : List Lexeme) → BalancedFrom 0 ts → gaps ts ≡ flat_map (λ g. g) (commented 0 fresh None None (lines ts))
 gaps_all ts p = ap (flat_map (λ g. g)) (commented_all (lines ts) (balanced_lines ts 0 p))

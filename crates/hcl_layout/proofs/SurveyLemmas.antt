@@ -1,4 +1,4 @@
--- One walk along a line finds what the line is.
+-- One walk along a line finds the facts of the line.
 use Rattle.std.proofs.Common.{◌≡◌, ◌∙◌, ◌+◌, ◌-◌, ◌<◌, ◌≤◌, ◌==◌, ◌^◌, ◌&&◌, ◌||◌, not, ℕ, suc, zero, Bool, true, false, List, [], ◌∷◌, Option, Some, None, length, ap, ap₂, refl, sym, arith, subst, take, drop, add-one, get_or, drop-cons}
 use Rattle.std.specs.Prelude.{if◌then◌else◌, is_some, slice_get, nat_eq}
 use Rattle.std.specs.List.{list_any}
@@ -19,7 +19,7 @@ use Rattle.hcl_layout.specs.Inner.Survey.{Survey}
 use Rattle.hcl_layout.proofs.NotedKindLemmas.{Stepped, steps_deepen}
 use Rattle.hcl_layout.proofs.StreamLemmas.{after_is, after_low, deepen_low}
 
--- the token at a place, and what is after it
+-- the token at a place, and the tokens after it
 pub drop_at : (ts : List Lexeme) (i : ℕ) (t : Lexeme) → slice_get ts i ≡ Some t → drop i ts ≡ t ∷ drop (i + 1) ts
 drop_at ts i t e =
     let within : i < length ts = slice_get_within ts i t e in
@@ -84,7 +84,7 @@ tail_short (u ∷ ts) t = go (tail_short ts u) (ends_line t) refl
     go r true e = rw e (omega arith)
     go r false e = rw e (omega arith)
 
--- ---- what the walk notes
+-- ---- the state of the walk
 
 fold_len : (l : Line) (s : Survey) → (fold s l).len ≡ s.len + length l
 fold_len [] s = omega arith
@@ -123,7 +123,7 @@ stays (t ∷ l) s i e =
     let more = stays l (noted s t) i (one.comment ∙ e) in
     record { comment = more.comment ∙ one.comment; body = more.body ∙ one.body; sign = more.sign ∙ one.sign; sign_depth = more.sign_depth ∙ one.sign_depth }
 
--- the comment, and the depth of what is before it
+-- the comment, and the depth before it
 found : (l : Line) (s : Survey) → s.comment ≡ None → s.body_depth ≡ s.depth
     → ((fold s l).comment ≡ first_place_from is_trailing s.len l) × ((fold s l).body_depth ≡ depth_after s.depth (until is_trailing l))
 found [] s e f = (e, f)
@@ -239,7 +239,7 @@ balanced_drop zero d ts p = p
 balanced_drop (suc n) d [] p = tt
 balanced_drop (suc n) d (t ∷ ts) p = balanced_drop n (deepen d t.kind) ts p.1
 
--- what is after a place closes what it opens where the depths are the same
+-- the tokens after a place close what they open if the depths are the same
 level_same : (n d : ℕ) (l : Line) → BalancedFrom d l → is_level (net_of (drop n l)) ≡ (depth_after d (take n l) == depth_after d l)
 level_same n d l p =
     let before : ℕ = depth_after d (take n l) in
@@ -330,7 +330,7 @@ is_line ts at d t s e few p low q =
 
 -- ---- the walk, step by step
 
--- what a token may do at the front of balanced tokens
+-- the tokens that are allowed at the front of balanced tokens
 pub steps_at : (ts : List Lexeme) (i d : ℕ) (t : Lexeme) → slice_get ts i ≡ Some t → BalancedFrom d (drop i ts) → Steps d t.kind
 steps_at ts i d t e p = (subst (BalancedFrom d) (drop_at ts i t e) p).0
 
@@ -347,7 +347,7 @@ surveyed_going (t ∷ ts) s last e = rw e refl
 pub going_more : (ts : List Lexeme) (i : ℕ) (t : Lexeme) (s whole : Survey) → slice_get ts i ≡ Some t → whole ≡ going s (drop i ts) → whole ≡ surveyed (noted s t) t (drop (i + 1) ts)
 going_more ts i t s whole e p = p ∙ ap (going s) (drop_at ts i t e)
 
--- a token more of a line that goes on after it
+-- another token of a line that continues after it
 pub going_on : (ts : List Lexeme) (i : ℕ) (t : Lexeme) (s new whole : Survey) → slice_get ts i ≡ Some t → new ≡ noted s t → ends_line t ≡ false → whole ≡ going s (drop i ts) → whole ≡ going new (drop (i + 1) ts)
 going_on ts i t s new whole e same goes p = going_more ts i t s whole e p ∙ surveyed_going (drop (i + 1) ts) (noted s t) t goes ∙ ap (λ u. going u (drop (i + 1) ts)) (sym same)
 
@@ -364,17 +364,17 @@ same_token ts i t u p q = some_is t u (sym p ∙ q)
     some_is : (x y : Lexeme) → Some x ≡ Some y → x ≡ y
     some_is x y e = cc
 
--- what the step of the token there does
+-- the effect of the step of the token there
 pub step_at : (ts : List Lexeme) (i d step : ℕ) (t : Lexeme) (k : Kind) → slice_get ts i ≡ Some t → k ≡ t.kind → step ≡ step_of k → (step ≡ 46 → ⊥) → BalancedFrom d (drop i ts) → Stepped d step t.kind
 step_at ts i d step t k e same is more p = steps_deepen t.kind d step (is ∙ ap step_of same) more (steps_at ts i d t e p)
 
--- ---- a token of which more was asked, and what is after it
+-- ---- a token that needs a closer look, and the tokens after it
 
 module _ (ts : List Lexeme) (at : ℕ) (t : Lexeme) (s new : Survey) where
   further : new ≡ noted s t → at + s.len + 1 ≡ at + new.len
   further same = let len : new.len ≡ s.len + 1 = ap (λ (x : Survey). x.len) same in omega (arith, len)
 
--- some token stands there
+-- there is a token there
 pub token_at : (ts : List Lexeme) (i : ℕ) → i < length ts → (t : Lexeme) × (slice_get ts i ≡ Some t)
 token_at [] i lt = absurd (omega arith)
 token_at (t ∷ ts) zero lt = (t, refl)

@@ -1,4 +1,4 @@
--- A line that is passed, and the widths and columns of those after it.
+-- Passing a line, and the widths and columns of the lines after it.
 use Rattle.std.proofs.Common.{◌≡◌, ◌∙◌, ◌+◌, ◌-◌, ◌<◌, ◌≤◌, ◌^◌, ℕ, Bool, true, false, List, ◌∷◌, Option, Some, None, length, ap, sym, arith, take, drop, length-take}
 use Rattle.std.specs.Prelude.{if◌then◌else◌, nat_lt, not, option_map}
 use Rattle.std.proofs.lemmas.Bool.Decides.{nat_tests}

@@ -14,7 +14,7 @@ use Rattle.hcl_spacing.specs.Spacing.{has_blank}
 use Rattle.hcl_layout.specs.Cells.{assign_cell, running_comment, trailing_comment}
 use Rattle.hcl_layout.specs.Columns.{columns}
 
--- f of the members of two lists in step
+-- f on the members of two lists in step
 abbrev pub zip_with : {A B C : Type 0} → (A → B → C) → List A → List B → List C
 zip_with f [] ys = []
 zip_with f (x ∷ xs) [] = []
@@ -50,11 +50,11 @@ width (suc i) [] line = 0
 width (suc i) (g ∷ gaps) [] = 0
 width (suc i) (g ∷ gaps) (t ∷ line) = g + clusters t + width i gaps line
 
--- the widths before the cells of those lines that take part in runs
+-- the widths before the cells of the lines that are part of runs
 abbrev pub widths : (Line → Option ℕ) → List (List ℕ) → List Line → List (Option ℕ)
 widths cell = zip_with (λ gaps line. option_map (λ i. width i gaps line) (cell line))
 
--- the gap from a width to the column of the run, or one blank where there is no run
+-- the gap from a width to the column of the run, or one blank without a run
 abbrev pub gap_to : Option ℕ → ℕ → ℕ
 gap_to None own = 1
 gap_to (Some column) own = column - own + 1
@@ -73,7 +73,7 @@ aligned_gaps_by cell (g ∷ gs) [] cs = []
 aligned_gaps_by cell (g ∷ gs) (l ∷ ls) [] = []
 aligned_gaps_by cell (g ∷ gs) (l ∷ ls) (c ∷ cs) = align cell g l c ∷ aligned_gaps_by cell gs ls cs
 
--- the cells of all lines set to their columns: `running` tells which lines take part in runs
+-- the cells of all lines set to their columns: `running` says which lines are part of runs
 abbrev pub aligned_gaps : (Line → Option ℕ) → (Line → Option ℕ) → List (List ℕ) → List Line → List (List ℕ)
 aligned_gaps cell running gaps ls = aligned_gaps_by cell gaps ls (columns (widths running gaps ls))
 

@@ -1,11 +1,11 @@
--- The level of a line: how many lines before it open a group that is open still. A group is opened by a line with
--- more openers than closers, and is open as long as the lines from there on have more openers than closers.
+-- The level of a line: the number of lines before it that open a group which is still open. A line with more openers
+-- than closers opens a group, and the group is open as long as the lines from there on have more openers than closers.
 -- Our own choice, in the style of `terraform fmt`: two openers on one line indent by one level.
 use Rattle.std.specs.Prelude.{◌+◌, ◌&&◌, ℕ, Bool, true, List, [], ◌∷◌, ◌++◌, nat_lt, if◌then◌else◌}
 use Rattle.hcl_tokens.specs.Balanced.{closers, openers}
 use Rattle.hcl_layout.specs.Lines.{Line}
 
--- so many openers and closers
+-- numbers of openers and closers
 pub record Net : Type 0 where
   pub opens : ℕ
   pub closes : ℕ
@@ -29,8 +29,8 @@ abbrev pub stays_above : Net → List Net → Bool
 stays_above sum [] = true
 stays_above sum (n ∷ rest) = is_above (plus sum n) && stays_above (plus sum n) rest
 
--- the level of the line n after these lines: how many of them open a group from which on the depth stays above
--- what it was before them, up to n
+-- the level of line n after these lines: the number of lines that open a group after which the depth stays above the
+-- depth before them, up to n
 abbrev pub level : List Net → Net → ℕ
 level [] n = 0
 level (m ∷ rest) n = (if stays_above no_net (m ∷ (rest ++ n ∷ [])) then 1 else 0) + level rest n

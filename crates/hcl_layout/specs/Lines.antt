@@ -1,6 +1,5 @@
--- Lines, as the layout sees them: a token list split after each newline that stands outside heredocs. A text
--- without a last newline ends in a line without one.
--- Our own choice: a heredoc's body is kept as it is, so it belongs to the line on which it began.
+-- Lines of the layout: a token list split after each newline outside heredocs. A text without a last newline ends in a
+-- line without one. Our own choice: a heredoc's body is kept as it is, so it belongs to the line on which it began.
 use Rattle.std.specs.Prelude.{◌&&◌, Bool, not, List, [], ◌∷◌, if◌then◌else◌}
 use Rattle.hcl_tokens.specs.Lexemes.{Lexeme}
 use Rattle.hcl_tokens.specs.Kinds.{is}

@@ -1,5 +1,5 @@
--- What is printed of a token list: the gaps, as spaces, and the texts in turn. Blanks before a newline and at the end
--- vanish; all else is kept as it is. Our own choice, as `terraform fmt` does for what it doesn't rewrite.
+-- The print of a token list: the gaps, as spaces, and the texts in turn. Blanks before a newline and at the end vanish;
+-- all else is kept as it is. Our own choice, as `terraform fmt` treats text that it doesn't rewrite.
 use Rattle.std.specs.Prelude.{ℕ, List, [], ◌∷◌, ◌++◌, replicate}
 use Rattle.hcl_tokens.specs.Lexemes.{Lexeme}
 use Rattle.hcl_layout.specs.Gaps.{gaps}

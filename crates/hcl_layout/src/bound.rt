@@ -1,9 +1,9 @@
-//! Whether a print fits into so many bytes.
+//! Whether a print fits into a number of bytes.
 //!
-//! Most prints are shown to fit by a bound that asks for no spacing and no column. Each token takes its text and a
-//! blank, and a line two blanks more for each opener that is open before it. The gap before a cell is, without its one
-//! blank, no wider than what stands before a cell in some line of its group, which is the lines next to one another
-//! that have a cell; before a comment it is twice that, since a sign before it may have been moved too:
+//! A bound that needs no spacing and no column shows that most prints fit. Each token takes its text and a blank, and a
+//! line two more blanks for each opener that is open before it. A group is adjacent lines that have a cell. Without its
+//! one blank, the gap before a cell is no wider than the text before a cell in some line of its group; before a comment
+//! it is at most twice that, since a sign before it may have been moved too:
 //!
 //! ```text
 //! line             each token and a blank     indent   before its last cell    cells, a comment for two
@@ -13,7 +13,7 @@
 //! }                    2 + 2                     2
 //! ```
 //!
-//! Here two lines are a group. It takes at most 6 * 15 blanks more.
+//! Here two lines are a group, which takes at most 6 * 15 more blanks.
 ghost use Rattle.std.specs.Prelude.{◌≡◌, ◌↔◌, ◌<◌, ◌≤◌, ◌+◌, ◌*◌, ◌^◌, ℕ, IsTrue, Some, length};
 ghost use Rattle.hcl_tokens.specs.Balanced.{max_open};
 ghost use Rattle.hcl_layout.specs.Inner.Depths.{BalancedFrom};
@@ -26,8 +26,8 @@ use crate::measured::Measured;
 use crate::print::printed_len;
 use hcl_grammar::Accepted;
 
-/// What the gaps of the lines that were passed take, but for a blank before each token, and the group at hand: so many
-/// cells, of which a comment counts for two, and the greatest width before one.
+/// A bound of the gaps of the passed lines, apart from a blank before each token, and the current group: the number of
+/// its cells (a comment counts for two), and the greatest width before one.
 #[derive(Clone, Copy)]
 pub struct Extent {
     pub passed: u64,
@@ -35,7 +35,7 @@ pub struct Extent {
     pub width: u64,
 }
 
-/// No less than what the texts before a cell take, each with a blank: no byte is of two of them.
+/// At least the length of the texts before a cell, each with a blank: no byte belongs to two of them.
 fn room_before(tokens: &Measured<'_, '_>, line: Line, cell: Option<usize>) -> u64
     requires line { line.end ≤ length tokens.now.tokens }
     requires some { line.first < line.end }
@@ -52,7 +52,7 @@ fn room_before(tokens: &Measured<'_, '_>, line: Line, cell: Option<usize>) -> u6
     room.saturating_sub(start) as u64
 }
 
-/// The cells of a line, of which a comment counts for two.
+/// The number of cells of a line; a comment counts for two.
 fn cells_in(line: Line) -> u64
     ensures { result ≡ cells_of (facts_in line).assign (facts_in line).running }
 {
@@ -64,7 +64,7 @@ fn cells_in(line: Line) -> u64
 }
 
 impl Extent {
-    /// With a line that begins at a depth.
+    /// The extent with a line that begins at a depth.
     fn with_line(self, tokens: &Measured<'_, '_>, depth: u32, line: Line) -> Extent
         requires line { IsLine tokens.now.tokens line.first depth (facts_in line) }
         requires depth { depth ≤ max_open }
@@ -91,7 +91,7 @@ impl Extent {
     }
 }
 
-/// No less than the length of the print, in bytes.
+/// At least the length of the print, in bytes.
 #[inline(never)]
 fn bound(tokens: &Measured<'_, '_>) -> u64
     requires balanced { BalancedFrom 0 tokens.now.tokens }
@@ -114,7 +114,7 @@ fn bound(tokens: &Measured<'_, '_>) -> u64
     tokens.len_bound() + extent.passed + extent.cells * extent.width
 }
 
-/// Whether the print has no more bytes than that.
+/// Whether the print has at most this many bytes.
 pub fn fits(accepted: &Accepted<'_, '_>, most: u64) -> bool
     ensures { IsTrue result ↔ (length (print accepted.now.tokens) ≤ most) }
 {

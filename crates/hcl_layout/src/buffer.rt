@@ -1,7 +1,7 @@
-//! What waits to be written.
+//! The bytes that wait to be written.
 ghost use Rattle.std.specs.Prelude.{◌≤◌};
 
-/// What waits to be written: the first `len` bytes. So many bytes were sent before them.
+/// The bytes that wait to be written: the first `len` of the array. `sent` counts those written before.
 #[derive(Drop)]
 pub struct Buffer {
     pub bytes: [u8; 8192],
@@ -10,7 +10,8 @@ pub struct Buffer {
     ghost within: { len ≤ 8192 },
 }
 
-/// What is printed as it stands in the source: the bytes from `start` to `end`, with so many blanks before them.
+/// A stretch of the source that is printed unchanged: the bytes from `start` to `end`, with a number of blanks before
+/// them.
 #[derive(Clone, Copy)]
 pub struct Stretch {
     pub gap: u64,

@@ -1,5 +1,5 @@
-//! What is proved of the definitions alone. No program calls this function: its contract is the law. What is proved of a
-//! print that is scanned again stands in `layout_laws`.
+//! A law of the definitions alone. No program calls this function: its contract is the law. The laws of a print that is
+//! scanned again are in `layout_laws`.
 
 ghost use Rattle.std.specs.Prelude.{◌≡◌, List, length};
 ghost use Rattle.hcl_tokens.specs.Lexemes.{Lexeme};

@@ -1,8 +1,8 @@
-//! Levels, by depth: how far a line is indented.
+//! Levels, by depth: the indentation of a line.
 //!
-//! The depth is how many openers are open. A line that ends deeper than it began starts one level, however many openers it
-//! has, and all depths that it reaches have that level from then on. A line stands at the level of the least deep of its two
-//! ends.
+//! The depth is the number of open openers. A line that ends deeper than it began starts one level, however many
+//! openers it has, and all depths that it reaches have that level from then on. A line has the level of the less deep
+//! of its two ends.
 //!
 //! ```text
 //!                  depth after    level    levels of the depths 0, 1, 2, 3 after it
@@ -20,10 +20,10 @@ ghost use Rattle.hcl_layout.specs.Inner.Depths.{Sound, level_at, next_levels, ra
 
 use hcl_tokens::MAX_OPEN;
 
-/// The depths at which a line can end: from 0 to as many openers as may be open.
+/// The depths at which a line can end: from 0 to the most openers that may be open.
 pub const DEPTHS: usize = MAX_OPEN + 1;
 
-/// Sets the level of depths that stand next to one another.
+/// Sets the level of a range of depths.
 fn raise(levels: &mut [u32; DEPTHS], level: u32, from: u32, to: u32)
     requires order { from ≤ to }
     requires within { to ≤ max_open + 1 }
@@ -34,7 +34,7 @@ fn raise(levels: &mut [u32; DEPTHS], level: u32, from: u32, to: u32)
     }
 }
 
-/// The level of a line, by the depths before and after it. The levels are then those after it.
+/// The level of a line, from the depths before and after it. The levels are then those after it.
 #[inline(always)]
 pub fn next_level(levels: &mut [u32; DEPTHS], before: u32, now: u32) -> u32
     requires before { before ≤ max_open }

@@ -1,13 +1,13 @@
-//! The layout of accepted tokens: how many blanks stand before each, and so what is printed.
+//! The layout of accepted tokens: the blanks before each, and so the print.
 //!
 //! It is written once, as a walk over the lines ([`lines`]): each line comes with its level and with its cells in the
 //! columns of their runs, and gives its pieces, each a token with the gap before it. Loops over lines and pieces
-//! compare them with the source ([`is_formatted`]), count them ([`printed_len`]) and write them ([`emit`]); the first
-//! is there twice, since a loop that calls nothing keeps its registers, and finds a formatted file in place.
-//! Nothing is stored of a line that was passed but the depth, the levels by depth and the two runs in which it
-//! stands. The column of a run is found at its first line: the lines ahead are measured, or, for a comparison, it is
-//! where the cell stands in the source, and the run tells at its end whether that was right. [`fits`] counts only
-//! what a bound doesn't tell to fit.
+//! compare them with the source ([`is_formatted`]), count their bytes ([`printed_len`]) and write them ([`emit`]). The
+//! comparison exists twice, since a loop that calls nothing keeps its registers, and finds a formatted file in place.
+//! After a line the walk stores only the depth, the levels by depth and the two runs that the line belongs to. The
+//! column of a run is found at its first line: the lines ahead are measured, or, for a comparison, the column is the
+//! place of the cell in the source, and the end of the run shows whether that was right. [`fits`] measures only if a
+//! bound doesn't show that the print fits.
 //!
 //! ```text
 //! line             level   before =   before #   gaps before its pieces   printed
@@ -17,10 +17,9 @@
 //! }                  0                           0 0                      }
 //! ```
 //!
-//! The two lines that have an assign cell are a run, and so are the two that have a comment at their end. The column
-//! of a run is its greatest width, 6 and 12 here, and the gap before a cell goes from the width before it to one
-//! blank after the column: 6 - 3 + 1 and 12 - 10 + 1 in the second line. The other gaps are those of the indent and
-//! of the spacing.
+//! The two lines with an assign cell are a run, and so are the two with a comment at their end. The column of a run is
+//! its greatest width, 6 and 12 here, and the gap before a cell goes from the width before it to one blank after the
+//! column: 6 - 3 + 1 and 12 - 10 + 1 in the second line. The other gaps come from the indent and the spacing.
 #![tactic(auto)]
 
 mod bound;

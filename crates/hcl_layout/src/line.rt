@@ -1,4 +1,4 @@
-//! One line, in one walk: where it ends, how deep, and which cells it has.
+//! One line, in one walk: its end, its depth, and its cells.
 ghost use Rattle.std.specs.Prelude.{◌≡◌, ◌<◌, ◌≤◌, ◌+◌, ◌==◌, ◌||◌, ℕ, not, false, length, drop, slice_get, Some, None, if◌then◌else◌};
 ghost use Rattle.std.specs.List.{list_any};
 ghost use Rattle.hcl_tokens.specs.Lexemes.{Lexeme};
@@ -11,7 +11,7 @@ ghost use Rattle.hcl_layout.specs.Inner.Survey.{AsksMore, IsLine, Notes, NotesAt
 use crate::measured::Measured;
 use hcl_tokens::Kind;
 
-/// A line: the numbers of its first token and of that after it, the depth after it, and the numbers of its cells.
+/// A line: the numbers of its first token and of the token after it, the depth after it, and the numbers of its cells.
 #[derive(Clone, Copy)]
 pub struct Line {
     pub first: usize,
@@ -21,12 +21,12 @@ pub struct Line {
     pub sign: Option<usize>,
     /// The comment at its end.
     pub comment: Option<usize>,
-    /// The comment is of a run.
+    /// Whether the comment is part of a run.
     pub runs: bool,
 }
 
 impl Line {
-    /// The comment, where it is of a run.
+    /// The comment, if it is part of a run.
     pub fn running(self) -> Option<usize>
         ensures { result ≡ (if not self.runs then None else self.comment) }
     {
@@ -37,8 +37,8 @@ impl Line {
     }
 }
 
-/// By kind, the depth after a token of it that stands at depth 1, as a digit: `2` opens, `0` closes, and `1` does
-/// neither. A point stands for the kinds of which more is asked.
+/// By kind, the depth after a token at depth 1, as a digit: `2` opens, `0` closes, and `1` does neither. A point marks
+/// the kinds that need a closer look.
 static STEPS: [u8; 256] = *b"\
     ...111112220000111111.1111111111\
     1111112211......................\
@@ -51,7 +51,7 @@ static STEPS: [u8; 256] = *b"\
 
 pub const MORE: u8 = b'.';
 
-/// What a token of the kind does to the depth.
+/// The effect of a token of the kind on the depth.
 #[inline(always)]
 pub fn step_of(kind: Kind) -> u8
     ensures { result ≡ step_of kind }
@@ -69,7 +69,7 @@ pub fn depth_after(depth: u32, step: u8) -> u32
     depth + u32::from(step) - u32::from(b'1')
 }
 
-/// Whether a line ends with the token of this number. Its text isn't asked for.
+/// Whether a line ends with the token of this number, without reading its text.
 #[inline(always)]
 fn is_line_end(tokens: &Measured<'_, '_>, number: usize) -> bool
     requires { number < length tokens.now.tokens }
@@ -87,19 +87,19 @@ fn holds_newline(text: &str) -> bool
     text.as_bytes().iter().any(|b| *b == b'\n')
 }
 
-/// What of a line was passed.
+/// The state of a walk along a line.
 #[derive(Clone, Copy)]
 pub struct Seen {
     pub sign: Option<usize>,
     pub sign_depth: u32,
     pub comment: Option<usize>,
-    /// The depth after what stands before the comment.
+    /// The depth before the comment.
     pub body_depth: u32,
     pub multiline: bool,
 }
 
 impl Seen {
-    /// With a sign.
+    /// The state with a sign.
     #[inline(always)]
     fn with_sign(self, number: usize, depth: u32) -> Seen
         ensures { (t : Lexeme) → t.kind ≡ Assign → t.inside_heredoc ≡ false
@@ -115,7 +115,7 @@ impl Seen {
         }
     }
 
-    /// With a comment to the end of its line.
+    /// The state with a comment to the end of its line.
     #[inline(always)]
     fn with_comment(self, number: usize, depth: u32) -> Seen
         ensures { (t : Lexeme) → t.kind ≡ LineComment → t.inside_heredoc ≡ false
@@ -131,7 +131,7 @@ impl Seen {
         }
     }
 
-    /// With an inline comment.
+    /// The state with an inline comment.
     #[inline(always)]
     fn with_text(self, number: usize, text: &str) -> Seen
         ensures { (t : Lexeme) (depth : ℕ) → t.kind ≡ InlineComment → t.inside_heredoc ≡ false
@@ -143,7 +143,7 @@ impl Seen {
         }
     }
 
-    /// With a token of which more is asked, and with which the line doesn't end.
+    /// The state after a token that needs a closer look and doesn't end the line.
     #[inline(always)]
     fn with(self, tokens: &Measured<'_, '_>, number: usize, depth: u32) -> Seen
         requires within { number < length tokens.now.tokens }
@@ -164,7 +164,7 @@ impl Seen {
         self.with_text(number, tokens.get(number).text)
     }
 
-    /// The depth before the comment.
+    /// The depth before the comment, if there is one.
     #[inline(always)]
     fn body_depth(self, depth: u32) -> u32
         ensures { result ≡ body_of self depth }
@@ -175,7 +175,7 @@ impl Seen {
         depth
     }
 
-    /// The sign, where it begins a cell.
+    /// The sign, if it begins a cell.
     #[inline(always)]
     fn cell(self, depth: u32) -> Option<usize>
         ensures { result ≡ seen_cell self depth }
@@ -213,7 +213,7 @@ fn is_torn_by(tokens: &Measured<'_, '_>, number: usize) -> bool
     matches!(token.kind, Kind::InlineComment) && !token.inside_heredoc && holds_newline(token.text)
 }
 
-/// What is seen of a line before a token of which more is asked.
+/// The state of a line before a token that needs a closer look.
 fn nothing_seen(multiline: bool) -> Seen
     ensures { result ≡ unseen multiline }
 {
@@ -226,7 +226,7 @@ fn nothing_seen(multiline: bool) -> Seen
     }
 }
 
-/// After the first token of a line, which is no cell: what was seen, the depth, and whether the line ends with it.
+/// After the first token of a line, which is no cell: the state, the depth, and whether the line ends with it.
 #[inline(always)]
 fn read_first(tokens: &Measured<'_, '_>, first: usize, before: u32) -> (Seen, u32, bool)
     requires within { first < length tokens.now.tokens }
@@ -245,8 +245,8 @@ fn read_first(tokens: &Measured<'_, '_>, first: usize, before: u32) -> (Seen, u3
     (nothing_seen(is_torn_by(tokens, first)), before, false)
 }
 
-/// Passes the tokens from a number on that open, close or do neither, and of which no more is asked: the number of the
-/// next, or how many tokens there are, and the depth there.
+/// Steps over tokens from a number on that open, close or do neither, and need no closer look. Returns the number of
+/// the next token, or the number of tokens, and the depth there.
 #[inline(always)]
 fn pass_steps(tokens: &Measured<'_, '_>, from: usize, before: u32) -> (usize, u32)
     requires within { from ≤ length tokens.now.tokens }
@@ -269,7 +269,7 @@ fn pass_steps(tokens: &Measured<'_, '_>, from: usize, before: u32) -> (usize, u3
     (number, depth)
 }
 
-/// The line that begins at a token, where the depth is known.
+/// The line that begins at a token, given the depth there.
 #[inline(always)]
 pub fn line_at(tokens: &Measured<'_, '_>, first: usize, before: u32) -> Line
     requires within { first < length tokens.now.tokens }

@@ -1,4 +1,4 @@
-//! The lines, one after another, each with its level and its cells in the columns of their runs.
+//! The lines in turn, each with its level and its cells in the columns of their runs.
 ghost use Rattle.std.specs.Prelude.{◌≡◌, ◌≢◌, ◌<◌, ◌≤◌, ◌+◌, ◌-◌, ◌^◌, not, length, slice_get, Some, IfSome, IfNone, [], option_map};
 ghost use Rattle.hcl_tokens.specs.Scanned.{lexeme};
 ghost use Rattle.hcl_tokens.specs.Balanced.{max_open};
@@ -16,8 +16,8 @@ use crate::measured::Measured;
 use hcl_spacing::{space_between, space_by_kinds};
 use hcl_tokens::{Kind, Token};
 
-/// A cell: the number of its token, the width before it, and the gap that sets it into its column. Where a line has
-/// none, that is a cell after its end.
+/// A cell: the number of its token, the width before it, and the gap that sets it into its column. A line without one
+/// has a cell after its end.
 #[derive(Clone, Copy)]
 pub struct Cell {
     pub number: usize,
@@ -42,23 +42,23 @@ pub struct Piece<'s> {
     pub token: Token<'s>,
 }
 
-/// How the column of a run is come by at its first line: the lines ahead are measured, or it is where the cell stands
-/// in the source.
+/// How the column of a run is found at its first line: by measuring the lines ahead, or from the place of the cell in
+/// the source.
 #[derive(Clone, Copy)]
 pub enum Columns {
     Ahead,
     Found,
 }
 
-/// A run of cells at hand: its column, and the greatest width so far. In the end the two are equal, or the column was not
-/// that of the run.
+/// The current run of cells: its column, and the greatest width so far. If the two differ at its end, the column was
+/// wrong.
 #[derive(Clone, Copy)]
 pub struct Run {
     pub column: u64,
     pub greatest: u64,
 }
 
-/// What is known of the lines that were passed.
+/// The state after the passed lines.
 #[derive(Clone, Copy)]
 pub struct Lines {
     pub next: usize,
@@ -67,7 +67,7 @@ pub struct Lines {
     pub signs: Option<Run>,
     pub comments: Option<Run>,
     pub columns: Columns,
-    /// A run had another column.
+    /// Whether a run had another column.
     pub wrong: bool,
 }
 
@@ -80,7 +80,7 @@ fn is_wrong(run: Option<Run>) -> bool
     run.column != run.greatest
 }
 
-/// The run with a further line of that width before the cell.
+/// The run with another line, by the width before its cell.
 fn widened(column: u64, run: Option<Run>, width: u64) -> Run
     ensures column { result.column ≡ column }
     ensures greatest { result.greatest ≡ greatest_of run width }
@@ -97,7 +97,7 @@ fn widened(column: u64, run: Option<Run>, width: u64) -> Run
     }
 }
 
-/// The column in which a cell stands in the source, before which a line is so wide.
+/// The column of a cell in the source, from the width before it.
 fn found_column(tokens: &Measured<'_, '_>, number: usize, width: u64) -> u64
     requires within { number < length tokens.now.tokens }
     requires after { 0 < number }
@@ -123,7 +123,7 @@ fn token_before<'s>(tokens: &Measured<'_, 's>, first: usize, number: usize) -> O
     None
 }
 
-/// The blank before a token where the kinds of the two don't tell it.
+/// The blank before a token if the two kinds don't decide it.
 #[cold]
 fn asked_gap(tokens: &Measured<'_, '_>, first: usize, number: usize) -> u64
     requires within { number < length tokens.now.tokens }
@@ -146,7 +146,7 @@ fn indent(level: u32, token: Token<'_>) -> u64
     2 * u64::from(level)
 }
 
-/// The blank before a token of a line that isn't its first.
+/// The blank before a token of a line, except its first.
 #[inline(always)]
 fn gap_after(tokens: &Measured<'_, '_>, first: usize, number: usize, token: Token<'_>) -> u64
     requires there { slice_get tokens.now.tokens number ≡ Some (lexeme token) }
@@ -196,7 +196,7 @@ impl LaidLine {
         gap_after(tokens, self.first, number, token)
     }
 
-    /// The first cell after a token, or the end.
+    /// The next cell after a token, or the end.
     #[inline(always)]
     fn stop_after(self, number: usize) -> usize
         requires order { self.first ≤ number }
@@ -215,7 +215,8 @@ impl LaidLine {
         self.sign.number
     }
 
-    /// A token of the line with the blanks before it, where up to the stop none has a gap of its own; and the next stop.
+    /// A token of the line with the blanks before it, if no token before the stop has a gap of its own; and the next
+    /// stop.
     #[inline(always)]
     pub fn piece<'s>(
         self,
@@ -243,7 +244,7 @@ impl LaidLine {
         (Piece { gap, token }, stop)
     }
 
-    /// The width before a token, on from another before which it is known.
+    /// The width before a token, from a known width before an earlier one.
     #[inline(always)]
     fn width(self, tokens: &Measured<'_, '_>, from: usize, sum: u64, number: usize) -> u64
         requires laid { Laid tokens.now.tokens self }
@@ -264,7 +265,7 @@ impl LaidLine {
         sum
     }
 
-    /// The width before a sign, where no cell is set yet.
+    /// The width before a sign, before any cell is set.
     #[inline(always)]
     fn sign_width(self, tokens: &Measured<'_, '_>, number: usize) -> u64
         requires laid { Laid tokens.now.tokens self }
@@ -279,8 +280,8 @@ impl LaidLine {
         self.width(tokens, self.first, 0, number)
     }
 
-    /// The width before a comment, where the sign is set. It is a call, since [`Lines::next`] would grow too large to be
-    /// inlined with it.
+    /// The width before a comment, once the sign is set. This is a call, since [`Lines::next`] would grow too large to
+    /// be inlined with it.
     #[inline(never)]
     fn comment_width(self, tokens: &Measured<'_, '_>, number: usize) -> u64
         requires laid { Laid tokens.now.tokens self }
@@ -298,7 +299,7 @@ impl LaidLine {
         self.width(tokens, self.first, 0, number)
     }
 
-    /// With its sign, before which the line is so wide, in a column.
+    /// The line with its sign in a column, given the width before the sign.
     fn with_sign(self, number: usize, width: u64, column: u64) -> LaidLine
         requires fits { column < 2 ^ 33 }
         ensures { result ≡ with_sign_in self number width column }
@@ -309,7 +310,7 @@ impl LaidLine {
         }
     }
 
-    /// With its comment, before which the line is so wide, in a column.
+    /// The line with its comment in a column, given the width before the comment.
     fn with_comment(self, number: usize, width: u64, column: u64) -> LaidLine
         requires fits { column < 2 ^ 34 }
         ensures { result ≡ with_comment_in self number width column }
@@ -348,14 +349,14 @@ impl Lines {
         }
     }
 
-    /// Whether no run had another column than it was taken for, at the end of the text.
+    /// Whether every run had the right column, at the end of the text.
     pub fn are_right(&self) -> bool
         ensures { result ≡ not (ends_all_wrong self.now) }
     {
         !(self.wrong || is_wrong(self.signs) || is_wrong(self.comments))
     }
 
-    /// Passes a line but for its cells.
+    /// Passes a line, except for its cells.
     #[inline(always)]
     fn pass(&mut self, line: Line) -> LaidLine
         requires before { self.old.depth ≤ max_open }
@@ -384,7 +385,7 @@ impl Lines {
         }
     }
 
-    /// The greatest width before the signs of the run that goes on with the next line.
+    /// The greatest width before the signs of the run that continues with the next line.
     #[cold]
     fn signs_ahead(&self, tokens: &Measured<'_, '_>) -> u64
         requires at { IsAt tokens.now.tokens self.now }
@@ -403,7 +404,7 @@ impl Lines {
         greatest
     }
 
-    /// The column of a sign before which a line is so wide, where the next line begins after it.
+    /// The column of a sign, from the width before it, when the next line begins after it.
     #[inline(always)]
     fn sign_column(&self, tokens: &Measured<'_, '_>, number: usize, width: u64) -> u64
         requires at { IsAt tokens.now.tokens self.now }
@@ -423,7 +424,7 @@ impl Lines {
         }
     }
 
-    /// Passes a line but for its comment.
+    /// Passes a line, except for its comment.
     #[inline(always)]
     fn pass_sign(&mut self, tokens: &Measured<'_, '_>, line: Line) -> LaidLine
         requires { Reads tokens.now.tokens self.old line }
@@ -446,7 +447,7 @@ impl Lines {
         laid.with_sign(number, width, column)
     }
 
-    /// The greatest width before the comments of the run that goes on with the next line.
+    /// The greatest width before the comments of the run that continues with the next line.
     #[cold]
     fn comments_ahead(&self, tokens: &Measured<'_, '_>) -> u64
         requires at { IsAt tokens.now.tokens self.now }
@@ -467,7 +468,7 @@ impl Lines {
         greatest
     }
 
-    /// The column of a comment before which a line is so wide, where the next line begins after it.
+    /// The column of a comment, from the width before it, when the next line begins after it.
     #[inline(always)]
     fn comment_column(&self, tokens: &Measured<'_, '_>, number: usize, width: u64) -> u64
         requires at { IsAt tokens.now.tokens self.now }
@@ -509,7 +510,7 @@ impl Lines {
         self.signs = None;
     }
 
-    /// Passes a line, and gives it with both cells in their columns.
+    /// Passes a line, and returns it with both cells in their columns.
     #[inline(always)]
     fn pass_line(&mut self, tokens: &Measured<'_, '_>, line: Line) -> LaidLine
         requires { Reads tokens.now.tokens self.old line }

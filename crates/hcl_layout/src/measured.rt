@@ -1,4 +1,4 @@
-//! The tokens to lay out, and how wide their texts are.
+//! The tokens to lay out, and the widths of their texts.
 ghost use Rattle.std.specs.Prelude.{◌≡◌, ◌<◌, ◌≤◌, ◌+◌, ◌^◌, ◌&&◌, IfSome, IsTrue, Some, true, length, drop, nat_le, slice_get, take};
 ghost use Rattle.std.specs.List.{prefix_len};
 ghost use Rattle.std.specs.Str.{chars};
@@ -15,8 +15,8 @@ use hcl_tokens::{Kind, Token, Tokens};
 use std::marker::Model;
 use unicode_segmentation::UnicodeSegmentation;
 
-/// Tokens, and whether their source is ASCII without CR: then each text is as wide as it has bytes. That is asked of the
-/// whole source once, and not of each text.
+/// Tokens, and whether their source is ASCII without CR: then each text is as wide as its bytes. The whole source is
+/// tested for that once, not each text.
 #[derive(Drop)]
 pub struct Measured<'t, 's> {
     tokens: &'t Tokens<'s>,
@@ -37,8 +37,8 @@ impl<'t, 's> Model for Measured<'t, 's> {
         × IsBounded m.tokens.now };
 }
 
-/// Whether the bytes are ASCII without CR, so that each is a grapheme cluster. All of them are looked at, whatever the
-/// first are, and what is kept of them is what one step on sixteen bytes gives, so that the loop can be vectorised.
+/// Whether the bytes are ASCII without CR, so that each is a grapheme cluster. The loop reads all of them, whatever the
+/// first ones are, and keeps the result of a step on sixteen bytes, so that it can be vectorised.
 pub fn is_simple(bytes: &[u8]) -> bool
     ensures { result ≡ is_simple_of bytes.now }
 {
@@ -57,8 +57,8 @@ fn is_between(c: char, first: char, last: char) -> bool
     first <= c && c <= last
 }
 
-/// The same from U+0300 on, the first that joins with the one before it. It is a call, since the compiler would otherwise ask
-/// for all ranges of each character.
+/// Whether a character from U+0300 on, the first that joins with the one before it, is a grapheme cluster by itself.
+/// This is a call, since the compiler would otherwise test all ranges for each character.
 #[inline(never)]
 fn is_alone_above(c: char) -> bool
     requires { 0x300 ≤ c }
@@ -80,8 +80,8 @@ fn is_alone_above(c: char) -> bool
         || is_between(c, '\u{20000}', '\u{3ffff}')
 }
 
-/// Whether a character is a grapheme cluster by itself among such, as nearly all are outside a few scripts: one that never
-/// joins with the one before it or after it, as combining accents, CR and half of a flag do.
+/// Whether a character is a grapheme cluster by itself among others of its sort, as nearly all are outside a few
+/// scripts: one that never joins with the one before it or after it, as combining accents, CR and half of a flag do.
 fn is_alone(c: char) -> bool
     ensures { result ≡ is_alone_of c }
 {
@@ -91,7 +91,7 @@ fn is_alone(c: char) -> bool
     is_alone_above(c)
 }
 
-/// How many bytes at the front are ASCII and no CR.
+/// How many bytes at the front are ASCII, except CR.
 fn simple_len(bytes: &[u8]) -> usize
     ensures count { result ≡ prefix_len is_simple_byte bytes.now }
     ensures within { result ≤ length bytes.now }
@@ -102,7 +102,7 @@ fn simple_len(bytes: &[u8]) -> usize
         .count()
 }
 
-/// How many characters a text has, where each of them is a grapheme cluster by itself.
+/// How many characters a text has, if each of them is a grapheme cluster by itself.
 fn count_alone(text: &str) -> Option<u64>
     ensures alone { IfSome result (λ n. are_alone (chars text.now) ≡ true) }
     ensures count { IfSome result (λ n. n ≡ length (chars text.now)) }
@@ -120,8 +120,8 @@ fn count_alone(text: &str) -> Option<u64>
     Some(count)
 }
 
-/// How many extended grapheme clusters a text has. Most texts are ASCII, most others so up to some character and of
-/// characters that are alone after it, and few need the tables:
+/// How many extended grapheme clusters a text has. Most texts are ASCII; most others are ASCII up to some character and
+/// then have only characters that are clusters by themselves; few need the tables:
 ///
 /// ```text
 /// size_1        6 bytes
@@ -140,7 +140,7 @@ fn count_clusters(text: &str) -> u64
     }
 }
 
-/// Whether a text is one byte of ASCII and no CR, as most of the signs are.
+/// Whether a text is one byte of ASCII except CR, as most of the signs are.
 fn is_one_byte(text: &str) -> bool
     ensures simple { IsTrue result → is_simple_of text.now ≡ true }
     ensures one { IsTrue result → length text.now ≡ 1 }
@@ -162,7 +162,7 @@ impl<'t, 's> Measured<'t, 's> {
         Measured { tokens, simple }
     }
 
-    /// The same for who asks for no width, and so for no look at the source.
+    /// The tokens for a caller that needs no width, and so no look at the source.
     pub fn unmeasured(accepted: &Accepted<'t, 's>) -> Measured<'t, 's>
         ensures same { result ≡ accepted.now }
         ensures balanced { IsBalanced accepted.now.tokens }
@@ -177,8 +177,7 @@ impl<'t, 's> Measured<'t, 's> {
         }
     }
 
-    /// The bytes of the source. Its size bounds the number of tokens and their texts, and so every sum that is made of
-    /// the print.
+    /// The bytes of the source. Its size bounds the number of tokens and their texts, and so every sum about the print.
     pub fn source(&self) -> &'s [u8]
         ensures text { result.now ≡ self.now.text }
         ensures bounded { IsBounded self.now }
@@ -186,7 +185,7 @@ impl<'t, 's> Measured<'t, 's> {
         self.tokens.source().text().as_bytes()
     }
 
-    /// What the texts take at most, each with a blank: no byte is of two of them.
+    /// The most that the texts take, each with a blank: no byte belongs to two of them.
     pub fn len_bound(&self) -> u64
         ensures bound { len_with_blanks self.now.tokens ≤ result }
         ensures small { result ≤ 2 ^ 23 }
@@ -230,7 +229,7 @@ impl<'t, 's> Measured<'t, 's> {
         self.tokens.is_inside_heredoc(i)
     }
 
-    /// How wide the text of a token is: how many grapheme clusters it has.
+    /// The width of a token's text: its number of grapheme clusters.
     #[inline(always)]
     pub fn clusters(&self, token: Token<'_>) -> u64
         requires source { IsFrom self.now.text token.start token.text.now }

@@ -1,4 +1,4 @@
-//! How long the print is, and whether the source is its own print.
+//! The length of the print, and whether the source is its own print.
 ghost use Rattle.std.specs.Prelude.{◌≡◌, ◌↔◌, ◌<◌, ◌≤◌, ◌+◌, ◌^◌, ◌==◌, IsTrue, IfSome, length, drop, nat_eq};
 ghost use Rattle.std.specs.List.{list_all, starts_with};
 ghost use Rattle.hcl_tokens.specs.Balanced.{IsBalanced};
@@ -29,7 +29,7 @@ pub fn printed_len(accepted: &Accepted<'_, '_>) -> u64
     len
 }
 
-/// Whether the print has no bytes. No token is empty, so that is so where there is none.
+/// Whether the print has no bytes. No token is empty, so only an empty token list prints nothing.
 pub fn prints_nothing(accepted: &Accepted<'_, '_>) -> bool
     ensures { result ≡ (length (print accepted.now.tokens) == 0) }
 {
@@ -45,7 +45,7 @@ pub fn are_spaces(bytes: &[u8]) -> bool
     bytes.iter().all(|b| *b == b' ')
 }
 
-/// Whether a piece stands in the source where the text before it ends.
+/// Whether the source has a piece where the text before it ends.
 #[inline(always)]
 pub fn goes_on(source: &[u8], at: usize, piece: Piece<'_>) -> bool
     requires within { at ≤ length source.now }
@@ -67,7 +67,7 @@ pub fn goes_on(source: &[u8], at: usize, piece: Piece<'_>) -> bool
     are_spaces(&source[at..piece.token.start])
 }
 
-/// Whether so many spaces stand at the front.
+/// Whether there are this many spaces at the front.
 fn begins_blank(bytes: &[u8], gap: u64) -> bool
     ensures { result ≡ begins_blank gap bytes.now }
 {
@@ -78,8 +78,8 @@ fn begins_blank(bytes: &[u8], gap: u64) -> bool
     are_spaces(front)
 }
 
-/// Whether the text of a piece of the source stands at a place. Where nothing changed it stands
-/// there already, and isn't compared.
+/// Whether the source has the text of a piece at a place. If nothing changed before, that is the piece's own place, and
+/// nothing is compared.
 fn stands_at(bytes: &[u8], at: usize, piece: Piece<'_>) -> bool
     requires within { at ≤ length bytes.now }
     requires source { IsFrom bytes.now piece.token.start piece.token.text.now }
@@ -92,7 +92,7 @@ fn stands_at(bytes: &[u8], at: usize, piece: Piece<'_>) -> bool
     left.starts_with(piece.token.text.as_bytes())
 }
 
-/// Where a piece of the source ends that stands at a place, if it stands there. It is compared with what stands there.
+/// The end of a piece of the source at a place, if it is there. Its text is compared with the text there.
 #[inline(never)]
 fn moved_end(bytes: &[u8], at: usize, piece: Piece<'_>) -> Option<usize>
     requires within { at ≤ length bytes.now }
@@ -111,7 +111,7 @@ fn moved_end(bytes: &[u8], at: usize, piece: Piece<'_>) -> Option<usize>
     Some(front + piece.token.text.len())
 }
 
-/// Where a piece of the source ends that stands at a place, if it stands there.
+/// The end of a piece of the source at a place, if it is there; an unmoved text isn't compared.
 fn piece_end(bytes: &[u8], at: usize, piece: Piece<'_>) -> Option<usize>
     requires within { at ≤ length bytes.now }
     requires source { IsFrom bytes.now piece.token.start piece.token.text.now }
@@ -126,7 +126,7 @@ fn piece_end(bytes: &[u8], at: usize, piece: Piece<'_>) -> Option<usize>
     moved_end(bytes, at, piece)
 }
 
-/// Whether the print is the source, by comparing them piece by piece up to the first difference.
+/// Whether the print is the source, comparing them piece by piece up to the first difference.
 #[inline(never)]
 fn agrees(tokens: &Measured<'_, '_>) -> bool
     requires balanced { IsBalanced tokens.now.tokens }
@@ -149,8 +149,8 @@ fn agrees(tokens: &Measured<'_, '_>) -> bool
     at == bytes.len()
 }
 
-/// Whether each piece stands where the source has it, with the columns of the runs taken from the source, and these
-/// are the columns of the runs. Nothing is read ahead. It is called, so that the scan keeps its registers.
+/// Whether the source has each piece in place, with the columns of the runs taken from the source, and these columns
+/// are right. Nothing is read ahead. This is a call, so that the scan keeps its registers.
 #[inline(never)]
 fn stands_in_place(tokens: &Measured<'_, '_>) -> bool
     requires balanced { IsBalanced tokens.now.tokens }
@@ -176,14 +176,14 @@ fn stands_in_place(tokens: &Measured<'_, '_>) -> bool
     at == source.len() && lines.are_right()
 }
 
-/// Whether the print is found to be the source without reading ahead, as that of a formatted file is.
+/// Whether the print is found to be the source without reading ahead, as for a formatted file.
 pub fn is_found_formatted(accepted: &Accepted<'_, '_>) -> bool
     ensures { IsTrue result → print accepted.now.tokens ≡ accepted.now.text }
 {
     stands_in_place(&Measured::new(accepted))
 }
 
-/// Whether the print is the source: the bytes of the source are those of the print.
+/// Whether the print is the source: both have the same bytes.
 pub fn is_formatted(accepted: &Accepted<'_, '_>) -> bool
     ensures { IsTrue result ↔ (print accepted.now.tokens ≡ accepted.now.text) }
 {

@@ -13,7 +13,7 @@ use crate::print::goes_on;
 use hcl_grammar::Accepted;
 use hcl_tokens::{ByteSink, WriteFault, write_fully};
 
-/// Writes a block over another. As arrays the two are known to lie apart, which a copy of slices would ask.
+/// Writes a block over another. As arrays the two are known not to overlap; a copy of slices would test it.
 fn put_block(room: &mut [u8], block: &[u8; 32])
     requires { length room.old ≡ 32 }
     ensures len { length room.new ≡ length room.old }
@@ -25,7 +25,7 @@ fn put_block(room: &mut [u8], block: &[u8; 32])
     *place = *block;
 }
 
-/// The block of the source that begins with a short stretch, if the source goes on so far.
+/// The block of the source that begins with a short stretch, if the source is long enough.
 fn block_at(source: &[u8], stretch: Stretch) -> Option<&[u8; 32]>
     requires lies { Lies source.now stretch }
     requires short { stretch.end ≤ stretch.start + 32 }
@@ -50,7 +50,7 @@ impl Buffer {
         }
     }
 
-    /// Takes bytes for which there is room.
+    /// Appends bytes for which there is room.
     fn hold(&mut self, text: &[u8])
         requires { self.old.len + length text.now ≤ 8192 }
         ensures held { held self.new ≡ held self.old ++ text.now }
@@ -62,7 +62,7 @@ impl Buffer {
         self.len = end;
     }
 
-    /// Takes so many spaces, for which there is room.
+    /// Appends a number of spaces, for which there is room.
     fn hold_blanks(&mut self, count: usize)
         requires { self.old.len + count ≤ 8192 }
         ensures held { held self.new ≡ held self.old ++ replicate count 32 }
@@ -74,7 +74,7 @@ impl Buffer {
         self.len = end;
     }
 
-    /// Takes so many spaces: a block of them is written, and of that only so much taken.
+    /// Appends a number of spaces: writes a block of spaces and keeps only that part of it.
     fn hold_few_blanks(&mut self, count: usize)
         requires few { count ≤ 16 }
         requires room { self.old.len + 16 ≤ 8192 }
@@ -87,7 +87,7 @@ impl Buffer {
         self.len = at + count;
     }
 
-    /// Takes so many bytes of a block: the block is written, and of that only so much taken.
+    /// Appends a number of bytes of a block: writes the block and keeps only that part of it.
     fn hold_front(&mut self, block: &[u8; 32], count: usize)
         requires few { count ≤ 32 }
         requires room { self.old.len + 32 ≤ 8192 }
@@ -100,7 +100,7 @@ impl Buffer {
         self.len = at + count;
     }
 
-    /// Whether a stretch of the source is short, and there is room for the blocks that it is written by.
+    /// Whether a stretch of the source is short, and there is room for the blocks that write it.
     fn has_room(&self, stretch: Stretch) -> bool
         requires order { stretch.start ≤ stretch.end }
         ensures gap { IsTrue result → stretch.gap ≤ 16 }
@@ -111,7 +111,7 @@ impl Buffer {
     }
 }
 
-/// Writes what waits.
+/// Writes the waiting bytes.
 fn send<W: ByteSink>(to: &mut W, buffer: &mut Buffer) -> Result<(), WriteFault>
     requires fresh { W.failed to.old ≡ false }
     requires room { buffer.old.sent < 2 ^ 63 }
@@ -132,7 +132,7 @@ fn send<W: ByteSink>(to: &mut W, buffer: &mut Buffer) -> Result<(), WriteFault>
     Ok(())
 }
 
-/// Writes bytes for which the buffer, which is empty, has no room.
+/// Writes bytes that don't fit into the buffer, which is empty.
 fn send_past<W: ByteSink>(to: &mut W, buffer: &mut Buffer, text: &[u8]) -> Result<(), WriteFault>
     requires fresh { W.failed to.old ≡ false }
     requires empty { buffer.old.len ≡ 0 }
@@ -153,7 +153,7 @@ fn send_past<W: ByteSink>(to: &mut W, buffer: &mut Buffer, text: &[u8]) -> Resul
     Ok(())
 }
 
-/// Writes bytes after those before, or lets them wait.
+/// Writes bytes after those before, or lets them wait in the buffer.
 #[inline(always)]
 fn put<W: ByteSink>(to: &mut W, buffer: &mut Buffer, text: &[u8]) -> Result<(), WriteFault>
     requires fresh { W.failed to.old ≡ false }
@@ -179,7 +179,7 @@ fn put<W: ByteSink>(to: &mut W, buffer: &mut Buffer, text: &[u8]) -> Result<(), 
     send_past(to, buffer, text)
 }
 
-/// Writes so many spaces.
+/// Writes a number of spaces.
 fn put_blanks<W: ByteSink>(to: &mut W, buffer: &mut Buffer, gap: u64) -> Result<(), WriteFault>
     requires fresh { W.failed to.old ≡ false }
     requires room { passed buffer.old + gap < 2 ^ 63 }
@@ -191,7 +191,7 @@ fn put_blanks<W: ByteSink>(to: &mut W, buffer: &mut Buffer, gap: u64) -> Result<
     ensures flushes { W.flushes to.new ≡ W.flushes to.old }
     ensures count { OnOk result (passed buffer.new ≡ passed buffer.old + gap) }
 {
-    // a single blank is put quicker by itself
+    // a single blank is appended quicker by itself
     if gap > 1 && gap <= 8192 - buffer.len as u64 {
         buffer.hold_blanks(gap as usize);
         return Ok(());
@@ -211,7 +211,7 @@ fn put_blanks<W: ByteSink>(to: &mut W, buffer: &mut Buffer, gap: u64) -> Result<
     Ok(())
 }
 
-/// Writes a text, and so many spaces before it.
+/// Writes a text, with a number of spaces before it.
 #[cold]
 fn put_text<W: ByteSink>(
     to: &mut W,
@@ -236,8 +236,8 @@ fn put_text<W: ByteSink>(
     put(to, buffer, text)
 }
 
-/// Writes a stretch of the source. Most are a few bytes: blocks of a fixed length are written quicker than so few bytes,
-/// and what was written after them is written over.
+/// Writes a stretch of the source. Most are a few bytes: blocks of a fixed length are written quicker than so few
+/// bytes, and the surplus is overwritten by the next ones.
 #[inline(always)]
 fn put_stretch<W: ByteSink>(
     to: &mut W,
@@ -269,7 +269,7 @@ fn put_stretch<W: ByteSink>(
     Ok(())
 }
 
-/// Writes the last stretch, and all that waits.
+/// Writes the last stretch, and all waiting bytes.
 fn finish<W: ByteSink>(
     to: &mut W,
     buffer: &mut Buffer,
@@ -308,8 +308,8 @@ fn stretch_of(source: &[u8], piece: Piece<'_>) -> Stretch
     }
 }
 
-/// Writes the print of accepted tokens to a sink that hasn't failed, in pieces of some KiB. A fault
-/// tells how many bytes went out: a front of the print. Nothing is flushed.
+/// Writes the print of accepted tokens to a sink that hasn't failed, in pieces of some KiB. A fault has the number of
+/// bytes that went out: a front of the print. Nothing is flushed.
 #[inline(never)]
 pub fn emit<W: ByteSink>(accepted: &Accepted<'_, '_>, to: &mut W) -> Result<(), WriteFault>
     requires { W.failed to.old ≡ false }

@@ -1,10 +1,10 @@
--- What the size of a source bounds: no source is longer than 4 MiB, no two tokens share a byte and none is empty.
+-- Bounds from the size of a source: no source is longer than 4 MiB, no two tokens share a byte and none is empty.
 use Rattle.std.specs.Prelude.{◌≤◌, ◌+◌, ◌^◌, ℕ, List, [], ◌∷◌, length}
 use Rattle.hcl_tokens.specs.Lexemes.{Lexeme}
 use Rattle.hcl_tokens.specs.Scanned.{Scanned}
 use Rattle.hcl_layout.specs.Inner.LineGaps.{len_with_blanks}
 
--- each token begins where the one before it has ended, or after that
+-- each token begins at the end of the one before it, or later
 abbrev pub AreApart : ℕ → List Lexeme → Type 0
 AreApart from [] = Unit {0}
 AreApart from (t ∷ ts) = (from ≤ t.start) × AreApart (t.start + length t.text) ts

@@ -1,5 +1,5 @@
--- How deep a token list stands after each token, and the levels of lines by depth: the form in which the code keeps
--- what is open. The levels of whole lists give the same (proofs/LevelLemmas).
+-- The depth of a token list after each token, and the levels of lines by depth: the form in which the code keeps the
+-- open groups. The levels of whole lists are the same (proofs/LevelLemmas).
 use Rattle.std.specs.Prelude.{◌≡◌, ◌<◌, ◌≤◌, ◌+◌, ◌-◌, ℕ, suc, zero, List, [], ◌∷◌, length, get_or, slice_set, min, replicate, IsTrue}
 use Rattle.hcl_tokens.specs.Lexemes.{Lexeme}
 use Rattle.hcl_tokens.specs.declared.token.Kind.{Kind}
@@ -15,16 +15,16 @@ abbrev pub depth_after : ℕ → List Lexeme → ℕ
 depth_after d [] = d
 depth_after d (t ∷ ts) = depth_after (deepen d t.kind) ts
 
--- a token that may stand at this depth
+-- a token that is allowed at this depth
 abbrev pub Steps : ℕ → Kind → Type 0
 Steps d k = (IsTrue (is_opener k) → d < max_open) × (IsTrue (is_closer k) → 0 < d)
 
--- in every front as many are open as may be, from this depth on
+-- no front opens more than is allowed, from this depth on
 abbrev pub BalancedFrom : ℕ → List Lexeme → Type 0
 BalancedFrom d [] = Unit {0}
 BalancedFrom d (t ∷ ts) = Steps d t.kind × BalancedFrom (deepen d t.kind) ts
 
--- For each depth up to that of the last line, how many groups are open above which the depth stays: the level of a
+-- For each depth up to that of the last line, the number of open groups above which the depth stays: the level of a
 -- next line that ends there. A line that goes deeper has the level of the depth before it.
 abbrev pub fresh : List ℕ
 fresh = replicate (max_open + 1) 0
@@ -32,12 +32,12 @@ fresh = replicate (max_open + 1) 0
 abbrev pub level_at : ℕ → ℕ → List ℕ → ℕ
 level_at before now levels = get_or levels (min before now) 0
 
--- from a depth on, so many depths have this level
+-- from a depth on, this many depths have this level
 abbrev pub raised : List ℕ → ℕ → ℕ → ℕ → List ℕ
 raised levels level from zero = levels
 raised levels level from (suc n) = raised (slice_set levels from level) level (from + 1) n
 
--- the same after a line
+-- the levels after a line
 abbrev pub next_levels : ℕ → ℕ → List ℕ → List ℕ
 next_levels before now levels = raised levels (get_or levels before 0 + 1) (before + 1) (now - before)
 

@@ -1,4 +1,4 @@
--- A line as it is laid out, by numbers of tokens: its gaps, its widths, and the runs that go over it.
+-- A laid-out line, by token numbers: its gaps, its widths, and the runs that it belongs to.
 use Rattle.std.specs.Prelude.{◌≡◌, ◌≢◌, ◌<◌, ◌≤◌, ◌+◌, ◌-◌, ◌^◌, ◌++◌, ◌==◌, ◌||◌, ℕ, Bool, false, not, List, Option, Some, None, IfSome, MatchOption, length, ◌∷◌, take, drop, max, nat_lt, option_map, if◌then◌else◌}
 use Rattle.std.specs.List.{flat_map}
 use Rattle.hcl_tokens.specs.Lexemes.{Lexeme}
@@ -27,11 +27,11 @@ use Rattle.hcl_layout.specs.declared.lines.Run.{Run}
 abbrev pub text_of : List Lexeme → LaidLine → Line
 text_of ts l = take (l.end - l.first) (drop l.first ts)
 
--- a cell of the line, or none where its number is that of the end
+-- a cell of the line, or none if its number is the end's
 abbrev pub cell_of : LaidLine → CellLaid → Option Cell
 cell_of l c = if nat_lt c.number l.end then Some (record { place = c.number - l.first; width = c.width; gap = c.gap }) else None
 
--- what its gaps go by
+-- the inputs of its gaps
 abbrev pub shape : LaidLine → LineGaps
 shape l = record { level = l.level; assign = cell_of l l.sign; comment = cell_of l l.comment }
 
@@ -45,7 +45,7 @@ pub record Laid (ts : List Lexeme) (l : LaidLine) : Type 0 where
   pub sign_gap : l.sign.gap ≤ 2 ^ 33
   pub comment_gap : l.comment.gap ≤ 2 ^ 34
 
--- the line from a token on, its gaps, and the width there before a further token
+-- the line from a token on, its gaps, and the width before another token
 abbrev pub rest_of : List Lexeme → LaidLine → ℕ → Line
 rest_of ts l n = take (l.end - n) (drop n ts)
 
@@ -66,11 +66,11 @@ sign_width_on ts l n = width (n - l.first) (plain_gaps l.level (text_of ts l)) (
 abbrev pub comment_width_on : List Lexeme → LaidLine → ℕ → ℕ
 comment_width_on ts l n = width (n - l.first) (gaps_in (shape l) (text_of ts l)) (text_of ts l)
 
--- the gap before the token goes by no token before it
+-- the gap before the token depends on no token before it
 abbrev pub HasOwnGap : LaidLine → ℕ → Type 0
 HasOwnGap l n = (n ≡ l.comment.number → ⊥) → (n ≡ l.sign.number → ⊥) → n ≡ l.first
 
--- neither the line's first token nor a cell stands from a number on before the stop
+-- from a number on, neither the line's first token nor a cell is before the stop
 pub record Stops (l : LaidLine) (n stop : ℕ) : Type 0 where
   pub order : n ≤ stop
   pub first : n < stop → l.first < n
@@ -78,11 +78,11 @@ pub record Stops (l : LaidLine) (n stop : ℕ) : Type 0 where
   pub comment : n ≤ l.comment.number → stop ≤ l.comment.number
   pub own : stop < l.end → HasOwnGap l stop
 
--- no cell stands after one number and before another
+-- no cell is after one number and before another
 abbrev pub IsPlainOn : LaidLine → ℕ → ℕ → Type 0
 IsPlainOn l from stop = (k : ℕ) → from < k → k < stop → (k ≢ l.comment.number) × (k ≢ l.sign.number)
 
--- it is the line that was read
+-- the laid-out line is the line that was read
 abbrev pub Spans : LaidLine → LineRead → Type 0
 Spans l r = (l.first ≡ r.first) × (l.end ≡ r.end)
 
@@ -98,7 +98,7 @@ walk_of s = record { depth = s.depth; levels = s.levels; signs = column_of s.sig
 abbrev pub no_lines : Columns → Lines
 no_lines columns = record { next = 0; depth = 0; levels = fresh; signs = None; comments = None; columns = columns; wrong = false }
 
--- they end before the next token
+-- the passed lines end before the next token
 pub record IsAt (ts : List Lexeme) (s : Lines) : Type 0 where
   pub come : HasCome ts s.next (walk_of s)
   pub within : s.next ≤ length ts
@@ -110,7 +110,7 @@ pub record Reads (ts : List Lexeme) (s : Lines) (r : LineRead) : Type 0 where
   pub first : r.first ≡ s.next
   pub line : IsLine ts s.next s.depth (facts_in r)
 
--- a line more was passed, whatever its cells
+-- another line was passed, whatever its cells
 pub record Moves (old : Lines) (r : LineRead) (new : Lines) : Type 0 where
   pub next : new.next ≡ r.end
   pub depth : new.depth ≡ r.depth
@@ -119,7 +119,7 @@ pub record Moves (old : Lines) (r : LineRead) (new : Lines) : Type 0 where
 
 -- ---- runs
 
--- a run that ends was taken for another column
+-- a run that ends was given a wrong column
 abbrev pub ends_wrong : Option Run → Bool
 ends_wrong None = false
 ends_wrong (Some r) = not (r.column == r.greatest)
@@ -134,7 +134,7 @@ signs_ended s = record { next = s.next; depth = s.depth; levels = s.levels; sign
 abbrev pub comments_ended : Lines → Lines
 comments_ended s = record { next = s.next; depth = s.depth; levels = s.levels; signs = s.signs; comments = None; columns = s.columns; wrong = s.wrong || ends_wrong s.comments }
 
--- that of a line with such a width before the cell, or without one
+-- the run after a line with this width before the cell, or without the cell
 abbrev pub ends_wrong_at : Option Run → Option ℕ → Bool
 ends_wrong_at run None = ends_wrong run
 ends_wrong_at run (Some own) = false
@@ -143,14 +143,14 @@ abbrev pub greatest_of : Option Run → ℕ → ℕ
 greatest_of None own = own
 greatest_of (Some r) own = max r.greatest own
 
--- a run goes over such a line: its column is kept and its greatest width grows, or it ends
+-- a run continues over such a line, keeping its column and updating its greatest width, or it ends
 abbrev pub Grows : Option Run → Option ℕ → Option Run → Type 0
 Grows run None new = new ≡ None
 Grows run (Some own) new = MatchOption new ⊥ (λ r. (r.greatest ≡ greatest_of run own) × IfSome run (λ o. r.column ≡ o.column))
 
 -- ---- a line that is passed
 
--- without its cells, which its end stands for
+-- without its cells: they are at its end
 abbrev pub none_at : ℕ → CellLaid
 none_at end = record { number = end; width = 0; gap = 0 }
 
@@ -160,7 +160,7 @@ bare_line r level = record { first = r.first; end = r.end; level = level; sign =
 abbrev pub bare_after : Lines → LineRead → LaidLine
 bare_after s r = bare_line r (level_at s.depth r.depth s.levels)
 
--- with a cell in a column, before which it is so wide
+-- with a cell in a column, and the width before it
 abbrev pub cell_in : ℕ → ℕ → ℕ → CellLaid
 cell_in number own column = record { number = number; width = own; gap = column - own + 1 }
 
@@ -174,7 +174,7 @@ with_comment_in l number own column = record { first = l.first; end = l.end; lev
 abbrev pub KeepsRuns : Lines → Lines → Type 0
 KeepsRuns old new = (new.signs ≡ old.signs) × (new.comments ≡ old.comments) × (new.wrong ≡ old.wrong)
 
--- its gaps with its sign in the column of the run, whatever that is, and with its comment in that of its run too
+-- its gaps with its sign in the column of the run, whatever that is, and then with its comment in the column of its run
 abbrev pub signed_gaps : Lines → Lines → Line → List ℕ
 signed_gaps old new l = align assign_cell (plain old.depth old.levels l) l (column_of new.signs)
 
@@ -188,7 +188,7 @@ FindsSign ts old new = old.columns ≡ Ahead → column_of new.signs ≡ assign_
 abbrev pub FindsComment : List Lexeme → Lines → Lines → Type 0
 FindsComment ts old new = old.columns ≡ Ahead → column_of new.comments ≡ comment_column old.depth old.levels (column_of old.signs) (column_of old.comments) (lines (drop old.next ts))
 
--- the greatest width before a cell of the run that goes on with the next line, and the column of such a run
+-- the greatest width before a cell of the run that continues with the next line, and the column of such a run
 abbrev pub widest_sign : List Lexeme → Lines → ℕ
 widest_sign ts s = widest (sign_widths_at (walk_of s) ts s.next)
 
@@ -201,39 +201,39 @@ IsSignColumn ts s own column = s.columns ≡ Ahead → Some column ≡ next_of (
 abbrev pub IsCommentColumn : List Lexeme → Lines → ℕ → ℕ → Type 0
 IsCommentColumn ts s own column = s.columns ≡ Ahead → Some column ≡ next_of (column_of s.comments) (Some own ∷ comment_widths_at (walk_of s) ts s.next)
 
--- it is laid out with its sign, and then with both cells
+-- the line is laid out with its sign, and then with both cells
 abbrev pub HasSignGaps : List Lexeme → Lines → Lines → LaidLine → Type 0
 HasSignGaps ts old new l = gaps_in (shape l) (text_of ts l) ≡ signed_gaps old new (text_of ts l)
 
 abbrev pub HasGaps : List Lexeme → Lines → Lines → LaidLine → Type 0
 HasGaps ts old new l = gaps_in (shape l) (text_of ts l) ≡ laid_gaps old new (text_of ts l)
 
--- a line was passed but for its comment
+-- a line was passed except for its comment
 abbrev pub MovesSign : List Lexeme → Lines → LineRead → Lines → Type 0
 MovesSign ts old r new = Moves old r new × IsAt ts new × (new.comments ≡ old.comments)
 
--- the run of signs goes over it, or ends and tells whether it was wrong
+-- the run of signs continues over it, or ends and records whether its column was wrong
 abbrev pub SignsGrow : List Lexeme → Lines → Lines → LaidLine → Type 0
 SignsGrow ts old new l =
     Grows old.signs (assign_width old.depth old.levels (text_of ts l)) new.signs
     × (new.wrong ≡ (old.wrong || ends_wrong_at old.signs (assign_cell (text_of ts l))))
 
--- both runs go over it
+-- both runs continue over it
 pub record RunsGrow (old : Lines) (l : Line) (new : Lines) : Type 0 where
   pub signs : Grows old.signs (assign_width old.depth old.levels l) new.signs
   pub comments : Grows old.comments (option_map (λ i. width i (signed_gaps old new l) l) (running_comment l)) new.comments
   pub wrong : new.wrong ≡ (old.wrong || ends_wrong_at old.signs (assign_cell l) || ends_wrong_at old.comments (running_comment l))
 
--- ---- what is left to print
+-- ---- the rest of the print
 
--- the gaps of the lines that follow
+-- the gaps of the following lines
 abbrev pub gaps_after : List Lexeme → Lines → List ℕ
 gaps_after ts s = flat_map (λ g. g) (commented s.depth s.levels (column_of s.signs) (column_of s.comments) (lines (drop s.next ts)))
 
 abbrev pub left_after : List Lexeme → Lines → List ℕ
 left_after ts s = printed_text (gaps_after ts s) (drop s.next ts)
 
--- and those of the line at hand from a token on
+-- the gaps of the current line from a token on, and of the following lines
 abbrev pub left_on : List Lexeme → LaidLine → List ℕ → ℕ → List ℕ
 left_on ts l rest n = printed_text (gaps_on ts l n ++ rest) (drop n ts)
 
@@ -241,23 +241,23 @@ left_on ts l rest n = printed_text (gaps_on ts l n ++ rest) (drop n ts)
 abbrev pub IsLaid : List Lexeme → Lines → Lines → LaidLine → Type 0
 IsLaid ts old new l = Laid ts l × (l.first ≡ old.next) × (l.end ≡ new.next)
 
--- or there is none
+-- or there is no next line
 abbrev pub IsDone : List Lexeme → Lines → Lines → Type 0
 IsDone ts old new = (new ≡ old) × (old.next ≡ length ts)
 
--- what is left is the line and what is left after it
+-- the rest is the line and the rest after it
 abbrev pub LeavesGaps : List Lexeme → Lines → Lines → Option LaidLine → Type 0
 LeavesGaps ts old new line = old.columns ≡ Ahead → IfSome line (λ l. gaps_after ts old ≡ gaps_on ts l l.first ++ gaps_after ts new)
 
 -- ---- right columns
 
--- the column of a run is its greatest width: of the widths that were passed and of those that follow
+-- the column of a run is its greatest width: among the passed widths and the following ones
 abbrev pub IsRight : Option Run → List (Option ℕ) → Type 0
 IsRight run widths = IfSome run (λ r. r.column ≡ max r.greatest (widest widths))
 
 abbrev pub AreRight : List Lexeme → Lines → Type 0
 AreRight ts s = IsRight s.signs (assign_widths s.depth s.levels (lines (drop s.next ts))) × IsRight s.comments (comment_widths s.depth s.levels (column_of s.signs) (lines (drop s.next ts)))
 
--- where they are right after the line, they are before it, and the line stands in them
+-- if the columns are right after the line, they are right before it, and the line's cells are in them
 abbrev pub GoesBack : List Lexeme → Lines → LaidLine → Lines → Type 0
 GoesBack ts old l new = new.wrong ≡ false → AreRight ts new → (old.wrong ≡ false) × AreRight ts old × (gaps_after ts old ≡ gaps_on ts l l.first ++ gaps_after ts new)

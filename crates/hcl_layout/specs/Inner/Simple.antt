@@ -10,10 +10,11 @@ is_simple_byte b = nat_lt b 128 && not (b == 13)
 abbrev pub is_simple : List ℕ → Bool
 is_simple text = list_all is_simple_byte text
 
--- Ranges of characters each of which is a grapheme cluster by itself among such: Latin up to the combining accents, and
--- controls but CR; Greek, Cyrillic and what stands between; further Latin and Greek; punctuation; signs, arrows and forms;
--- Chinese and Japanese between the marks that join; their compatible and wide forms; emoji between the flags and the shades
--- of skin; and further Chinese. That no member joins with another is proved by the tables (proofs/ClusterLemmas).
+-- Ranges of characters; among characters of these ranges each is a grapheme cluster by itself: Latin up to the
+-- combining accents, and controls but CR; Greek, Cyrillic and the blocks between; further Latin and Greek; punctuation;
+-- signs, arrows and forms; Chinese and Japanese between the marks that join; their compatible and wide forms; emoji
+-- between the flags and the shades of skin; and further Chinese. The tables prove that no member joins with another
+-- (proofs/ClusterLemmas).
 abbrev pub first_alone : Range
 first_alone = (0x0, 0xC)
 
@@ -46,6 +47,6 @@ is_alone c = within_any first_alone further_alone c
 abbrev pub are_alone : List ℕ → Bool
 are_alone cs = list_all is_alone cs
 
--- a text stands in the source, and begins at a place
+-- a text in the source that begins at a place
 abbrev pub IsFrom : List ℕ → ℕ → List ℕ → Type 0
 IsFrom source start text = (text ≡ take (length text) (drop start source)) × (start ≤ length source)

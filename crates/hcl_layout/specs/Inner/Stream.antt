@@ -1,6 +1,6 @@
--- The gaps of the lines that are left, by what is known of the lines before them: the depth, the levels by depth, and
--- the columns of the runs in which the line before stands. It is the form that the code follows; the gaps of whole
--- lists are the same (proofs/StreamLemmas).
+-- The gaps of the remaining lines, by the state after the lines before them: the depth, the levels by depth, and the
+-- columns of the runs that the line before belongs to. The code follows this form; the gaps of whole lists are the same
+-- (proofs/StreamLemmas).
 use Rattle.std.specs.Prelude.{ℕ, List, [], ◌∷◌, Option, Some, None, option_map}
 use Rattle.hcl_layout.specs.Lines.{Line}
 use Rattle.hcl_layout.specs.Cells.{assign_cell, running_comment, trailing_comment}
@@ -10,7 +10,7 @@ use Rattle.hcl_layout.specs.Inner.Depths.{depth_after, level_at, next_levels}
 
 -- ---- runs
 
--- the column of the first line, by that of the line before it
+-- the column of the first line, by that of the line before
 abbrev pub next_of : Option ℕ → List (Option ℕ) → Option ℕ
 next_of column [] = None
 next_of column (None ∷ rest) = None
@@ -56,10 +56,10 @@ commented d levels column comment (l ∷ ls) =
 
 -- ---- the widths of the first line
 
--- the width before the assign cell, where the line has one
+-- the width before the assign cell, if the line has one
 abbrev pub assign_width : ℕ → List ℕ → Line → Option ℕ
 assign_width d levels l = option_map (λ i. width i (plain d levels l) l) (assign_cell l)
 
--- the width before the comment, where the line takes part in runs of comments
+-- the width before the comment, if the line is part of runs of comments
 abbrev pub comment_width : ℕ → List ℕ → Option ℕ → Line → List Line → Option ℕ
 comment_width d levels column l ls = option_map (λ i. width i (assigned_line d levels column l ls) l) (running_comment l)

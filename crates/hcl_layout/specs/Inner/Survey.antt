@@ -1,4 +1,4 @@
--- What one walk along a line finds, token by token, and what it is of the whole line.
+-- One walk along a line, token by token, and the whole line that it finds.
 use Rattle.std.specs.Prelude.{◌≡◌, ◌<◌, ◌≤◌, ◌+◌, ◌^◌, ◌==◌, ◌||◌, ◌&&◌, ℕ, Bool, true, false, not, List, [], ◌∷◌, Option, Some, None, length, take, drop, if◌then◌else◌, is_some}
 use Rattle.hcl_tokens.specs.Lexemes.{Lexeme}
 use Rattle.hcl_tokens.specs.declared.token.Kind.{Kind}
@@ -13,8 +13,8 @@ use Rattle.std.specs.Prelude.{option_map, slice_get, ◌-◌}
 use Rattle.hcl_layout.specs.declared.line.Line.{Line as LineRead}
 use Rattle.hcl_layout.specs.declared.line.Seen.{Seen}
 
--- what is known after a token of a line: how many were passed, the depth, whether an inline comment held a newline, the place
--- of the trailing comment, the depth after what stands before it, and the place of the first sign and the depth before it
+-- the state after a token of a line: how many were passed, the depth, whether an inline comment held a newline, the
+-- place of the trailing comment and the depth before it, and the place of the first sign and the depth before it
 pub record Survey : Type 0 where
   pub len : ℕ
   pub depth : ℕ
@@ -24,7 +24,7 @@ pub record Survey : Type 0 where
   pub sign : Option ℕ
   pub sign_depth : ℕ
 
--- what a line is: its tokens, the depth after it, and the places of its cells
+-- the facts of a line: its tokens, the depth after it, and the places of its cells
 pub record LineFacts : Type 0 where
   pub len : ℕ
   pub depth : ℕ
@@ -36,12 +36,12 @@ pub record LineFacts : Type 0 where
 abbrev pub marks : Kind → Bool
 marks k = is kind.LineComment k || is kind.InlineComment k || is kind.Assign k
 
--- or may end the line
+-- a token of the kind may end the line
 abbrev pub stops : Kind → Bool
 stops k = is kind.Newline k || marks k
 
--- the byte that tells what a token of the kind does to the depth: from depth 1 the depth after it, as a digit, or a point
--- where more is asked of it
+-- the byte for the effect of a token of the kind on the depth: from depth 1 the depth after it, as a digit, or a point
+-- if the token needs a closer look
 abbrev pub step_of : Kind → ℕ
 step_of k = if stops k then 46 else 48 + deepen 1 k
 
@@ -53,7 +53,7 @@ first_noted d t = record { len = 1; depth = deepen d t.kind; multiline = is_mult
 abbrev pub takes_sign : Survey → Lexeme → Bool
 takes_sign s t = not (is_some s.comment) && not (is_trailing t) && not (is_some s.sign) && is_assignment t
 
--- after one token more
+-- after one more token
 abbrev pub noted : Survey → Lexeme → Survey
 noted s t = record {
   len = s.len + 1;
@@ -65,17 +65,17 @@ noted s t = record {
   sign_depth = if takes_sign s t then s.depth else s.sign_depth;
 }
 
--- after the rest of the line, `last` being the token before
+-- after the rest of the line; `last` is the token before
 abbrev pub surveyed : Survey → Lexeme → List Lexeme → Survey
 surveyed s last [] = s
 surveyed s last (t ∷ ts) = if ends_line last then s else surveyed (noted s t) t ts
 
--- the same, where the line goes on after the token before
+-- after the rest of the line, if the line continues after the token before
 abbrev pub going : Survey → List Lexeme → Survey
 going s [] = s
 going s (t ∷ ts) = surveyed (noted s t) t ts
 
--- the place of the sign, where it begins a cell
+-- the place of the sign, if it begins a cell
 abbrev pub cell_if : Bool → Option ℕ → Option ℕ
 cell_if true sign = sign
 cell_if false sign = None
@@ -86,7 +86,7 @@ assign_of s = cell_if (not s.multiline && (s.sign_depth == s.body_depth)) s.sign
 abbrev pub running_of : Survey → Option ℕ
 running_of s = if s.multiline then None else s.comment
 
--- what a survey tells of the whole line
+-- the facts from a survey of the whole line
 abbrev pub facts_of : Survey → LineFacts
 facts_of s = record { len = s.len; depth = s.depth; assign = assign_of s; comment = s.comment; running = running_of s }
 
@@ -94,7 +94,7 @@ facts_of s = record { len = s.len; depth = s.depth; assign = assign_of s; commen
 abbrev pub text_at : List Lexeme → ℕ → LineFacts → Line
 text_at ts at f = take f.len (drop at ts)
 
--- the facts are those of the line at a place, where the depth is known
+-- the facts are those of the line at a place, given the depth
 pub record IsLine (ts : List Lexeme) (at d : ℕ) (f : LineFacts) : Type 0 where
   pub some : 0 < f.len
   pub within : at + f.len ≤ length ts
@@ -107,13 +107,13 @@ pub record IsLine (ts : List Lexeme) (at d : ℕ) (f : LineFacts) : Type 0 where
   pub comment : f.comment ≡ trailing_comment (take f.len (drop at ts))
   pub running : f.running ≡ running_comment (take f.len (drop at ts))
 
--- ---- by numbers of tokens
+-- ---- by token numbers
 
 -- the depth before the comment
 abbrev pub body_of : Seen → ℕ → ℕ
 body_of s depth = if is_some s.comment then s.body_depth else depth
 
--- what was passed of a line from its first token up to a number, with the depth there
+-- the state for the tokens of a line from its first up to a number, with the depth there
 abbrev pub survey_of : Seen → ℕ → ℕ → ℕ → Survey
 survey_of s depth first number = record {
   len = number - first;
@@ -125,7 +125,7 @@ survey_of s depth first number = record {
   sign_depth = s.sign_depth;
 }
 
--- what a line that was read is
+-- the line that was read
 abbrev pub facts_in : LineRead → LineFacts
 facts_in l = record {
   len = l.end - l.first;
@@ -135,15 +135,15 @@ facts_in l = record {
   running = if not l.runs then None else option_map (λ n. n - l.first) l.comment;
 }
 
--- the sign that was seen, where it begins a cell
+-- the sign that was seen, if it begins a cell
 abbrev pub seen_cell : Seen → ℕ → Option ℕ
 seen_cell s depth = cell_if (not s.multiline && (s.sign_depth == body_of s depth)) s.sign
 
--- nothing but whether the first token holds a newline
+-- only whether the first token holds a newline
 abbrev pub unseen : Bool → Seen
 unseen multiline = record { sign = None; sign_depth = 0; comment = None; body_depth = 0; multiline = multiline }
 
--- a token more was passed
+-- another token was passed
 abbrev pub Notes : Seen → ℕ → ℕ → Lexeme → Seen → Type 0
 Notes old number depth t new = (first : ℕ) → first ≤ number → survey_of new depth first (number + 1) ≡ noted (survey_of old depth first number) t
 
@@ -155,7 +155,7 @@ NotesAt ts old number depth new = (t : Lexeme) → slice_get ts number ≡ Some 
 abbrev pub NotesFirst : List Lexeme → ℕ → ℕ → Seen → ℕ → Type 0
 NotesFirst ts first before seen depth = (t : Lexeme) → slice_get ts first ≡ Some t → survey_of seen depth first (first + 1) ≡ first_noted before t
 
--- the tokens from one number up to another were passed, none of which is a cell, tears one or ends the line
+-- the tokens from one number up to another were passed; none is a cell, tears one or ends the line
 pub record PassesSteps (ts : List Lexeme) (from before number depth : ℕ) : Type 0 where
   pub order : from ≤ number
   pub within : number ≤ length ts
@@ -163,7 +163,7 @@ pub record PassesSteps (ts : List Lexeme) (from before number depth : ℕ) : Typ
   pub low : depth ≤ max_open
   pub same : (seen : Seen) (first : ℕ) → first ≤ from → going (survey_of seen before first from) (drop from ts) ≡ going (survey_of seen depth first number) (drop number ts)
 
--- more is asked of the token there
+-- the token there needs a closer look
 abbrev pub AsksMore : List Lexeme → ℕ → Type 0
 AsksMore ts number = (t : Lexeme) → slice_get ts number ≡ Some t → stops t.kind ≡ true
 

@@ -1,4 +1,4 @@
--- Where a walk along the lines stands, and what it tells of the line there.
+-- The state of a walk along the lines, and the facts of the current line.
 use Rattle.std.specs.Prelude.{◌<◌, ◌≤◌, ◌^◌, ℕ, List, Option, IfSome, drop}
 use Rattle.hcl_tokens.specs.Lexemes.{Lexeme}
 use Rattle.hcl_tokens.specs.Balanced.{max_open}
@@ -6,20 +6,20 @@ use Rattle.hcl_layout.specs.Lines.{lines}
 use Rattle.hcl_layout.specs.Inner.Depths.{BalancedFrom, Sound}
 use Rattle.hcl_layout.specs.Inner.Stream.{assign_widths, comment_widths}
 
--- what is known of the lines that were passed: the depth, the levels by depth, and the columns of the runs at hand
+-- the state after the passed lines: the depth, the levels by depth, and the columns of the current runs
 pub record Walk : Type 0 where
   pub depth : ℕ
   pub levels : List ℕ
   pub signs : Option ℕ
   pub comments : Option ℕ
 
--- what is left is balanced from the depth at hand on, and the levels fit it
+-- the rest is balanced from the current depth on, and the levels fit it
 pub record Stands (ts : List Lexeme) (at d : ℕ) (levels : List ℕ) : Type 0 where
   pub balanced : BalancedFrom d (drop at ts)
   pub low : d ≤ max_open
   pub sound : Sound d levels
 
--- a walk has come to a token, and its columns are no wider than a source can have them
+-- a walk has reached a token, and its columns are no wider than a source can have them
 pub record HasCome (ts : List Lexeme) (at : ℕ) (w : Walk) : Type 0 where
   pub stands : Stands ts at w.depth w.levels
   pub signs : IfSome w.signs (λ c. c < 2 ^ 33)
@@ -35,4 +35,4 @@ sign_widths_at w ts at = assign_widths w.depth w.levels (lines (drop at ts))
 abbrev pub comment_widths_at : Walk → List Lexeme → ℕ → List (Option ℕ)
 comment_widths_at w ts at = comment_widths w.depth w.levels w.signs (lines (drop at ts))
 
--- ---- the line of these facts that begins at a token
+-- ---- the line with these facts that begins at a token
