@@ -180,7 +180,7 @@ fair_after d levels l ls p =
     let low : depth_after d l ≤ max_open = after_low l d p.balanced.0 p.low in
     record { sound = sound_after d (depth_after d l) levels low p.sound; low = low; balanced = p.balanced.1; apart = p.apart.1 }
 
--- ---- the least width of the current group
+-- ---- the final width of the current group
 
 abbrev last_by : ℕ → ℕ → ℕ → ℕ
 last_by zero w then = w
@@ -247,7 +247,7 @@ signs_widest (l ∷ ls) d w levels p =
 column_upto : (ls : List Line) (d w : ℕ) (levels : List ℕ) (column : Option ℕ) → Fair d levels ls → UpTo (last d w ls) column → UpTo (last d w ls) (assign_column d levels column ls)
 column_upto ls d w levels column p q = next_upto (last d w ls) column (assign_widths d levels ls) (signs_widest ls d w levels p) q
 
--- a column of signs that is no wider than the group stays so only over a line of the group
+-- the bound of a column of signs, carried past a line
 carried : (a b : Option ℕ) (f : ℕ → ℕ) (ws : List (Option ℕ)) (column : Option ℕ) (indent room : ℕ) (e : Extent) (g : ℕ → ℕ)
     → UpTo (last_by (cells_of a b) e.width (g (max e.width room))) (next_of column (option_map f a ∷ ws))
     → UpTo (g (with_cells (cells_of a b) indent room e).width) (next_of column (option_map f a ∷ ws))

@@ -24,14 +24,14 @@ start_all ts d levels column comment p e f g h =
     ap₂ (λ (x : ℕ) (y : List ℕ). flat_map (λ g. g) (commented x y column comment (lines ts))) e f
     ∙ ap₂ (λ (x y : Option ℕ). flat_map (λ g. g) (commented 0 fresh x y (lines ts))) g h ∙ sym (gaps_all ts p)
 
--- the first token of a line has no token of the line before it
+-- a line's first token has no token before it in that line
 pub none_after : (ts : List Lexeme) (at n : ℕ) → n ≤ at → token_before ts at n ≡ None
 none_after ts at n le = rw (not_less at n le) refl
   where
     not_less : (a b : ℕ) → b ≤ a → nat_lt a b ≡ false
     not_less a b h = grind (arith, nat_tests)
 
--- the printed token is the one before the next
+-- after a token is printed, it is the token before the next place
 pub printed_after : (ts : List Lexeme) (start next : ℕ) (t : Lexeme) → slice_get ts next ≡ Some t → start ≤ next → token_before ts start (next + 1) ≡ Some t
 printed_after ts start next t e le = rw (less start next le) (ap (slice_get ts) (omega arith) ∙ e)
   where
@@ -53,7 +53,7 @@ width_after g ts at len k i t e le lt =
     width_next g ts at len k i b s t e le lt
     ∙ ap₂ (λ (n : ℕ) (u : Option Lexeme). gap_of g k b s t + clusters t + width (i - (k + 1)) (gaps_from g (k + 1) (token_before ts at n) u rest) rest) last there
 
--- only the first token of a line has no token of that line before it
+-- at the front of a line no token of that line is before, so the width from there is the line's
 pub width_front : (g : LineGaps) (ts : List Lexeme) (at len i : ℕ)
     → 0 + width (i - 0) (gaps_from g 0 (token_before ts at ((at + 0) - 1)) (token_before ts at (at + 0)) (take (len - 0) (drop (at + 0) ts))) (take (len - 0) (drop (at + 0) ts))
     ≡ width i (gaps_in g (take len (drop at ts))) (take len (drop at ts))

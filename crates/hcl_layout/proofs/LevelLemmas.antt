@@ -140,7 +140,7 @@ deeper_is a b m n p q = grind arith
 pub above_is : (a b : ℕ) (s n : Net) → Is a s → Is b (plus s n) → is_above n ≡ nat_lt a b
 above_is a b s n p q = grind arith
 
--- a group above a depth is above a lesser one
+-- filtering by a greater depth first makes no difference to a filter by a lesser one
 pub filter_lower : (j k : ℕ) (m n : Net) (groups : List Net) → Is j m → Is k n → j ≤ k → filter (λ g. is_deeper m g) (filter (λ g. is_deeper n g) groups) ≡ filter (λ g. is_deeper m g) groups
 filter_lower j k m n [] p q le = refl
 filter_lower j k m n (g ∷ groups) p q le = go (filter_lower j k m n groups p q le) (is_deeper n g) refl (is_deeper m g) refl
@@ -152,7 +152,7 @@ filter_lower j k m n (g ∷ groups) p q le = go (filter_lower j k m n groups p q
     go r false e false f = rw (e, f) r
     go r false e true f = absurd (grind arith)
 
--- and one above a greater depth
+-- and filtering by a greater depth after a lesser one removes nothing
 pub filter_higher : (j k : ℕ) (m n : Net) (groups : List Net) → Is j m → Is k n → k ≤ j → filter (λ g. is_deeper m g) (filter (λ g. is_deeper n g) groups) ≡ filter (λ g. is_deeper n g) groups
 filter_higher j k m n [] p q le = refl
 filter_higher j k m n (g ∷ groups) p q le = go (filter_higher j k m n groups p q le) (is_deeper n g) refl (is_deeper m g) refl

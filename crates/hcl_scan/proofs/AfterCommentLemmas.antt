@@ -1,4 +1,4 @@
--- After a comment to the end of its line comes a newline, or the end: with no gap before it, the comment stays as it is.
+-- A newline or the end follows a comment to the end of its line: with no gap before it, the comment stays as it is.
 use Rattle.std.proofs.Common.{◌≡◌, ℕ, zero, suc, ◌+◌, ◌<◌, ◌&&◌, ◌||◌, ◌==◌, not, Bool, true, false, cond, List, [], ◌∷◌, ◌++◌, length, drop, replicate, refl, sym, ap, subst, ◌∙◌, arith, length-append, append_assoc}
 use Rattle.std.specs.List.{list_any, prefix_len}
 use Rattle.std.proofs.lemmas.Bool.Decides.{nat_tests}

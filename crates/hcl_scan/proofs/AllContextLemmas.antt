@@ -1,4 +1,5 @@
--- One kind for each text, for all places from expressions and templates; and a reading that lacks something can't go on.
+-- One kind for each text, for all places, from the laws of expressions and of templates; and a reading that lacks
+-- something can't continue.
 use Rattle.std.proofs.Common.{◌≡◌, ℕ, ◌<◌, Bool, List, [], ◌∷◌, ◌++◌, length, get_or, None, ◌⊎◌, inl, inr, ⊎_elim, refl, sym, ap, subst, ◌∙◌, arith, length-drop}
 use Rattle.hcl_tokens.specs.Lexemes.{Lexeme, Opener, marker_of, open_after, max_open}
 use Rattle.hcl_tokens.specs.Spelling.{IsExpressionText, IsTextIn, Context, Template, Expression, context, element_len, IsLiteral}
@@ -73,7 +74,7 @@ module _ (one : OneKind) (some : Nonempty) where
   lacks_stuck s kind (no_marker_line text rest x room none is) t next (inl r) = no_marker_reads s text rest x none t next r
   lacks_stuck s kind (no_marker_line text rest x room none is) t next (inr c) = omega (arith, some_ahead some s HeredocOpen text rest x, empty_ahead s c.read)
 
--- a run, and one token more
+-- a run, and one more token
 pub Run-push : (s : State) (ts : List Lexeme) (mid : State) (t : Lexeme) (end : State) → Run s ts mid → Next mid t end → Run s (ts ++ t ∷ []) end
 Run-push s [] mid t end run next = (end, subst (λ (z : State). Next z t end) (sym run) next, refl)
 Run-push s (u ∷ ts) mid t end run next = (run.0, run.1, Run-push run.0 ts mid t end run.2 next)

@@ -31,6 +31,6 @@ module _ (passes : ℕ → Bool) (text : List ℕ) (at n : ℕ) (within : at + n
   pub run_ends : (k : ℕ) → k ≡ prefix_len passes block → k < n → prefix_len passes (drop at text) ≡ k
   run_ends k e lt = either ∙ ap (λ v. cond v (n + prefix_len passes (drop (at + n) text)) (prefix_len passes block)) (ap (λ m. m == n) (sym e) ∙ differ k n lt) ∙ sym e
 
-  -- the run goes on after it
+  -- the run continues after it
   pub run_goes_on : (k : ℕ) → k ≡ prefix_len passes block → k ≡ n → prefix_len passes (drop at text) ≡ n + prefix_len passes (drop (at + n) text)
   run_goes_on k e same = either ∙ ap (λ v. cond v (n + prefix_len passes (drop (at + n) text)) (prefix_len passes block)) (ap (λ m. m == n) (sym e) ∙ agree k n same)

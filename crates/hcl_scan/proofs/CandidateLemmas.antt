@@ -1,4 +1,4 @@
--- Lines that can be the marker: those in which it stands.
+-- Lines that can be the marker: those that contain it.
 use Rattle.std.proofs.Common.{◌≡◌, ◌≢◌, ℕ, zero, suc, ◌+◌, ◌-◌, ◌<◌, ◌≤◌, ◌&&◌, ◌==◌, nat_eq, true, false, List, [], ◌∷◌, length, drop, get_or, cond, inl, inr, ⊎_elim, refl, sym, ap, subst, ◌∙◌, arith, length-drop, get_or-drop}
 use Rattle.std.specs.List.{prefix_len, starts_with}
 use Rattle.std.proofs.lemmas.List.Sums.{prefix_len_passes, prefix_len_is, prefix_len-le-length}
@@ -13,7 +13,7 @@ use Rattle.hcl_scan.specs.Inner.MarkerPlaces.{IsPlace, IsBlankFront, EndsLine, I
 use Rattle.hcl_scan.proofs.TextStartLemmas.{both}
 use Rattle.hcl_scan.proofs.LiteralLemmas.{starts_len}
 
--- what begins with a marker has its bytes there
+-- a text that begins with a marker has its bytes there
 starts_reads : (text marker : List ℕ) → starts text marker ≡ true → (j : ℕ) → j < length marker → get_or text j 0 ≡ get_or marker j 0
 starts_reads text [] h j lt = absurd (omega (arith, lt))
 starts_reads [] (c ∷ marker) h j lt = absurd (cc)
@@ -39,7 +39,7 @@ Low b = b ≤ 32
 blank_low : (b : ℕ) → is_blank b ≡ true → Low b
 blank_low b h = grind (arith, nat_tests)
 
--- where a line ends, after blanks, no byte above a blank stands
+-- if a line ends after blanks, none of its bytes is above a blank
 end_low : (text : List ℕ) → at_line_end (skip_blanks text) ≡ true → Low (get_or text 0 0)
 end_low [] h = omega arith
 end_low (b ∷ text) h = elim (cases_Bool (is_blank b)) [
@@ -60,7 +60,7 @@ module _ (marker text : List ℕ) (m : ℕ) (is : IsMarkerLine marker text m) wh
   marked : (starts (skip_blanks (drop m text)) marker ≡ true) × (at_line_end (skip_blanks (drop (closer_len marker (drop m text)) (drop m text))) ≡ true)
   marked = both (starts (skip_blanks (drop m text)) marker) (at_line_end (skip_blanks (drop (closer_len marker (drop m text)) (drop m text)))) is.marked
 
-  -- the marker stands after the line's blanks
+  -- the marker is after the line's blanks
   pub stands : starts (drop (m + front) text) marker ≡ true
   stands = ap (λ l. starts l marker) (sym (drop-drop front m text)) ∙ marked.0
 
@@ -80,7 +80,7 @@ module _ (marker text : List ℕ) (m : ℕ) (is : IsMarkerLine marker text m) wh
   byte : (k j : ℕ) → k + 1 ≡ m + front → j < length marker → get_or text (k + 1 + j) 0 ≡ get_or marker j 0
   byte k j e lt = ap (λ i. get_or text i 0) (omega (arith, e)) ∙ sym (get_or-drop (m + front) text j 0) ∙ starts_reads (drop (m + front) text) marker stands j lt
 
-  -- so it stands there, by the bytes around it too
+  -- so it is there, by the bytes around it too
   pub stands_after : 0 < length marker → (k : ℕ) → k + 1 ≡ m + front → Stands text marker k
   stands_after some k e = record {
     likely = record {
@@ -92,7 +92,7 @@ module _ (marker text : List ℕ) (m : ℕ) (is : IsMarkerLine marker text m) wh
     begins = ap (λ i. starts (drop i text) marker) e ∙ stands;
   }
 
--- a marker line's marker doesn't stand before the place, of those that begin from `at` on
+-- a marker line's marker isn't before the place, among the lines that begin from `at` on
 abbrev pub IsLater : List ℕ → List ℕ → ℕ → ℕ → Type 0
 IsLater marker text at here = (m : ℕ) → at ≤ m → IsMarkerLine marker text m → here ≤ m + prefix_len is_blank (drop m text)
 
@@ -114,18 +114,18 @@ later marker text at here next some old stands_not past m low is =
         let k : ℕ = m + prefix_len is_blank (drop m text) - 1 in
         past.none k (omega (arith, above)) (omega (arith, early, above)) (stands_after marker text m is some k (omega (arith, above)))
 
--- where the text ends before a whole marker, none follows
+-- if the text ends before a whole marker, none follows
 pub none_later : (marker text : List ℕ) (at here : ℕ) → here ≤ length text → length text - here < length marker → IsLater marker text at here → (m : ℕ) → at ≤ m → ¬ IsMarkerLine marker text m
 none_later marker text at here within short old m low is = omega (arith, old m low is, fits marker text m is, short, within)
 
--- what begins with a marker has the marker there
+-- a text that begins with a marker has the marker there
 pub occurs_at : (marker text : List ℕ) (place : ℕ) → place ≤ length text → starts (drop place text) marker ≡ true → OccursAt text marker place
 occurs_at marker text place within begun = record {
   fits = omega (arith, starts_len (drop place text) marker begun, length-drop place text, within);
   reads = λ j lt. sym (get_or-drop place text j 0) ∙ starts_reads (drop place text) marker begun j lt;
 }
 
--- what has the marker's bytes begins with it
+-- a text with the marker's bytes begins with it
 reads_starts : (text marker : List ℕ) → length marker ≤ length text → ((j : ℕ) → j < length marker → get_or text j 0 ≡ get_or marker j 0) → starts text marker ≡ true
 reads_starts [] [] fits reads = refl
 reads_starts (b ∷ text) [] fits reads = refl

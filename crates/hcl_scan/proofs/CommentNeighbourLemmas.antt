@@ -1,5 +1,5 @@
--- Newlines, comments and slashes: no longer text begins there, for a comment to the end of its line where that ends, and
--- for a slash where no comment begins with it.
+-- Newlines, comments and slashes: no longer text begins there. For a comment to the end of its line this holds if the
+-- line ends there, and for a slash if no comment begins with it.
 use Rattle.std.proofs.Common.{◌≡◌, ℕ, suc, ◌+◌, ◌<◌, ◌||◌, ◌==◌, Bool, true, false, cond, List, [], ◌∷◌, ◌++◌, length, take, drop, get_or, inl, inr, ⊎_elim, refl, sym, ap, subst, ◌∙◌, arith, length-append, append_assoc}
 use Rattle.std.specs.List.{list_any}
 use Rattle.hcl_tokens.specs.Lexemes.{Opener}

@@ -96,7 +96,7 @@ ends_less text rest n lt h =
 pub star_moved : (body rest : List ℕ) → (body ++ (42 ∷ [])) ++ (47 ∷ rest) ≡ body ++ (42 ∷ 47 ∷ rest)
 star_moved body rest = append_assoc body (42 ∷ []) (47 ∷ rest)
 
--- what a comment leaves of the text after its `/*`
+-- the text that a comment leaves after its `/*`
 inner_is : (seen inner body left longer : List ℕ) → seen ≡ 47 ∷ 42 ∷ inner → longer ≡ (47 ∷ 42 ∷ []) ++ body ++ (42 ∷ 47 ∷ []) → longer ++ left ≡ seen → body ++ (42 ∷ 47 ∷ left) ≡ inner
 inner_is seen inner body left longer e is whole =
     sym (append_assoc body (42 ∷ 47 ∷ []) left) ∙ ap (drop 2) (ap (λ l. l ++ left) (sym is) ∙ whole ∙ e)

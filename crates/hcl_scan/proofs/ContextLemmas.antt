@@ -1,4 +1,4 @@
--- What the top of what is open says of a place, and that it says one thing.
+-- The context of a place by the top of the stack, and that it is unique.
 use Rattle.std.proofs.Common.{◌≡◌, Bool, true, false, List, [], ◌∷◌, Some, sym, ap, refl, ◌∙◌}
 use Rattle.hcl_tokens.specs.Lexemes.{Opener, Quote, Heredoc, Sequence, Brace, Bracket, Paren, in_heredoc}
 use Rattle.hcl_tokens.specs.Spelling.{context, Context, Template, Expression}
@@ -28,7 +28,7 @@ heredoc_on_top (Brace ∷ os) e = absurd (not_both Expression false refl e)
 heredoc_on_top (Bracket ∷ os) e = absurd (not_both Expression false refl e)
 heredoc_on_top (Paren ∷ os) e = absurd (not_both Expression false refl e)
 
--- a quote on top is the one that is to be closed first
+-- a quote on top is the one that must be closed first
 pub quote_owed : (opens : List Opener) → context opens ≡ Template true → owed_opener opens ≡ Some Quote
 quote_owed (Quote ∷ os) e = refl
 quote_owed (Heredoc ∷ os) e = absurd (let k : false ≡ true = ap is_quoted e in cc)

@@ -35,7 +35,7 @@ module _ (dot inside closes : Bool) where
     in_expression : (kind : Kind) (text rest : List ℕ) → IsSpelling opens dot kind text rest → IsExpressionText opens dot kind text rest
     in_expression kind text rest is = subst (λ (z : Context). IsTextIn z opens dot kind text rest) place.expression is
 
-    -- nothing longer that begins so
+    -- no longer text begins so
     NoLonger : Lead → ℕ → Type 0
     NoLonger lead n = (other : Kind) (longer left : List ℕ) → longer ++ left ≡ seen → n < length longer → kind_lead other ≡ lead → IsExpressionText opens dot other longer left → ⊥
 
@@ -175,7 +175,7 @@ unfolding has_none
 mark_nothing dot inside closes seen l none opens place =
     has_none dot inside closes opens place seen Sign l refl (λ other text rest whole k is. none other text rest whole (sign_mark opens dot other text rest k (ways opens dot other text rest is)))
 
--- what the slashes and the `<<` leave
+-- the text that the slashes and the `<<` leave
 pick_hash : (a d l s f g v w m i : Bool) → cond a Letter (cond d Digit (cond l LineEnd (cond s Space (cond f HashOrSlashes (cond g (cond v HashOrSlashes (cond w SlashStar OneSlash)) (cond m LessLess (cond i Closer Sign))))))) ≡ HashOrSlashes →
     ((f && true) || (g && (v && true))) ≡ true
 pick_hash true d l s f g v w m i h = absurd (cc)
@@ -305,7 +305,7 @@ less_found dot inside closes (b ∷ seen) l none = λ opens place.
     finds dot inside closes opens place (b ∷ seen) LessLess Less 1 l (omega arith) (subst (λ x. IsPunctuation punctuation (x ∷ []) Less) (sym (less_byte b (get_or (b ∷ seen) 1 0) l)) less_mark)
     (λ other longer left whole lt k is. none longer left whole ((less_reading dot inside closes).out opens place other longer left k is))
 
--- where a token ends, the text may be cut
+-- at the end of a token the text may be cut
 pub formed_cut : {form : List ℕ → Type 0} → (seen : List ℕ) (n : ℕ) → IsUtf8 seen → ((text : List ℕ) → form text → EndsLow text) → IsLongestFront form seen n → IsCharBoundary seen n
 formed_cut seen n utf8 ends f = low_cut seen n utf8 f.within (ends (take n seen) f.formed)
 
@@ -324,7 +324,7 @@ none_found {form = form} dot inside closes seen bytes None len reading l s e h g
     let none : HasNoFront form bytes = subst (λ (o : Option ℕ). IfNone o (HasNoFront form bytes)) h g in
     nothing dot inside closes seen reading l s (subst (λ b. HasNoFront form b) e none)
 
--- the same where what is found says its kind itself
+-- a form's length, if the found form gives its kind itself
 pub kind_found : {lead : Lead} {kind : Kind} {form : List ℕ → Type 0} → (dot inside closes : Bool) (seen bytes : List ℕ) (r : Option Found) → Reading dot inside closes lead kind form → lead_of seen ≡ lead → bytes ≡ seen →
     IfSome r (λ f. (f.kind ≡ kind) × IsLongestFront form bytes f.len) → IfSome r (λ f. FindsAt dot inside closes seen f.kind f.len)
 kind_found {form = form} dot inside closes seen bytes (Some f) reading l e h =

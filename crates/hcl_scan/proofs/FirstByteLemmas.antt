@@ -1,4 +1,4 @@
--- The first byte of a token of an expression, and what it says of the kind.
+-- The first byte of a token of an expression, and the kinds that it allows.
 use Rattle.std.proofs.Common.{◌≡◌, ℕ, Bool, true, false, List, [], ◌∷◌, ◌++◌, get_or, inl, inr, ⊎_elim, refl, sym, ◌∙◌, arith, append_assoc}
 use Rattle.std.proofs.lemmas.List.{append-nil}
 use Rattle.std.specs.Char.{is_ascii_digit}

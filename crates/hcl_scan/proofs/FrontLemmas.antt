@@ -1,4 +1,4 @@
--- What the first bytes of a text say of the token at its front.
+-- The token at the front of a text, by its first bytes.
 use Rattle.std.proofs.Common.{◌≡◌, ℕ, Bool, List, take, refl, subst, ◌∙◌, IsUtf8}
 use Rattle.std.specs.Prelude.{IfSome, IfNone}
 use Rattle.std.specs.Str.{IsCharBoundary}

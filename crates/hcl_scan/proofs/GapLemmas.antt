@@ -1,5 +1,5 @@
--- Outside heredocs no token begins with a blank: a gap that was put before one is the gap that is read there, and after
--- a marker line comes a newline, whatever blanks stand before it.
+-- Outside heredocs no token begins with a blank: a gap before a token is read as that gap. After a marker line comes a
+-- newline, whatever blanks are before it.
 use Rattle.std.proofs.Common.{◌≡◌, ℕ, zero, suc, ◌+◌, ◌<◌, ◌&&◌, ◌||◌, ◌==◌, not, Bool, true, false, cond, List, [], ◌∷◌, ◌++◌, length, drop, get_or, replicate, inl, inr, ⊎_elim, refl, sym, ap, subst, ◌∙◌, arith, IsTrue}
 use Rattle.std.specs.List.{prefix_len}
 use Rattle.std.proofs.lemmas.Bool.Decides.{nat_tests}
@@ -57,7 +57,7 @@ gaps_in Expression opens after_dot dot before gap t rest more is plain fit =
 pub gaps : (s : State) (t : Lexeme) (next : State) (dot : Bool) (before : Kind) (gap : ℕ) (more : List ℕ) → Reads s t next → in_heredoc s.opens ≡ false → IsTrue (gap_fits dot before t gap) → gap_in s.opens (replicate gap 32 ++ (t.text ++ more)) ≡ gap
 gaps s t next dot before gap more r plain fit = gaps_in (context s.opens) s.opens s.after_dot dot before gap t r.rest more r.longest.spelled plain fit
 
--- what begins with a newline is one
+-- a text that begins with a newline is a newline
 ends_lead : (text rest : List ℕ) → 0 < length text → at_line_end (text ++ rest) ≡ true → lead_of text ≡ LineEnd
 ends_lead [] rest some h = absurd (omega arith)
 ends_lead (b ∷ text) rest some h = newline_leads b (get_or (b ∷ text) 1 0) (by (starts (text ++ rest) []) (starts (text ++ rest) (10 ∷ [])) h)

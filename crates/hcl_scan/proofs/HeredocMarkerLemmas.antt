@@ -1,4 +1,4 @@
--- The marker line of a heredoc stays its first one, whatever follows that line.
+-- The marker line of a heredoc stays its first one, whatever text comes after that line.
 use Rattle.std.proofs.Common.{◌≡◌, ℕ, ◌+◌, ◌<◌, ◌&&◌, ◌==◌, not, Bool, true, false, cond, List, [], ◌∷◌, ◌++◌, length, take, drop, if◌then◌else◌, ⊎_elim, sym, subst, ◌∙◌, arith}
 use Rattle.std.specs.List.{position_or_len, before_first, starts_with}
 use Rattle.std.specs.Prelude.{nat_eq}

@@ -1,5 +1,5 @@
 -- The opener of a heredoc, which ends at the first LF, and the closers of braces and sequences: no longer text begins
--- there, whatever follows.
+-- there, whatever comes after.
 use Rattle.std.proofs.Common.{◌≡◌, ℕ, ◌+◌, ◌<◌, Bool, true, cond, List, [], ◌∷◌, ◌++◌, length, ◌⊎◌, inl, inr, sym, ap, subst, ◌∙◌, arith, length-append, append_assoc}
 use Rattle.std.specs.List.{list_all, prefix_len}
 use Rattle.std.proofs.lemmas.Bool.Decides.{nat_tests}

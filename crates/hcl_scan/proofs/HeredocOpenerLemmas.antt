@@ -31,7 +31,7 @@ marker_len text marker end left n f is newline whole = ⊎_elim short (λ e. e) 
         let never : is_word (get_or (take n text) (length marker) 0) ≡ false = ap is_word byte ∙ newline_head end left newline in
         absurd (cc)
 
--- what a marker and its newline leave of a text
+-- the text that a marker and its newline leave
 pub record Marked (text front left : List ℕ) (n : ℕ) : Type 0 where
   pub end : List ℕ
   pub newline : IsNewline end
@@ -73,7 +73,7 @@ marker_found text after_name n k e f g = longest_is IsMarker text front rest (n 
 pub marker_none : (text after_name : List ℕ) (n : ℕ) → after_name ≡ drop n text → IsLongestFront IsIdent text n → HasNoFront IsNewline after_name → HasNoFront IsMarker text
 marker_none text after_name n e f none front left same is = let m = marked text front left n f is same in none m.end left (m.there ∙ sym e) m.newline
 
--- what an opener leaves of a text
+-- the text that an opener leaves
 pub record Opened (seen text rest : List ℕ) : Type 0 where
   pub inner : List ℕ
   pub is : IsMarker inner
@@ -132,7 +132,7 @@ opened seen text rest whole is = ⊎_elim plain dashed is.3
           some = omega (arith, len);
         }
 
--- what stands before the marker
+-- the text before the marker
 abbrev mark_size : Bool → Bool → ℕ
 mark_size dashed plain = cond dashed 3 (cond plain 2 0)
 

@@ -1,4 +1,4 @@
--- What a turn of the scanner does where a heredoc is opened, and where it ends.
+-- A turn of the scanner at the opening and at the end of a heredoc.
 use Rattle.std.proofs.Common.{◌≡◌, ℕ, ◌+◌, ◌-◌, ◌<◌, ◌≤◌, ◌&&◌, ◌||◌, ◌==◌, Bool, true, false, cond, List, [], ◌∷◌, length, take, drop, get_or, slice_range, Some, ◌⊎◌, inl, inr, ⊎_elim, refl, sym, ap, subst, ◌∙◌, arith, IsUtf8, length-drop, get_or-drop}
 use Rattle.std.specs.List.{prefix_len}
 use Rattle.std.specs.Str.{IsCharBoundary}

@@ -40,7 +40,7 @@ ascii_without test text some lt h = inr (get_or text 0 0, drop 1 text, h, ascii_
 some_of : (n : ℕ) → (n == 0) ≡ false → 0 < n
 some_of n h = grind (arith, nat_tests)
 
--- by what the scanner knows of the first byte
+-- by the first byte, as the scanner reads it
 module _ (text bytes : List ℕ) (same : bytes ≡ text) (some : (length bytes == 0) ≡ false) (lt : get_or bytes 0 0 < 128) where
   some_text : 0 < length text
   some_text = subst (λ l. 0 < length l) same (some_of (length bytes) some)
@@ -64,7 +64,7 @@ starts_continues c h = by (is_xid_start c) refl h
     by true e k = ap (λ b. b || (c == 45)) (is_xid_start-is_xid_continue c e)
     by false e k = let c_is : c ≡ 95 = grind (arith, nat_tests) in ap continues_ident c_is ∙ ap (λ b. b || (95 == 45)) (is_xid_continue-ascii 95 (omega arith))
 
--- a front of continuing characters, before a character that is none, is the longest
+-- a front of continuing characters before another character is the longest
 no_longer : (cs ds rest left : List ℕ) → list_all continues_ident ds ≡ true → BeginsWithout continues_ident rest → encode_utf8_all ds ++ left ≡ encode_utf8_all cs ++ rest → length (encode_utf8_all ds) ≤ length (encode_utf8_all cs)
 no_longer cs [] rest left h stop whole = omega arith
 no_longer [] (d ∷ ds) rest left h (inl is) whole =
@@ -93,7 +93,7 @@ ident_continues text is = (is.0, by is.0 is.2, is.3)
     by [] h = refl
     by (c ∷ cs) h = let parts = and_true (starts_ident c) (list_all continues_ident cs) h in λ i. starts_continues c parts.0 i && parts.1 i
 
--- a character more
+-- one more character
 more : (front cs : List ℕ) (c : ℕ) → list_all continues_ident cs ≡ true → front ≡ encode_utf8_all cs → continues_ident c ≡ true → AreContinuing (front ++ encode_utf8 c)
 more front cs c all is passes =
     let both : list_all continues_ident (cs ++ c ∷ []) ≡ true = list_all-append continues_ident cs (c ∷ []) ∙ (λ i. all i && (passes i && true)) in
@@ -138,7 +138,7 @@ ascii_stops text bytes n same is low = subst (λ l. BeginsWithout continues_iden
     end : length bytes ≤ n → BeginsWithout continues_ident (drop n bytes)
     end le = inl (drop_all n bytes le)
 
--- where the first byte may begin an identifier, and the first that doesn't continue one is ASCII too
+-- if the first byte may begin an identifier, and the first that doesn't continue one is ASCII too
 pub begun : (text bytes : List ℕ) (n : ℕ) → bytes ≡ text → n ≡ prefix_len continues_ascii bytes → get_or bytes n 0 < 128 → may_begin_ident (get_or text 0 0) ≡ true → BeginsWith starts_ident text
 begun text bytes n same is stops may = at text (is ∙ ap (prefix_len continues_ascii) same) (subst (λ l. get_or l n 0 < 128) same stops) may
   where
@@ -180,7 +180,7 @@ first_some test text n f =
 pub continued_falls : (text rest : List ℕ) (len n : ℕ) → rest ≡ drop len text → FirstChar continues_ident rest n → length text - (len + n) < length text - len
 continued_falls text rest len n e f = let some = first_some continues_ident rest n f in omega (arith, some.0, some.1, ap length e, length-drop len text)
 
--- where a run begins as an identifier does, it is one
+-- a run that begins like an identifier is one
 module _ (text : List ℕ) (n : ℕ) (utf8 : IsUtf8 text) (begins : BeginsWith starts_ident text) (run : Continued text n) (stop : BeginsWithout continues_ident (drop n text)) where
   never_empty : (rest : List ℕ) → BeginsWithout continues_ident rest → text ≡ rest → ⊥
   never_empty rest (inl e) same = omega (arith, ap length (sym begins.whole ∙ same ∙ e), length-append (encode_utf8 begins.first) begins.rest, length-encode begins.first, (len_utf8_bounds begins.first).0)

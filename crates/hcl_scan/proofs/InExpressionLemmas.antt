@@ -1,4 +1,5 @@
--- After a token that may grow: what is read there in a text of the same tokens doesn't go on it, where the gap fits.
+-- After a token that may grow: if the gap fits, the token that is read there in a text of the same tokens doesn't
+-- extend it.
 use Rattle.std.proofs.Common.{◌≡◌, ℕ, zero, suc, ◌<◌, ◌≤◌, ◌&&◌, ◌||◌, ◌==◌, not, Bool, true, false, cond, List, [], ◌∷◌, ◌++◌, length, get_or, replicate, ⊎_elim, refl, sym, ap, ◌∙◌, arith}
 use Rattle.std.specs.Char.{is_ascii_digit}
 use Rattle.std.specs.Prelude.{nat_le}
@@ -23,7 +24,7 @@ use Rattle.hcl_scan.proofs.KindPlaceLemmas.{Side, expression, template, side}
 use Rattle.hcl_scan.proofs.TemplateLemmas.{lit, interp, control, quote}
 use Rattle.hcl_scan.proofs.PunctuationNeighbourLemmas.{blank_grows}
 
--- ---- the kinds, by what the table asks of what follows
+-- ---- the kinds, by the table's tests of the text after
 abbrev pub grower : Kind → Bool
 grower Ident = true
 grower Number = true
@@ -136,7 +137,7 @@ no_fraction opens dot kind text rest other this no_dot = by (get_or (text ++ oth
         is_point : (b : ℕ) → (b == 46) ≡ true → b ≡ 46
         is_point b h = grind (arith, nat_tests)
 
--- ---- a token that may grow, and what fits after it
+-- ---- a token that may grow, and a gap that fits after it
 zero_grows : (kind : Kind) → grows kind 0 ≡ false
 zero_grows Ident = refl
 zero_grows Number = refl

@@ -1,4 +1,4 @@
--- Inside an outermost heredoc the tokens don't depend on what follows it.
+-- Inside an outermost heredoc the tokens don't depend on the text after it.
 use Rattle.std.proofs.Common.{◌≡◌, ℕ, ◌+◌, ◌<◌, Bool, true, false, List, [], ◌∷◌, length, drop, ◌≤◌, inl, inr, refl, sym, ap, subst, ◌∙◌, arith}
 use Rattle.hcl_tokens.specs.Lexemes.{Lexeme, Opener, in_heredoc, marker_of, open_after, max_open}
 use Rattle.hcl_tokens.specs.Kinds.{is}

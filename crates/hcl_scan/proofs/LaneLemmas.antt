@@ -21,7 +21,7 @@ moved : (f : ℕ → ℕ) (i b n : ℕ) → map f (range_with_len (i + b) n) ≡
 moved f i b zero = refl
 moved f i b (suc n) = ap (λ rest. f (i + b) ∷ rest) (ap (λ a. map f (range_with_len a n)) (omega arith) ∙ moved f i (b + 1) n)
 
--- what was loaded, lane by lane
+-- the loaded bytes, lane by lane
 pub loaded : (text : List ℕ) (i n : ℕ) → i + n ≤ length text → chunk i n text ≡ map (λ k. get_or text (i + k) 0) (lanes n)
 loaded text i n room = sym (pick_l-range_with_len 0 text i n room) ∙ ap (λ a. map (λ k. get_or text k 0) (range_with_len a n)) (omega arith) ∙ moved (λ k. get_or text k 0) i 0 n
 
@@ -113,7 +113,7 @@ module _ (text marker : List ℕ) (at : ℕ) (some : 0 < length marker) (room : 
         (set _ _ _ _ is.before (ap (λ i. get_or text i 0) (omega arith) ∙ is.front) (ap (λ i. get_or text i 0) (omega arith) ∙ is.back) (subst (λ i. get_or text i 0 ≤ 32) (omega arith) is.following));
   }
 
--- the places following which the marker doesn't stand, of those that were marked and of those that are left
+-- among the marked places and the remaining ones, those after which the marker isn't
 abbrev pub LeftOf : List ℕ → List ℕ → ℕ → ℕ → Type 0
 LeftOf text marker at left = (k : ℕ) → k < 32 → Stands text marker (at + k) → bit_at left k ≡ 1
 
@@ -125,7 +125,7 @@ left_without text marker at left next out old differs kept k lt is = elim (cases
   | inr other ↦ kept k (omega (arith, lt)) other ∙ old k lt is
 ]
 
--- following a place before the lowest that is left it doesn't stand
+-- the marker isn't after a place before the lowest remaining one
 pub none_below : (text marker : List ℕ) (at left lane : ℕ) → LeftOf text marker at left → lane < 32 → ((k : ℕ) → k < lane → bit_at left k ≡ 0) → IsAfterOthers text marker at (at + lane + 1)
 none_below text marker at left lane old few clear = record {
   low = omega arith;
@@ -141,7 +141,7 @@ none_left text marker at left old empty k from upto is =
     let none : bit_at left (k - at) ≡ 0 = ap (λ m. bit_at m (k - at)) empty ∙ bit_at-zero (k - at) in
     absurd (omega (arith, there, none))
 
--- a run in one load, whose lanes tell where the bytes stop to pass
+-- a run in one load, whose lanes show where the bytes stop passing
 module _ (passes : ℕ → Bool) (f : ℕ → ℕ) (v z : List ℕ) (fits : (k : ℕ) → Fits w8 (get_or v k 0)) (size : length v ≡ 16) (z_is : z ≡ map f v) (agree : agree_below (λ b. not (top 7 (f b))) passes 256 ≡ true) where
   same_run : (w : List ℕ) → ((k : ℕ) → Fits w8 (get_or w k 0)) → prefix_len (λ b. not (top 7 (f b))) w ≡ prefix_len passes w
   same_run [] _ = refl

@@ -1,4 +1,4 @@
--- What the first two bytes of a token of an expression say of its kind.
+-- The kinds of a token of an expression by its first two bytes.
 use Rattle.std.proofs.Common.{◌≡◌, ℕ, ◌<◌, ◌&&◌, ◌||◌, ◌==◌, Bool, true, false, cond, List, [], ◌∷◌, ◌++◌, length, get_or, ◌⊎◌, inl, inr, ⊎_elim, refl, sym, ap, ◌∙◌, arith, length-append, append_assoc}
 use Rattle.std.specs.List.{list_all}
 use Rattle.std.specs.Char.{is_ascii_digit}
@@ -203,7 +203,7 @@ sign_mark opens dot kind text rest l (seq_close k h is) = absurd (let other = ap
 sign_mark opens dot kind text rest l (brace_close k h e) = absurd (let other = ap kind_lead k in cc)
 sign_mark opens dot kind text rest l (slash k e h) = absurd (let other = ap kind_lead k in cc)
 
--- leads that the first byte alone decides
+-- leads by the first byte alone
 abbrev pub is_settled : Lead → Bool
 is_settled HashOrSlashes = false
 is_settled SlashStar = false
@@ -235,7 +235,7 @@ settled_first first second l h e =
     by false false false false false false true false i x u k = k
     by false false false false false false false more i x u k = k
 
--- fronts of what is seen
+-- fronts of the visible text
 pub front_lead : (longer left seen : List ℕ) → longer ++ left ≡ seen → 1 < length longer → lead_of longer ≡ lead_of seen
 front_lead [] left seen e lt = absurd (omega arith)
 front_lead (b ∷ []) left seen e lt = absurd (omega arith)

@@ -1,4 +1,4 @@
--- How long escapes and elements of literal text are.
+-- The length of escapes and elements of literal text.
 use Rattle.std.proofs.Common.{◌≡◌, ℕ, zero, suc, ◌+◌, ◌<◌, ◌≤◌, ◌&&◌, ◌||◌, ◌==◌, Bool, true, false, List, [], ◌∷◌, length, take, drop, if◌then◌else◌, Option, Some, None, refl, ap, subst, arith, length-drop, codes}
 use Rattle.std.specs.List.{list_all}
 use Rattle.std.specs.Char.{is_ascii_hexdigit}
@@ -72,6 +72,6 @@ element_fits quoted (b ∷ after) = element_by (b ∷ after) (starts (b ∷ afte
     (λ h. either _ _ (λ p. starts_len (b ∷ after) (codes "$${") p) (λ p. starts_len (b ∷ after) (codes "%%{") p) h)
     (escape_fits (b ∷ after))
 
--- so many bytes, where one is there
+-- this many bytes, if there is one
 pub element_is : (quoted : Bool) (text : List ℕ) (n : ℕ) → element_len quoted text ≡ Some n → IsPart text n
 element_is quoted text n h = subst (λ o. IsPartIfSome text o) h (element_fits quoted text)

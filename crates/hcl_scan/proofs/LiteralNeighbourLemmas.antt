@@ -1,17 +1,17 @@
--- Literal text before the token that ends it: whatever follows that token, the elements are the same.
+-- Literal text before the token that ends it: whatever comes after that token, the elements are the same.
 use Rattle.std.proofs.Common.{◌≡◌, ℕ, zero, suc, ◌-◌, ◌≤◌, ◌&&◌, ◌||◌, ◌==◌, not, Bool, true, false, List, [], ◌∷◌, ◌++◌, length, if◌then◌else◌, refl, sym, ap, ◌∙◌, arith, Option, Some, None}
 use Rattle.std.specs.List.{list_all}
 use Rattle.std.specs.Option.{option_map_or}
 use Rattle.std.specs.Char.{is_ascii_hexdigit}
 use Rattle.hcl_tokens.specs.Spelling.{starts, element_len, escape_len, are_elements, ends_quoted, is_dollar_or_percent, hex_digits_after}
 
--- a front that is short looks at nothing after
+-- a short front doesn't depend on the text after it
 short_front : (w x y front : List ℕ) → length front ≤ length w → starts (w ++ x) front ≡ starts (w ++ y) front
 short_front w x y [] le = refl
 short_front [] x y (c ∷ front) le = absurd (omega arith)
 short_front (b ∷ w) x y (c ∷ front) le = ap (λ v. (b == c) && v) (short_front w x y front (omega arith))
 
--- nor does one that hasn't the byte after
+-- nor does one without the byte after
 other_front : (p : List ℕ) (h : ℕ) (x y front : List ℕ) → list_all (λ c. not (h == c)) front ≡ true → starts (p ++ h ∷ x) front ≡ starts (p ++ h ∷ y) front
 other_front p h x y [] f = refl
 other_front [] h x y (c ∷ front) f = by (h == c) (starts x front) (starts y front) (list_all (λ c. not (h == c)) front) f
@@ -25,7 +25,7 @@ other_front (b ∷ p) h x y (c ∷ front) f = ap (λ v. (b == c) && v) (other_fr
     by true r k = k
     by false r k = absurd (cc)
 
--- hexadecimal digits end where another byte stands
+-- hexadecimal digits end before any other byte
 hexes_only : (n : ℕ) (p : List ℕ) (h : ℕ) (x y : List ℕ) → is_ascii_hexdigit h ≡ false → hex_digits_after n (p ++ h ∷ x) ≡ hex_digits_after n (p ++ h ∷ y)
 hexes_only zero p h x y no_hex = refl
 hexes_only (suc n) [] h x y no_hex = (λ i. no_hex i && hex_digits_after n x) ∙ sym (λ i. no_hex i && hex_digits_after n y)

@@ -1,4 +1,4 @@
--- A text that is longer than another at the same place: it goes on that one, and begins as that does.
+-- A text that is longer than another at the same place: it extends that one, and begins in the same way.
 use Rattle.std.proofs.Common.{◌≡◌, ℕ, ◌<◌, Bool, true, List, [], ◌∷◌, ◌++◌, length, drop, get_or, refl, sym, ap, ◌∙◌, arith}
 use Rattle.std.specs.List.{list_all}
 use Rattle.hcl_tokens.specs.Lexemes.{Opener}
@@ -9,11 +9,11 @@ use Rattle.hcl_tokens.proofs.BooleanLemmas.{and_true}
 use Rattle.hcl_scan.proofs.WayLemmas.{ways}
 use Rattle.hcl_scan.proofs.LeadLemmas.{kind_lead, leads, front_lead}
 
--- no longer text of an expression stands there
+-- there is no longer text of an expression there
 abbrev pub Alone : List Opener → Bool → List ℕ → List ℕ → Type 0
 Alone opens dot text other = (kind : Kind) (longer left : List ℕ) → longer ++ left ≡ text ++ other → length text < length longer → ¬ IsExpressionText opens dot kind longer left
 
--- a longer text begins as the text does with what follows
+-- a longer text begins with the text and continues with the text after it
 pub lead_kind : (opens : List Opener) (dot : Bool) (kind : Kind) (longer left seen : List ℕ) → longer ++ left ≡ seen → 1 < length longer → IsExpressionText opens dot kind longer left → kind_lead kind ≡ lead_of seen
 lead_kind opens dot kind longer left seen e lt is = sym (leads opens dot kind longer left (ways opens dot kind longer left is)) ∙ front_lead longer left seen e lt
 

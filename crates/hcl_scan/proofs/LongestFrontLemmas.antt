@@ -10,7 +10,7 @@ use Rattle.std.proofs.lemmas.Bool.Decides.{Decides-eqb}
 use Rattle.hcl_scan.specs.Inner.Found.{IsLongestFront, HasNoFront}
 use Rattle.hcl_tokens.proofs.BooleanLemmas.{and_true}
 
--- what a test for a front says
+-- the meaning of a test for a front
 pub begins : (text front : List ℕ) → starts_with nat_eq text front ≡ true → text ≡ front ++ drop (length front) text
 begins text front h = (starts_is Decides-eqb text front _ refl).0 h
 

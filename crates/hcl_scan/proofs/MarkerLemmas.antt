@@ -47,6 +47,6 @@ some_marker text is = (begun_marker text is).0
 pub marker_no_blank : (text : List ℕ) → IsHeredocOpen text → is_blank (get_or (marker_of text) 0 0) ≡ false
 marker_no_blank text is = (begun_marker text is).1
 
--- what opens a heredoc has at least its two signs
+-- the opener of a heredoc has at least its two signs
 pub long_opener : (text : List ℕ) → IsHeredocOpen text → 2 ≤ length text
 long_opener text is = omega (arith, ap length is.6)

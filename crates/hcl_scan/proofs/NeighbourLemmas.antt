@@ -1,5 +1,5 @@
--- The table of neighbours, kind by kind: a token outside heredocs that was the longest before one text is the longest
--- before another where the table says so. Only that the text is spelled is needed: a longer one would begin with the
+-- The table of neighbours, kind by kind: if the table says so, a token outside heredocs that was the longest before one
+-- text is the longest before another. The proof needs only that the text is spelled: a longer one would begin with the
 -- same two bytes, and so be of the same kind, or of one more.
 use Rattle.std.proofs.Common.{◌≡◌, ℕ, ◌<◌, ◌&&◌, ◌||◌, ◌==◌, not, Bool, true, false, List, [], ◌∷◌, ◌++◌, length, take, drop, get_or, if◌then◌else◌, ◌⊎◌, inl, inr, ⊎_elim, refl, sym, ap, subst, ◌∙◌, arith, length-append, None}
 use Rattle.std.specs.Char.{is_ascii_digit}

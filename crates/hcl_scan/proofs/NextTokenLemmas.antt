@@ -1,5 +1,5 @@
--- What follows a token, in a text of the same tokens with other gaps that fit, leaves the token as it is: by kinds, for
--- literal text here.
+-- The text after a token, in a text of the same tokens with other gaps that fit, leaves the token as it is: by kinds,
+-- for literal text here.
 use Rattle.std.proofs.Common.{◌≡◌, ℕ, Bool, true, false, cond, List, [], ◌∷◌, ◌++◌, drop, replicate, ◌⊎◌, inl, inr, ⊎_elim, refl, sym, ap, subst, ◌∙◌, arith, length-append, append_assoc}
 use Rattle.std.specs.List.{prefix_len}
 use Rattle.hcl_tokens.specs.Lexemes.{Lexeme, Opener, in_heredoc, open_after}
@@ -19,7 +19,7 @@ use Rattle.hcl_scan.proofs.NeighbourLemmas.{kept}
 use Rattle.hcl_scan.proofs.InExpressionLemmas.{grower, growing_on, of_joins}
 use Rattle.hcl_scan.proofs.AfterCommentLemmas.{comment_on}
 
--- the kinds, by what the table asks of what follows
+-- the kinds, by the table's tests of the text after
 data Sort (kind : Kind) : Type 0 where
   comment : kind ≡ LineComment → Sort kind
   literal : kind ≡ Lit → Sort kind

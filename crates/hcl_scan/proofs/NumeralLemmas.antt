@@ -22,7 +22,7 @@ first_after front rest text e = sym (ap (λ t. get_or t (length front) 0) e) ∙
 pub inside : (front rest text : List ℕ) (k : ℕ) → front ++ rest ≡ text → k < length front → get_or text k 0 ≡ get_or front k 0
 inside front rest text k e lt = sym (ap (λ t. get_or t k 0) e) ∙ get_or_append_left front rest 0 k lt
 
--- the sign is seen from the first byte
+-- the sign by the first byte
 sign_text : ℕ → List ℕ
 sign_text b = if b == 43 then 43 ∷ [] else (if b == 45 then 45 ∷ [] else [])
 
@@ -228,7 +228,7 @@ number_found seen n m k d f x = longest_is IsNumber seen text rest (n + m + k) l
                 let most = x.longest is.2 left last is.5 in
                 omega (arith, total, len, most)
 
--- by what the scanner knows
+-- by the first bytes, as the scanner reads them
 exponent_head : (seen : List ℕ) → is_e (get_or seen 0 0) ≡ true → seen ≡ get_or seen 0 0 ∷ drop 1 seen
 exponent_head [] h = cc
 exponent_head (b ∷ seen) h = refl

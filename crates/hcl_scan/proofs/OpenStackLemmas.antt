@@ -1,5 +1,5 @@
--- What is open agrees with what is hidden: as many heredocs are open as are hidden. And all but a sequence is opened
--- in an expression, so what a quote, a heredoc or a group leads back to when it is closed is one.
+-- The open constructs agree with the hidden text: as many heredocs are open as are hidden. And everything but a
+-- sequence is opened in an expression, so closing a quote, a heredoc or a group leads back to one.
 use Rattle.std.proofs.Common.{◌≡◌, ℕ, ◌&&◌, ◌||◌, Bool, true, false, cond, List, [], ◌∷◌, length, drop, None, ◌+◌, ◌<◌, if◌then◌else◌, ⊎_elim, refl, sym, ap, subst, ◌∙◌, arith}
 use Rattle.hcl_tokens.specs.Lexemes.{Lexeme, Opener, Quote, Heredoc, Sequence, Brace, Bracket, Paren, open_after, closes_sequence, below_groups, pop_if, in_heredoc, same_opener}
 use Rattle.hcl_tokens.specs.Spelling.{IsSpelling, IsTextIn, context, Context, Template, Expression}
@@ -15,7 +15,7 @@ abbrev pub count : List Opener → ℕ
 count [] = 0
 count (o ∷ os) = if same_opener Heredoc o then 1 + count os else count os
 
--- all but a sequence is opened in an expression
+-- everything but a sequence is opened in an expression
 abbrev pub is_grounded : List Opener → Bool
 is_grounded [] = true
 is_grounded (o ∷ os) = (same_opener Sequence o || is_expression (context os)) && is_grounded os
@@ -51,7 +51,7 @@ owes_heredoc (Brace ∷ os) h = owes_heredoc os h
 owes_heredoc (Bracket ∷ os) h = owes_heredoc os h
 owes_heredoc (Paren ∷ os) h = owes_heredoc os h
 
--- what a token moves
+-- the effect of a token
 abbrev pub Moves : Kind → List Opener → Type 0
 Moves kind opens = (count (open_after kind opens) ≡ count opens) × (is_grounded (open_after kind opens) ≡ true)
 

@@ -1,6 +1,6 @@
 -- A text made of the tokens of another, with other gaps that fit, is scanned to the same tokens: by induction on the
--- list, for readings that stand outside heredocs, where the gaps are others, and for those inside an outermost one,
--- where the bytes are the same and only what follows it is different.
+-- list, for readings outside heredocs, where the gaps differ, and for readings inside an outermost heredoc, where the
+-- bytes are the same and only the text after it differs.
 use Rattle.std.proofs.Common.{◌≡◌, ℕ, ◌+◌, ◌≤◌, Bool, true, false, List, [], ◌∷◌, ◌++◌, length, take, drop, replicate, ⊎_elim, refl, sym, ap, subst, ◌∙◌, arith, length-append, append_assoc}
 use Rattle.std.proofs.lemmas.List.{take-append-drop}
 use Rattle.hcl_tokens.specs.Lexemes.{Lexeme, Opener, Heredoc, marker_of, open_after, in_heredoc, max_open}
@@ -19,17 +19,17 @@ use Rattle.hcl_scan.proofs.HeredocMarkerLemmas.{marker_line_stays}
 use Rattle.hcl_scan.proofs.GapLemmas.{drop_blanks, gaps, lines}
 use Rattle.hcl_scan.proofs.NextTokenLemmas.{follows}
 
--- what is still to come of a text
+-- the rest of a text
 abbrev pub beyond : List Hidden → List ℕ → List ℕ
 beyond [] z = z
 beyond (h ∷ hs) z = h.closer ++ (h.after ++ beyond hs z)
 
--- where the texts are read again, outside of heredocs and inside
+-- the states in which the texts are read again, outside heredocs and inside
 abbrev Outside : List (ℕ × Lexeme) → Type 0
 Outside ps = (s end : State) (dot : Bool) (before : Kind) (at : ℕ) (offsets : List ℕ) → Run s (without_gaps ps) end → IsComplete end → s.hidden ≡ [] → Sound s.opens s.hidden → s.after_dot ≡ is Dot before → AllFit dot before ps →
     Again (record { at = at; opens = s.opens; offsets = offsets; after_dot = s.after_dot; seen = text_with_gaps ps; hidden = [] }) (placed_tokens at ps)
 
--- what the text holds after the outermost heredoc
+-- the text after the outermost heredoc
 pub record Within (s : State) (hs : List Hidden) (last : Hidden) (ps : List (ℕ × Lexeme)) (at : ℕ) (offsets : List ℕ) : Type 0 where
   pub after : List ℕ
   pub whole : text_with_gaps ps ≡ s.seen ++ beyond hs (last.closer ++ after)
@@ -40,15 +40,15 @@ abbrev Inside : List (ℕ × Lexeme) → Type 0
 Inside ps = (s end : State) (dot : Bool) (before : Kind) (at : ℕ) (offsets : List ℕ) (hs : List Hidden) (last : Hidden) → Run s (without_gaps ps) end → IsComplete end → s.hidden ≡ hs ++ last ∷ [] → Sound s.opens s.hidden → at_line_end (skip_blanks last.after) ≡ true → s.after_dot ≡ is Dot before → AllFit dot before ps →
     Within s hs last ps at offsets
 
--- what a gap of no blanks leaves
+-- the text that a gap of no blanks leaves
 no_blanks : (gap : ℕ) (more : List ℕ) → gap ≡ 0 → replicate gap 32 ++ more ≡ more
 no_blanks gap more h = ap (λ n. replicate n 32 ++ more) h
 
--- the texts of what is seen, with what is after
+-- the visible texts, with the text after them
 join_seen : (text more rest seen tail : List ℕ) → text ++ rest ≡ seen → more ≡ rest ++ tail → text ++ more ≡ seen ++ tail
 join_seen text more rest seen tail whole e = ap (λ l. text ++ l) e ∙ sym (append_assoc text rest tail) ∙ ap (λ l. l ++ tail) whole
 
--- the same where a heredoc was opened
+-- the visible texts if a heredoc was opened
 pub join_hidden : (marker rest : List ℕ) (n : ℕ) (tail : List ℕ) → let h : Hidden = hides marker (drop n rest) in take n rest ++ (h.closer ++ (h.after ++ tail)) ≡ rest ++ tail
 join_hidden marker rest n tail =
     let k : ℕ = closer_len marker (drop n rest) in
@@ -216,7 +216,7 @@ module _ (p : ℕ × Lexeme) (ps : List (ℕ × Lexeme)) (outside : Outside ps) 
       not_dot : ◌≡◌ {A = Bool} false (is Dot p.1.kind)
       not_dot = sym (ap (is Dot) c.kind)
 
-      -- what is left of the last is where the outer text goes on
+      -- the outer text continues with the text that the last token leaves
       inside_closes : (hs : List Hidden) → s.hidden ≡ hs ++ last ∷ [] → Within s hs last (p ∷ ps) at offsets
       inside_closes [] hidden =
           let both : last ∷ [] ≡ record { closer = p.1.text; after = c.rest } ∷ c.above = sym hidden ∙ c.line in

@@ -11,7 +11,7 @@ use Rattle.hcl_tokens.specs.declared.token.Kind.{Kind}
 use Rattle.hcl_tokens.specs.declared.token.Kind.TheVariants.{HeredocClose, LineComment, Dot}
 use Rattle.hcl_tokens.proofs.BooleanLemmas.{or_true}
 
--- from here the tokens are read, and nothing is left
+-- from here the tokens are read to the end
 abbrev pub Again : State → List Lexeme → Type 0
 Again s ts = (end : State) × Run s ts end × IsComplete end
 

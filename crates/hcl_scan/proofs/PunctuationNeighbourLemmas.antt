@@ -1,4 +1,4 @@
--- Marks: no longer text begins where the next byte doesn't go on the mark.
+-- Marks: no longer text begins there unless the next byte extends the mark.
 use Rattle.std.proofs.Common.{◌≡◌, ℕ, suc, ◌<◌, ◌&&◌, ◌||◌, ◌==◌, not, Bool, true, false, cond, List, [], ◌∷◌, ◌++◌, length, drop, if◌then◌else◌, get_or, inl, inr, refl, sym, ap, ◌∙◌, arith, append_assoc}
 use Rattle.std.specs.List.{list_all}
 use Rattle.std.specs.Char.{is_ascii_digit}
@@ -24,7 +24,7 @@ alone_first text = let b = get_or text 0 0 in not (begins_word b) && not (is_asc
 abbrev no_heredoc : List ℕ → Kind → Bool
 no_heredoc text kind = not (get_or text 0 0 == 60) || (if length text == 1 then grows kind 60 else not (get_or text 1 0 == 60))
 
--- what joins two marks into one is in the table
+-- the table has the bytes that join two marks into one
 abbrev no_pair : List ℕ → Kind → List ℕ → Bool
 no_pair text kind longer = not (starts longer text) || nat_le (length longer) (length text) || grows kind (get_or longer (length text) 0)
 
@@ -100,7 +100,7 @@ heredoc_grows kind (b ∷ c ∷ text) bs tail e some h =
     not_one : (n : ℕ) → (suc (suc n) == 1) ≡ false
     not_one n = grind (arith, nat_tests)
 
--- A MARK stays the longest where the table says so
+-- A MARK stays the longest if the table says so
 pub mark_alone : (opens : List Opener) (dot : Bool) (kind : Kind) (text rest : List ℕ) → in_heredoc opens ≡ false → IsPunctuation punctuation text kind → stops_mark kind rest ≡ true → Alone opens dot text rest
 mark_alone opens dot kind text rest plain is stop other longer left e lt h = by (ways opens dot other longer left h)
   where

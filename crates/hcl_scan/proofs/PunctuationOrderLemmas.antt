@@ -1,4 +1,4 @@
--- The first of the ordered marks that stands at the front is the longest of all marks there.
+-- The first of the ordered marks at the front is the longest of all marks there.
 use Rattle.std.proofs.Common.{◌≡◌, ◌≤◌, Bool, true, false, cond, List, [], ◌∷◌, ◌++◌, length, take, drop, find, get_or, ℕ, zero, suc, Option, Some, None, ◌⊎◌, inl, inr, refl, sym, ap, subst, ◌∙◌, arith, nat_le, ⊎_elim, length-append}
 use Rattle.std.specs.Prelude.{nat_eq, nat_lt, option_map, IfSome, IfNone}
 use Rattle.std.specs.List.{list_all, starts_with}

@@ -1,4 +1,4 @@
--- What the stack keeps stands for what is open.
+-- The stack represents the open constructs.
 use Rattle.std.proofs.Common.{◌≡◌, ℕ, ◌+◌, ◌<◌, List, [], ◌∷◌, length, take, drop, reverse, get_or, None, refl, sym, ap, subst, ◌∙◌, arith, slice_set}
 use Rattle.std.specs.Prelude.{map}
 use Rattle.std.proofs.lemmas.List.{reverse-append, take_more, take_more_set}
@@ -12,7 +12,7 @@ use Rattle.hcl_scan.specs.declared.stack.Frame.{Frame}
 use Rattle.hcl_scan.specs.declared.stack.Reading.{Reading}
 use Rattle.hcl_scan.specs.declared.stack.Reading.TheVariants.{Code, SequenceCode, QuotedText, HeredocText}
 
--- WHAT A READING SAYS
+-- A READING
 group_template : (r : Reading) → template_in (group_reading r) ≡ None
 group_template Code = refl
 group_template SequenceCode = refl
@@ -41,7 +41,7 @@ closes_by by.Brace r = refl
 closes_by by.Bracket r = group_closes r
 closes_by by.Paren r = group_closes r
 
--- OF WHAT IS OPEN
+-- THE OPEN CONSTRUCTS
 pub template_under : (fs : List Frame) → template_in (reading_under fs) ≡ quoted_in (context (openers_of (map opened_of fs)))
 template_under [] = refl
 template_under (f ∷ fs) = template_on (opener_in f) f.around
@@ -56,7 +56,7 @@ one_more fs n f within = ap reverse (take_more_set fs n f within) ∙ reverse-ap
 pub top_frame : (fs : List Frame) (n : ℕ) (d : Frame) → n < length fs → frames_of (n + 1) fs ≡ get_or fs n d ∷ frames_of n fs
 top_frame fs n d within = ap reverse (take_more fs n d within) ∙ reverse-append (take n fs) (get_or fs n d ∷ [])
 
--- the top, and what is open without it
+-- the top, and the constructs below it
 module _ (fs : List Frame) (m n : ℕ) (reading : Reading) (f : Frame) (one : n + 1 ≡ m) (top : f ≡ get_or fs n f) (is : IsRoom m fs reading) where
   top_first : frames_of m fs ≡ f ∷ frames_of n fs
   top_first = ap (λ k. frames_of k fs) (sym one) ∙ top_frame fs n f (omega (arith, one, is.within, is.room)) ∙ ap (λ g. g ∷ frames_of n fs) (sym top)

@@ -1,4 +1,4 @@
--- The scan as a whole: a run grows by the tokens read, and where it ends in a fault this is the fault of the text.
+-- The scan as a whole: a run grows by each token read, and a fault at its end is the fault of the text.
 use Rattle.std.proofs.Common.{◌≡◌, ℕ, List, [], ◌∷◌, ◌++◌, Result, Ok, Err, sym, ap, subst, ◌∙◌, arith}
 use Rattle.std.specs.Prelude.{All, IfOk, IfErr}
 use Rattle.std.proofs.lemmas.List.{map_push}
@@ -17,7 +17,7 @@ use Rattle.hcl_scan.proofs.AllContextLemmas.{one_kind, lacks_stuck, Run-push}
 use Rattle.hcl_scan.proofs.ExpressionLawLemmas.{one_expression}
 use Rattle.hcl_tokens.proofs.NonemptyLemmas.{nonempty}
 
--- what the scanner came to
+-- the result of the scanner
 pub token_read : (read : Result Entry Stopped) (s next : Scanner) (e : Entry) → read ≡ Ok e → IfOk read (λ x. Moves s x next) → Moves s e next
 token_read read s next e is h = subst (λ (r : Result Entry Stopped). IfOk r (λ x. Moves s x next)) is h
 

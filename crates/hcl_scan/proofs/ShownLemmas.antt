@@ -1,4 +1,4 @@
--- What is seen and hidden after a token: it opens a heredoc, or hides nothing.
+-- The visible and the hidden text after a token: it opens a heredoc, or hides nothing.
 use Rattle.std.proofs.Common.{◌≡◌, ℕ, Bool, true, false, List, ◌∷◌, take, drop, refl, sym, subst}
 use Rattle.hcl_tokens.specs.Lexemes.{marker_of}
 use Rattle.hcl_tokens.specs.Scans.{Hidden, hides, IsFirstMarkerLine, Leaves}

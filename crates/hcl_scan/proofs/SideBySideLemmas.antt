@@ -1,4 +1,4 @@
--- What a scan says of tokens that stand side by side, by one reading from the front.
+-- The facts of adjacent tokens in a scan, by one reading from the front.
 use Rattle.std.proofs.Common.{◌≡◌, ℕ, ◌<◌, ◌||◌, ◌==◌, Bool, true, false, cond, List, [], ◌∷◌, ◌++◌, length, drop, get_or, inl, inr, refl, sym, ap, subst, ◌∙◌, arith, length-append}
 use Rattle.hcl_tokens.specs.Lexemes.{Lexeme, Opener, Quote, Heredoc, Sequence, Brace, Bracket, Paren, in_heredoc, open_after, pop_if, below_groups, same_opener}
 use Rattle.hcl_tokens.specs.Spelling.{IsExpressionText, context, Template, Expression}
@@ -22,7 +22,7 @@ use Rattle.hcl_scan.proofs.FirstByteLemmas.{begins}
 use Rattle.hcl_scan.proofs.InExpressionLemmas.{no_template}
 use Rattle.hcl_scan.proofs.AfterCommentLemmas.{comment_spelled, line_gap, comment_ends}
 
--- ---- where a template goes on
+-- ---- the continuation of a template
 popped_context : (is : Opener → Bool) → is Sequence ≡ false → (opens : List Opener) → context opens ≡ Expression → is_grounded opens ≡ true → context (pop_if is opens) ≡ Expression
 popped_context is never [] e g = e
 popped_context is never (Sequence ∷ os) e g = ap (λ b. context (cond b os (Sequence ∷ os))) never
@@ -41,7 +41,7 @@ below_context (Quote ∷ os) e g = e
 below_context (Sequence ∷ os) e g = e
 below_context (Brace ∷ os) e g = e
 
--- where a token of an expression leads
+-- the context after a token of an expression
 data LeadsTo (kind : Kind) (opens : List Opener) : Type 0 where
   on : opens_template kind ≡ true → LeadsTo kind opens
   into : in_heredoc (open_after kind opens) ≡ true → LeadsTo kind opens

@@ -1,4 +1,4 @@
--- Parts of a text, and where it may be cut in them.
+-- Parts of a text, and places where they may be cut.
 use Rattle.std.proofs.Common.{◌≡◌, ℕ, suc, ◌+◌, ◌-◌, ◌≤◌, ◌<◌, List, ◌∷◌, length, take, drop, get_or, slice_range, sym, ap, subst, ◌∙◌, arith, length-drop, length-take-le, get_or-take, get_or-drop, ⊎_elim}
 use Rattle.std.specs.Str.{IsCharBoundary}
 use Rattle.std.proofs.Math.Nat.{add-sub_cancel_left}
@@ -31,7 +31,7 @@ part_boundary text at end n le within last here =
     other)
     (cases_order (at + n) end)
 
--- a byte, and what follows it
+-- a byte, and the text after it
 pub slice_first : (text : List ℕ) (at end : ℕ) → at < end → end ≤ length text → slice_range text at end ≡ get_or text at 0 ∷ slice_range text (at + 1) end
 slice_first text at end lt le =
     let one_more : end - at ≡ suc (end - (at + 1)) = omega arith in

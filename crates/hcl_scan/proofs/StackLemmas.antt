@@ -1,4 +1,4 @@
--- The scanner's stack against what is open.
+-- The scanner's stack and the open constructs.
 use Rattle.std.proofs.Common.{◌≡◌, ◌≢◌, ℕ, suc, ◌+◌, ◌-◌, ◌<◌, ◌≤◌, ◌||◌, Bool, true, false, IsTrue, List, [], ◌∷◌, length, drop, length-drop, if◌then◌else◌, Some, None, refl, sym, ap, subst, ◌∙◌, arith, nat_lt}
 use Rattle.std.proofs.lemmas.List.{length-map, drop-map, drop-drop}
 use Rattle.std.proofs.lemmas.Bool.Decides.{nat_tests}
@@ -14,7 +14,7 @@ use Rattle.hcl_scan.specs.declared.stack.Opened.{Opened}
 use Rattle.hcl_tokens.specs.declared.token.Kind.{Kind}
 use Rattle.hcl_tokens.specs.declared.token.Kind.TheVariants.{Dot, QuoteOpen, HeredocOpen, HeredocClose, InterpOpen, ControlOpen, ParenOpen, BracketOpen, BraceOpen, ParenClose, BracketClose, BraceClose, SeqClose, QuoteClose}
 
--- what is seen ends within the text
+-- the visible text ends within the text
 within_by : (text : List ℕ) (end : ℕ) (opener : kept.Opener) (around : ℕ → Type 0) → ((e : ℕ) → around e → e ≤ length text) → AreEndsBy text end opener around → end ≤ length text
 within_by text end (by.Heredoc closer_end outer_end) around more h = omega (arith, h.0, h.1, more outer_end h.4)
 within_by text end _ around more h = more end h
@@ -23,7 +23,7 @@ pub stack_within : (text : List ℕ) (stack : List Opened) (end : ℕ) → IsSta
 stack_within text [] end h = omega (arith, h)
 stack_within text (o ∷ stack) end h = within_by text end o.by (IsStack text stack) (λ e. stack_within text stack e) h.3
 
--- and before the text only inside a heredoc
+-- and before the end of the text only inside a heredoc
 inside_by : (text : List ℕ) (end : ℕ) (opener : kept.Opener) (around : ℕ → Type 0) (below : Bool) → ((e : ℕ) → around e → e ≤ length text) → ((e : ℕ) → around e → below ≡ nat_lt e (length text)) → AreEndsBy text end opener around → (same_opener Heredoc (opener_of opener) || below) ≡ nat_lt end (length text)
 inside_by text end (by.Heredoc closer_end outer_end) around below more is h = let lt : end < length text = omega (arith, h.0, h.1, more outer_end h.4) in grind (arith, nat_tests)
 inside_by text end by.Quote around below more is h = is end h
@@ -55,7 +55,7 @@ closes_by by.Paren opens around e = e
 pub closes_is : (text : List ℕ) (stack : List Opened) (end : ℕ) (opener : kept.Opener) → IsStack text stack end → closes_on opener (top_closes stack) ≡ closes_sequence (opener_of opener ∷ openers_of stack)
 closes_is text stack end opener h = closes_by opener (openers_of stack) (top_closes stack) (top_is text stack end h)
 
--- ENTRIES THAT ARE NO HEREDOCS ARE DROPPED
+-- ENTRIES OTHER THAN HEREDOCS ARE DROPPED
 pub record Drops (old new : List Opened) : Type 0 where
   pub count : ℕ
   pub within : count ≤ length old
@@ -124,12 +124,12 @@ drops_if : (other : Opener) (stack : List Opened) → same_opener Heredoc other 
 drops_if other [] p = drops_none []
 drops_if other (o ∷ stack) p = pops_if o stack other (same_opener (opener_of o.by) other) p refl
 
--- the top of a stack, where it is known
+-- the top of a stack, if it is known
 drops_top : (stack : List Opened) → tops_with (same_opener Heredoc) (openers_of stack) ≡ false → Drops stack (drop 1 stack)
 drops_top [] h = drops_none []
 drops_top (o ∷ stack) h = drops_one o stack stack h (drops_none stack)
 
--- the same is done to what is open
+-- the same operation on the open constructs
 groups_are_if : (o : Opened) (stack : List Opened) (v : Bool) → openers_of (popped_groups stack) ≡ below_groups (openers_of stack) → openers_of (if v then popped_groups stack else o ∷ stack) ≡ (if v then below_groups (openers_of stack) else opener_of o.by ∷ openers_of stack)
 groups_are_if o stack true e = e
 groups_are_if o stack false e = refl
@@ -174,7 +174,7 @@ is_brace_same Sequence = refl
 is_brace_same Brace = refl
 is_brace_same Bracket = refl
 
--- what is dropped for a kind, opener by opener, as the code does it
+-- the constructs that a kind drops, opener by opener, as in the code
 abbrev pub dropped : Kind → List Opened → List Opened
 dropped ParenClose stack = popped_if Paren stack
 dropped BracketClose stack = popped_if Bracket stack
@@ -184,7 +184,7 @@ dropped QuoteClose stack = drop 1 stack
 dropped HeredocClose stack = drop 1 stack
 dropped _ stack = stack
 
--- of a kind that opens nothing
+-- for a kind that opens nothing
 pub dropped_is : (kind : Kind) (stack : List Opened) → opened_by kind ≡ None → kind ≢ HeredocOpen → openers_of (dropped kind stack) ≡ open_after kind (openers_of stack)
 dropped_is ParenClose stack none no_open = popped_is (same_opener Paren) Paren is_paren_same stack
 dropped_is BracketClose stack none no_open = popped_is (same_opener Bracket) Bracket is_bracket_same stack
@@ -201,7 +201,7 @@ dropped_is BracketOpen stack none no_open = absurd (cc)
 dropped_is BraceOpen stack none no_open = absurd (cc)
 dropped_is _ stack none no_open = refl
 
--- so many are dropped from the top
+-- this many are dropped from the top
 record IsBack (old new : List Opened) : Type 0 where
   count : ℕ
   within : count ≤ length old
@@ -240,18 +240,18 @@ back_top : (stack : List Opened) → IsBack stack (drop 1 stack)
 back_top [] = back_none []
 back_top (o ∷ stack) = back_one o stack stack (back_none stack)
 
--- how many are left tells which
+-- the number of the remaining ones determines them
 by_count : (old new : List Opened) (left : ℕ) → IsBack old new → length new ≡ left → new ≡ drop (length old - left) old
 by_count old new left b e =
     let n : length old - left ≡ b.count = omega (arith, b.within, e, ap length b.is, length-drop b.count old) in
     b.is ∙ ap (λ k. drop k old) (sym n)
 
 module _ (stack : List Opened) where
-  -- by what is open after it
+  -- by the open constructs after it
   leaves_open : (new : List Opened) (opens : List Opener) → IsBack stack new → openers_of new ≡ opens → new ≡ drop (length stack - length opens) stack
   leaves_open new opens b e = by_count stack new (length opens) b (sym (length-map new (λ (o : Opened). opener_of o.by)) ∙ ap length e)
 
-  -- what opens drops nothing
+  -- an opener drops nothing
   opens_more : (opener : Opener) → stack ≡ drop (length stack - length (opener ∷ openers_of stack)) stack
   opens_more opener =
       let n : length stack - length (opener ∷ openers_of stack) ≡ 0 = omega (arith, length-map stack (λ (o : Opened). opener_of o.by)) in
@@ -277,7 +277,7 @@ module _ (stack : List Opened) where
   dropped_so BraceOpen = opens_more Brace
   dropped_so _ = leaves_open stack (openers_of stack) (back_none stack) refl
 
--- what neither opens nor closes leaves all open
+-- a token that neither opens nor closes leaves everything open
 pub stays_so : (kind : Kind) (stack : List Opened) → opens_or_closes kind ≡ false → stack ≡ closed kind stack
 stays_so kind stack h = by kind h ∙ dropped_so stack kind
   where
@@ -332,7 +332,7 @@ quote_plain (Brace ∷ opens) h = refl
 quote_plain (Bracket ∷ opens) h = refl
 quote_plain (Paren ∷ opens) h = refl
 
--- what must hold where a token of this kind closes
+-- the conditions for a token of this kind to close
 pub record Closable (kind : Kind) (opens : List Opener) : Type 0 where
   pub sequence : kind ≡ SeqClose → closes_sequence opens ≡ true
   pub quote : kind ≡ QuoteClose → context opens ≡ Template true
@@ -349,7 +349,7 @@ dropped_drops _ stack no_close h = drops_none stack
 pub closed_drops : (kind : Kind) (stack : List Opened) → kind ≢ HeredocClose → Closable kind (openers_of stack) → Drops stack (closed kind stack)
 closed_drops kind stack no_close h = subst (λ (z : List Opened). Drops stack z) (dropped_so stack kind) (dropped_drops kind stack no_close h)
 
--- offsets go with what is open
+-- offsets match the open constructs
 offsets_by : (at a b k : ℕ) (offsets : List ℕ) → b + k ≡ a → drop k offsets ≡ (if nat_lt a b then at ∷ offsets else drop (a - b) offsets)
 offsets_by at a b k offsets e =
     let no : nat_lt a b ≡ false = not_less a b (omega (arith, e)) in
@@ -370,7 +370,7 @@ push_offsets at opener opens offsets = ap (λ v. if v then at ∷ offsets else d
     less : (n : ℕ) → true ≡ nat_lt n (suc n)
     less n = grind (arith, nat_tests)
 
--- WHAT OPENS
+-- OPENERS
 pub opens_so : (kind : Kind) (opener : kept.Opener) (opens : List Opener) → opened_by kind ≡ Some opener → (opener_of opener ∷ opens ≡ open_after kind opens) × (same_opener Heredoc (opener_of opener) ≡ false)
 opens_so QuoteOpen opener opens h = let e : by.Quote ≡ opener = cc in (ap (λ o. opener_of o ∷ opens) (sym e), ap (λ o. same_opener Heredoc (opener_of o)) (sym e))
 opens_so InterpOpen opener opens h = let e : by.Sequence ≡ opener = cc in (ap (λ o. opener_of o ∷ opens) (sym e), ap (λ o. same_opener Heredoc (opener_of o)) (sym e))
@@ -388,7 +388,7 @@ pub hidden_on : (text : List ℕ) (end : ℕ) (opener : kept.Opener) (above : �
 hidden_on text end (by.Heredoc c o) above h = absurd (cc)
 hidden_on text end _ above h = refl
 
--- a heredoc is owed only at once, since expressions are opened only in sequences
+-- if a heredoc must be closed first, it is on top, since expressions are opened only in sequences
 owed_on : (opener : Opener) (opens : List Opener) (v : Bool) → owes opener ≡ v → IsTrue (fits_in opener (context opens)) → (owed_opener opens ≡ Some Heredoc → context opens ≡ Template false) → (if v then Some opener else owed_opener opens) ≡ Some Heredoc → context_in opener ≡ Template false
 owed_on Heredoc opens true e fits more h = refl
 owed_on Quote opens true e fits more h = absurd (cc)

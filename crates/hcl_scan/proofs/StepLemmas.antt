@@ -1,4 +1,4 @@
--- What a turn of the scanner does, as a step of the reading.
+-- A turn of the scanner, as a step of the reading.
 use Rattle.std.proofs.Common.{◌≡◌, ◌≢◌, ℕ, ◌+◌, ◌<◌, ◌≤◌, not, Bool, true, false, List, [], ◌∷◌, length, take, slice_range, if◌then◌else◌, Option, Some, None, inl, refl, sym, ap, subst, ◌∙◌, arith, IsUtf8}
 use Rattle.std.specs.Prelude.{IfSome}
 use Rattle.std.specs.List.{prefix_len}
@@ -32,7 +32,7 @@ use Rattle.hcl_scan.proofs.SliceLemmas.{front_of, back_of, slice_len, part_bound
 use Rattle.hcl_scan.proofs.StackLemmas.{closed_is, closed_drops, drops_offsets, push_offsets, opens_so, ends_of, hidden_on, closes_is, some_around, owed_heredoc}
 use Rattle.hcl_scan.proofs.KindPlaceLemmas.{no_close, closable, fits}
 
--- what is ahead where a token begins
+-- the text ahead at the start of a token
 pub ahead_is : (s : Scanner) (start : ℕ) → IsStart s start → slice_range s.text.now start s.end ≡ ahead (state_of s)
 ahead_is s start is = ap (λ n. slice_range s.text.now n s.end) is.gap ∙ back_of s.text.now s.at s.end (gap_len (state_of s)) (omega (arith, is.gap, is.within))
 
@@ -109,7 +109,7 @@ sound_new s small utf8 at end stack = record {
   depth = omega (arith, ap length stack);
 }
 
--- WHERE A TOKEN BEGINS
+-- AT THE START OF A TOKEN
 pub blank_ascii : (b : ℕ) → is_blank b ≡ true → b < 128
 blank_ascii b h = grind (arith, nat_tests)
 
@@ -176,7 +176,7 @@ pub expression_offset : (s : State) (v : Bool) → s.at + gap_len s ≡ fault_of
 expression_offset s true = refl
 expression_offset s false = refl
 
--- where a template is on top, its place is the one that is owed
+-- if a template is on top, its opener is the one that must be closed
 owed_if : (opener : Opener) (at : ℕ) (opens : List Opener) (offsets : List ℕ) (quoted : Bool) → context_in opener ≡ Template quoted → at ≡ owed_offset (opener ∷ opens) (at ∷ offsets)
 owed_if Quote at opens offsets quoted h = refl
 owed_if Heredoc at opens offsets quoted h = refl
@@ -195,7 +195,7 @@ pub record TemplateTop (text : List ℕ) (stack : List Opened) (top : Opened) : 
   pub at : top.at ≡ owed_offset (openers_of stack) (offsets_in stack)
   pub boundary : IsCharBoundary text top.at
 
--- WHERE ALL WAS READ
+-- AFTER THE END
 owed_none_by : (o : Opened) (stack : List Opened) (v : Bool) → (innermost_owed stack ≡ None → owed_opener (openers_of stack) ≡ None) → (if v then Some o else innermost_owed stack) ≡ None → (if v then Some (opener_of o.by) else owed_opener (openers_of stack)) ≡ None
 owed_none_by o stack true more h = absurd (cc)
 owed_none_by o stack false more h = more h
@@ -242,7 +242,7 @@ pub template_found : (found : Option Found) (opens : List Opener) (dot quoted : 
 template_found None opens dot quoted seen part here same h = tt
 template_found (Some f) opens dot quoted seen part here same h = subst (λ l. Finds opens dot l f.kind f.len) same (h opens dot here)
 
--- what is owed is a template's sequence where it is no quote
+-- the construct that must be closed is a template's sequence, if it isn't a quote
 owed_template_by : (opener : kept.Opener) → owes (opener_of opener) ≡ true → (opener_of opener ≡ Heredoc → ⊥) → (opener ≡ by.Quote → ⊥) → end_fault (Some (opener_of opener)) ≡ Some UnterminatedTemplate
 owed_template_by by.Quote o no_heredoc no_quote = absurd (no_quote refl)
 owed_template_by (by.Heredoc c u) o no_heredoc no_quote = absurd (no_heredoc refl)

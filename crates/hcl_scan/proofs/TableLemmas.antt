@@ -1,4 +1,4 @@
--- A table by byte says of each byte what it must, where a walk along it says so.
+-- A table by byte is right for each byte if a walk along it says so.
 use Rattle.std.proofs.Common.{◌≡◌, ℕ, zero, suc, ◌+◌, ◌<◌, ◌&&◌, not, Bool, true, false, List, [], ◌∷◌, length, get_or, refl, sym, ap, subst, ◌∙◌, arith}
 use Rattle.hcl_tokens.proofs.BooleanLemmas.{and_true}
 
@@ -12,7 +12,7 @@ equal true false h = sym h
 equal false true h = h
 equal false false h = refl
 
--- what the table has for a byte says the same as the test, from the byte n on
+-- the table's entry for a byte agrees with the test, from the byte n on
 abbrev pub agrees : (ℕ → Bool) → (ℕ → Bool) → List ℕ → ℕ → Bool
 agrees says test [] n = true
 agrees says test (t ∷ ts) n = same_bool (says t) (test n) && agrees says test ts (suc n)

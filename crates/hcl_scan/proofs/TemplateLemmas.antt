@@ -1,4 +1,4 @@
--- The tokens of templates: which is found, and where the text may be cut after it.
+-- The tokens of templates: which is found, and whether the text may be cut after it.
 use Rattle.std.proofs.Common.{◌≡◌, ℕ, zero, suc, ◌<◌, ◌≤◌, ◌&&◌, ◌||◌, ◌==◌, Bool, true, false, List, [], ◌∷◌, ◌++◌, length, take, drop, get_or, if◌then◌else◌, Option, Some, None, ◌⊎◌, inl, inr, ⊎_elim, refl, sym, ap, subst, ◌∙◌, arith, length-take-le, codes, IsUtf8}
 use Rattle.std.specs.Str.{IsCharBoundary}
 use Rattle.std.proofs.lemmas.Str.{IsCharBoundary-after_ascii, IsCharBoundary-before_ascii}
@@ -39,11 +39,11 @@ in_template quoted opens dot kind text rest here h = ways quoted kind text rest 
 pub of_template : (quoted : Bool) (opens : List Opener) (dot : Bool) (kind : Kind) (text rest : List ℕ) → context opens ≡ Template quoted → IsTemplateText quoted kind text rest → IsSpelling opens dot kind text rest
 of_template quoted opens dot kind text rest here h = subst (λ c. IsTextIn c opens dot kind text rest) (sym here) h
 
--- where no element comes no literal text does
+-- where there is no element there is no literal text
 pub no_lit : (quoted : Bool) (seen text rest : List ℕ) → element_len quoted seen ≡ None → text ++ rest ≡ seen → IsLiteral quoted text rest → ⊥
 no_lit quoted seen text rest none whole h = no_longer_lit quoted 0 [] seen text rest refl none whole h.0 h.1
 
--- none comes where another token of a template does
+-- there is none before another token of a template
 at_sequence : (quoted : Bool) (s : ℕ) (x : List ℕ) → (s ≡ 36) ⊎ (s ≡ 37) → element_len quoted (s ∷ 123 ∷ x) ≡ None
 at_sequence quoted s x (inl e) = ap (λ z. element_len quoted (z ∷ 123 ∷ x)) e
 at_sequence quoted s x (inr e) = ap (λ z. element_len quoted (z ∷ 123 ∷ x)) e
@@ -72,7 +72,7 @@ opener_longer c s x n n_is longer left whole lt (inr e) =
     let three : n ≡ 3 = n_is ∙ ap (λ l. if starts l (codes "~") then 3 else 2) x_is in
     omega (arith, three, ap length e, lt)
 
--- LITERAL TEXT is found where elements come and then none
+-- LITERAL TEXT is found if elements come and then none
 module _ (quoted : Bool) (opens : List Opener) (dot : Bool) (here : context opens ≡ Template quoted) where
   pub lit_found : (seen : List ℕ) (n : ℕ) → n ≤ length seen → 0 < n → are_elements quoted 0 (take n seen) (drop n seen) ≡ true → element_len quoted (drop n seen) ≡ None → Finds opens dot seen Lit n
   lit_found seen n within some elements ends =
@@ -173,7 +173,7 @@ module _ (quoted : Bool) (opens : List Opener) (dot : Bool) (here : context open
       by (control k h) = let at = sequence_at 37 text rest seen h whole in clash (codes "%{") at.0 at.1 no_control
       by (quote k q h) = clash (codes "\"") rest (sym whole ∙ ap (λ t. t ++ rest) h) (no_quote q)
 
--- where no element comes, the text ends or an ASCII byte comes
+-- where there is no element, the text ends or has an ASCII byte
 stops : (d s o q : Bool) (e : Option ℕ) → (if d then Some 3 else (if s then (if o then None else Some 1) else (if q then e else Some 1))) ≡ None → (s ≡ true) ⊎ (q ≡ true)
 stops true s o q e h = absurd (cc)
 stops false true o q e h = inl refl

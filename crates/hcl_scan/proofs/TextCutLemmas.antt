@@ -74,7 +74,7 @@ line_cut seen n e = ⊎_elim
     is_lf : (b : ℕ) → not (b == 10) ≡ false → b < 128
     is_lf b h = grind (arith, nat_tests)
 
--- the forms that end so
+-- the forms that end in an ASCII byte
 all_low : (text : List ℕ) → 0 < length text → list_all is_low text ≡ true → EndsLow text
 all_low text some low = record { before = []; end = text; whole = refl; some = some; low = low }
 

@@ -1,4 +1,4 @@
--- What it means that a text starts with another.
+-- The meaning of a text that starts with another.
 use Rattle.std.proofs.Common.{◌≡◌, ◌≢◌, ℕ, ◌&&◌, ◌==◌, Bool, true, false, List, [], ◌∷◌, ◌++◌, refl, ap₂, nat_eq, take, drop, length, arith}
 use Rattle.std.specs.List.{starts_with}
 use Rattle.std.proofs.lemmas.Bool.Decides.{nat_tests}
@@ -46,7 +46,7 @@ starts_whole [] (c ∷ front) long h = absurd (cc)
 starts_whole (b ∷ text) (c ∷ front) long h =
     let parts = both (b == c) (starts text front) h in ap₂ (λ x xs. x ∷ xs) (same b c parts.0) (starts_whole text front (omega (arith, long)) parts.1)
 
--- no more of the text is asked than the front is long
+-- the test reads no more of the text than the front is long
 pub starts_taken : (text front : List ℕ) → starts (take (length front) text) front ≡ starts text front
 starts_taken text [] = refl
 starts_taken [] (c ∷ front) = refl

@@ -1,5 +1,5 @@
--- The line of a token. What is still to come of a text is a gap, the token and the rest; a gap ends no line, so the
--- lines that end before a token are those that end in the tokens before it.
+-- The line of a token. The rest of a text is a gap, the token and a rest; a gap ends no line, so the lines that end
+-- before a token are those that end in the tokens before it.
 use Rattle.std.proofs.Common.{◌≡◌, ℕ, ◌+◌, ◌==◌, Bool, true, false, cond, List, [], ◌∷◌, ◌++◌, length, take, inl, inr, refl, sym, ap, ◌∙◌, arith, length-append, append_assoc, append-nil}
 use Rattle.std.specs.Prelude.{count_by}
 use Rattle.std.specs.List.{flat_map, list_all, prefix_len}
@@ -45,12 +45,11 @@ gap_taken opens seen = by (has_gaps_in (context opens) (in_heredoc opens))
     by true = (blanks_end_none (take (prefix_len is_blank seen) seen) (run_passes is_blank seen), length-prefix_len is_blank seen)
     by false = (ap ends (take_none seen), ap length (take_none seen))
 
--- ---- one token
--- what is still to come of a text
+-- ---- the rest of a text, token by token
 abbrev coming : State → List ℕ
 coming s = s.seen ++ beyond s.hidden []
 
--- a gap that ends no line, the token, and what comes then
+-- a gap that ends no line, the token, and the rest
 record Step (s : State) (t : Lexeme) (next : State) : Type 0 where
   gap : List ℕ
   none_end : ends gap ≡ 0

@@ -1,4 +1,4 @@
--- What tells kinds apart leaves out no kind.
+-- The test of kinds leaves out no kind.
 use Rattle.std.proofs.Common.{◌≡◌, refl, true}
 use Rattle.hcl_tokens.specs.Kinds.{is}
 use Rattle.hcl_tokens.specs.declared.token.Kind.{Kind}

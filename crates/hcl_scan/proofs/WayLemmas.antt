@@ -1,4 +1,4 @@
--- The ways to be a token of an expression.
+-- The forms of a token of an expression.
 use Rattle.std.proofs.Common.{◌≡◌, ℕ, Bool, true, false, List, [], ◌∷◌, ◌⊎◌, inl, inr, refl, sym, ◌∙◌}
 use Rattle.std.specs.List.{list_all}
 use Rattle.hcl_tokens.specs.Lexemes.{Opener, in_heredoc, closes_sequence}
@@ -38,7 +38,7 @@ ways opens dot BraceClose text rest h = brace_close refl h.0 h.1
 ways opens dot Slash text rest h = slash refl h.0 h.1
 ways opens dot _ text rest h = mark h
 
--- what each mark passes, a mark passes
+-- a test that holds for each mark holds for a mark
 pub mark_passes : (test : List ℕ → Kind → Bool) (ms : List (List ℕ × Kind)) (text : List ℕ) (kind : Kind) → list_all (λ m. test m.0 m.1) ms ≡ true → IsPunctuation ms text kind → test text kind ≡ true
 mark_passes test [] text kind h is = absurd is
 mark_passes test (m ∷ ms) text kind h (inl is) =

@@ -145,7 +145,7 @@ is_e b = (b == 101) || (b == 69)
 abbrev is_pm : ℕ → Bool
 is_pm b = (b == 43) || (b == 45)
 
--- whether the bytes end a number that stands here
+-- whether the bytes end a number at this place
 abbrev pub ends_number : Stage → List ℕ → Bool
 ends_number Whole [] = true
 ends_number Fraction [] = true
@@ -158,7 +158,7 @@ ends_number Mark (b ∷ bs) = if is_ascii_digit b then ends_number Power bs else
 ends_number Sign (b ∷ bs) = is_ascii_digit b && ends_number Power bs
 ends_number Power (b ∷ bs) = is_ascii_digit b && ends_number Power bs
 
--- after a number neither a digit nor `e` nor `E` nor a point with a digit
+-- after a number there is neither a digit nor `e` nor `E` nor a point with a digit
 abbrev pub stops_number : List ℕ → Bool
 stops_number [] = true
 stops_number (b ∷ bs) = not (is_ascii_digit b) && not (is_e b) && (not (b == 46) || not (is_ascii_digit (get_or bs 0 0)))
@@ -205,7 +205,7 @@ and_both : (v a a' : Bool) → (a ≡ true → a' ≡ true → ⊥) → (v && a)
 and_both true a a' f h k = f h k
 and_both false a a' f h k = cc
 
--- a number can't go on after its end
+-- a number can't continue after its end
 pub no_longer_number : (st : Stage) (text bs left : List ℕ) → stops_number (bs ++ left) ≡ true → 0 < length bs → ends_number st text ≡ true → ends_number st (text ++ bs) ≡ true → ⊥
 no_longer_number st [] bs left h some x y = stuck_number st x bs left h some y
 no_longer_number Whole (b ∷ text) bs left h some x y = cond_both (is_ascii_digit b) _ _ _ _ (no_longer_number Whole text bs left h some)
@@ -242,7 +242,7 @@ sign_goes b bs h = ap (λ v. v && ends_number Power bs) h
 power_goes : (b : ℕ) (bs : List ℕ) → goes Power b bs Power
 power_goes b bs h = ap (λ v. v && ends_number Power bs) h
 
--- one digit or more, then as the second stage goes on
+-- one digit or more, then as the second stage continues
 some_digits : (st st' : Stage) → ((b : ℕ) (bs : List ℕ) → goes st b bs st') → ((b : ℕ) (bs : List ℕ) → goes st' b bs st') → (digits more : List ℕ) → 0 < length digits → list_all is_ascii_digit digits ≡ true → ends_number st (digits ++ more) ≡ ends_number st' more
 some_digits st st' first one [] more some h = absurd (omega arith)
 some_digits st st' first one (b ∷ digits) more some h = let p = and_true (is_ascii_digit b) (list_all is_ascii_digit digits) h in first b (digits ++ more) p.0 ∙ over_digits st' one digits more p.1

@@ -1,4 +1,4 @@
--- Identifiers and numbers: no longer text begins where the next byte goes on neither.
+-- Identifiers and numbers: no longer text begins there unless the next byte extends one.
 use Rattle.std.proofs.Common.{◌≡◌, ℕ, ◌<◌, not, Bool, true, false, List, [], ◌∷◌, ◌++◌, length, get_or, sym, ap, subst, ◌∙◌, arith, append_assoc, length-append}
 use Rattle.std.specs.List.{list_all}
 use Rattle.std.specs.Char.{is_ascii_digit}
@@ -43,7 +43,7 @@ ident_alone opens dot text rest is stop kind longer left e lt h =
     kind_is : kind ≡ Ident
     kind_is = letter_kind kind (lead_kind opens dot kind longer left (text ++ rest) e (omega (arith, ap length w.whole, lt)) h ∙ letter)
 
--- A NUMBER where no Dot stands before it
+-- A NUMBER without a Dot before it
 pub number_alone : (opens : List Opener) (text rest : List ℕ) → IsNumber text → stops_number rest ≡ true → Alone opens false text rest
 number_alone opens text rest is stop kind longer left e lt h =
     no_longer_number Whole text more.bs left (ap stops_number more.after ∙ stop) more.some (number_ends text is) (ap (λ x. ends_number Whole x) (sym more.whole) ∙ number_ends longer (subst (λ (k : Kind). IsExpressionText opens false k longer left) kind_is h))
@@ -64,7 +64,7 @@ digit_after : (bs left : List ℕ) → 0 < length bs → list_all is_ascii_digit
 digit_after [] left some h k = omega arith
 digit_after (b ∷ bs) left some h k = let w = (and_true (is_ascii_digit b) (list_all is_ascii_digit bs) h).0 in let clash : not true ≡ true = ap not (sym w) ∙ k in cc
 
--- and where one stands before it
+-- and with one before it
 pub digits_alone : (opens : List Opener) (text rest : List ℕ) → IsDigits text → stops_digits rest ≡ true → Alone opens true text rest
 digits_alone opens text rest is stop kind longer left e lt h =
     digit_after more.bs left more.some (all_after is_ascii_digit text more.bs (ap (list_all is_ascii_digit) (sym more.whole) ∙ (subst (λ (k : Kind). IsExpressionText opens true k longer left) kind_is h).1)) (ap stops_digits more.after ∙ stop)

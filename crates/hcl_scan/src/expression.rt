@@ -1,4 +1,4 @@
-//! The longest token at the front of what is seen in an expression.
+//! The longest token at the front of the visible text in an expression.
 
 ghost use Rattle.std.specs.Prelude.{◌≡◌, ℕ, Bool, Some, None, IfSome, IfNone};
 ghost use Rattle.std.specs.Str.{IsCharBoundary};
@@ -18,7 +18,7 @@ use crate::number::{digits_len, number_len};
 use crate::text::{blanks_len, line_len, newline_len};
 use hcl_tokens::Kind;
 
-/// What the next token of an expression depends on, besides the text.
+/// The state on which the next token of an expression depends, besides the text.
 #[derive(Clone, Copy)]
 pub struct Surroundings {
     /// The token before is a Dot.
@@ -39,7 +39,7 @@ fn found_as(kind: Kind, len: Option<usize>) -> Option<Found>
     }
 }
 
-/// The newline at the front: nearly always it is LF alone.
+/// The newline at the front: nearly always LF alone.
 fn found_newline(seen: &[u8]) -> Option<Found>
     ensures found { IfSome result (λ f. (f.kind ≡ Newline)
         × IsLongestFront IsNewline seen.now f.len) }
@@ -66,7 +66,7 @@ fn blank_len(seen: &[u8], inside_heredoc: bool) -> Option<usize>
     }
 }
 
-/// A number, of which after a Dot only the digits belong to the token.
+/// A number; after a Dot only its digits belong to the token.
 fn numeral_len(seen: &[u8], after_dot: bool) -> Option<usize>
     ensures found { IfSome result (IsLongestFront (NumberText after_dot) seen.now) }
     ensures none { IfNone result (HasNoFront (NumberText after_dot) seen.now) }
@@ -88,7 +88,7 @@ fn closer_kind(closes_sequence: bool) -> Kind
     }
 }
 
-/// What closes a sequence or a brace.
+/// The closer of a sequence or of a brace.
 fn closer_len(seen: &[u8], closes_sequence: bool) -> Option<usize>
     ensures found { IfSome result (IsLongestFront (CloserText closes_sequence) seen.now) }
     ensures none { IfNone result (HasNoFront (CloserText closes_sequence) seen.now) }
@@ -122,7 +122,7 @@ fn opener_or_less(seen: &str) -> Found
     }
 }
 
-/// The longest token at the front of what is seen, where its first bytes are no mark.
+/// The longest token at the front of the visible text, if its first bytes are no mark.
 fn led(seen: &str, lead: Lead, around: Surroundings) -> Option<Found>
     requires { IsFront seen.now (Led lead) }
     ensures found { IfSome result (λ f. FindsAt around.after_dot around.inside_heredoc
@@ -155,7 +155,7 @@ fn led(seen: &str, lead: Lead, around: Surroundings) -> Option<Found>
     }
 }
 
-/// The longest token at the front of what is seen, where an expression is read. `seen` is what follows the gap.
+/// The longest token at the front of the visible text in an expression. `seen` is the text after the gap.
 pub(crate) fn next_in_expression(seen: &str, around: Surroundings) -> Option<Found>
     ensures found { IfSome result (λ f. FindsAt around.after_dot around.inside_heredoc
         around.closes_sequence seen.now f.kind f.len) }

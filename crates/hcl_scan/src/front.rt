@@ -1,5 +1,5 @@
-//! What the first bytes of a token of an expression say. One table has them all, so that the first byte of a token is looked up
-//! once, whether it is a mark or leads to something longer:
+//! The first bytes of a token of an expression. One table covers all cases, so that the first byte of a token is looked
+//! up once, whether it is a mark or leads to something longer:
 //!
 //! ```text
 //! a = b >= 1 # c
@@ -16,7 +16,7 @@ ghost use Rattle.hcl_scan.specs.Inner.Leads.{slash_lead};
 use crate::text::byte_at;
 use hcl_tokens::Kind;
 
-/// What tokens the first two bytes may begin.
+/// The tokens that the first two bytes may begin.
 #[derive(Clone, Copy)]
 pub enum Lead {
     LineEnd,
@@ -43,14 +43,14 @@ fn slash_lead(second: u8) -> Lead
     }
 }
 
-/// What the first bytes are: a mark and its length, or what they lead to.
+/// The meaning of the first bytes: a mark and its length, or the forms that they lead to.
 #[derive(Clone, Copy)]
 pub enum Front {
     Mark(Kind, usize),
     Led(Lead),
 }
 
-/// What the first bytes are. The second byte is looked at only after a first one that asks for it.
+/// Classifies the first bytes. The second byte is read only if the first one needs it.
 pub fn front_of(seen: &[u8]) -> Front
     ensures { IsFront seen.now result }
 {

@@ -1,7 +1,7 @@
 //! The line that ends a heredoc.
 //!
-//! Its marker is sought at many places at a time (`lanes`). Where it may stand, a word at either end is compared before all
-//! of it is:
+//! `lanes` searches for its marker at many places at a time. At a possible place, a word at either end is compared
+//! before the whole marker:
 //!
 //! ```text
 //! marker         Mabcxyz    of 4 to 8 bytes the first four and the last four tell all
@@ -22,7 +22,7 @@ use crate::lanes::{PLACES, likely_places, lowest, without};
 use crate::text::{count_blanks, is_blank, skip_blanks};
 use memchr::memchr;
 
-/// How many bytes stand before the first LF or CR, or before the end.
+/// How many bytes are before the first LF or CR, or before the end.
 fn word_len(text: &[u8]) -> usize
     ensures count { result ≡ position_or_len is_newline_byte text.now }
     ensures within { result ≤ length text.now }
@@ -32,7 +32,7 @@ fn word_len(text: &[u8]) -> usize
         .count()
 }
 
-/// What follows the `<<` or `<<-` of a heredoc's opener.
+/// The text after the `<<` or `<<-` of a heredoc's opener.
 fn named(opener: &[u8]) -> &[u8]
     requires { 2 ≤ length opener.now }
     ensures { result.now ≡ (if starts_with nat_eq opener.now (codes "<<-") then drop 3 opener.now
@@ -62,7 +62,7 @@ fn at_line_end(text: &[u8]) -> bool
     text.is_empty() || text.starts_with(b"\n") || text.starts_with(b"\r\n")
 }
 
-/// Whether only blanks stand between a place and the end of its line.
+/// Whether there are only blanks between a place and the end of its line.
 fn ends_line(text: &[u8], at: usize) -> bool
     requires { at ≤ length text.now }
     ensures { result ≡ at_line_end (skip_blanks (drop at text.now)) }
@@ -71,7 +71,7 @@ fn ends_line(text: &[u8], at: usize) -> bool
     at_line_end(skip_blanks(after))
 }
 
-/// Where the line begins of which only blanks stand before a place, if it is such a line.
+/// The beginning of the line of a place, if only blanks are before the place.
 fn blank_line_start(text: &[u8], place: usize) -> Option<usize>
     requires { place ≤ length text.now }
     ensures found { IfSome result (IsBlankFront text.now place) }
@@ -88,8 +88,8 @@ fn blank_line_start(text: &[u8], place: usize) -> Option<usize>
     }
 }
 
-/// Where the line begins that is the marker that stands from `place` to `end`, if it is one.
-/// What follows the marker is asked first: one byte of it tells as a rule.
+/// The beginning of the line that is the marker from `place` to `end`, if it is a marker line. The text after the
+/// marker is tested first: one byte of it usually decides.
 fn line_of_marker(text: &[u8], place: usize, end: usize) -> Option<usize>
     requires order { place ≤ end }
     requires within { end ≤ length text.now }
@@ -104,7 +104,7 @@ fn line_of_marker(text: &[u8], place: usize, end: usize) -> Option<usize>
     }
 }
 
-/// Whether the marker stands at a place.
+/// Whether the marker is at a place.
 #[inline(always)]
 fn stands_at(text: &[u8], marker: &[u8], place: usize) -> bool
     requires { place ≤ length text.now }
@@ -114,7 +114,7 @@ fn stands_at(text: &[u8], marker: &[u8], place: usize) -> bool
     rest.starts_with(marker)
 }
 
-/// The same, where one byte tells as a rule.
+/// Whether the marker is at a place, by a test in which one byte usually decides.
 #[inline(always)]
 fn is_found_at(text: &[u8], marker: &[u8], place: usize) -> bool
     requires some { 0 < length marker.now }
@@ -124,7 +124,7 @@ fn is_found_at(text: &[u8], marker: &[u8], place: usize) -> bool
     text[place] == marker[0] && stands_at(text, marker, place)
 }
 
-/// Whether two texts have so many bytes at either end, and differ in some of them.
+/// Whether two texts have this many bytes at either end, and differ in some of them.
 #[inline(always)]
 fn ends_differ<const N: usize>(text: &[u8], other: &[u8]) -> bool
     requires { N ≤ 16 }
@@ -140,7 +140,7 @@ fn ends_differ<const N: usize>(text: &[u8], other: &[u8]) -> bool
     *front != *other_front || *back != *other_back
 }
 
-/// Whether the ends of two texts tell that these differ. If both have 2 to 32 bytes, they tell all, without a call.
+/// Whether two texts differ, by their ends. If both have 2 to 32 bytes, the ends decide it, without a call.
 #[inline(always)]
 fn are_told_apart(text: &[u8], other: &[u8]) -> bool
     ensures { IsTrue result → text.now ≢ other.now }
@@ -153,7 +153,7 @@ fn are_told_apart(text: &[u8], other: &[u8]) -> bool
     }
 }
 
-/// Whether the ends of the marker tell that it doesn't stand at a place.
+/// Whether the ends of the marker rule it out at a place.
 #[inline(always)]
 fn is_ruled_out(text: &[u8], marker: &[u8], place: usize) -> bool
     requires within { place + length marker.now ≤ length text.now }
@@ -162,8 +162,8 @@ fn is_ruled_out(text: &[u8], marker: &[u8], place: usize) -> bool
     are_told_apart(&text[place..place + marker.len()], marker)
 }
 
-/// The likely places from the first on at which the marker isn't ruled out. A call, since so many loops in one function
-/// take each other's registers; it calls nothing.
+/// The likely places from the first on at which the marker isn't ruled out. This is a call, since so many loops in one
+/// function take each other's registers; it calls nothing.
 #[cold]
 #[inline(never)]
 fn from_first_in_doubt(text: &[u8], marker: &[u8], at: usize, likely: u64) -> u64
@@ -182,7 +182,7 @@ fn from_first_in_doubt(text: &[u8], marker: &[u8], at: usize, likely: u64) -> u6
     left
 }
 
-/// The places at which the marker isn't ruled out, and maybe others. Most blocks have no likely one.
+/// The places at which the marker isn't ruled out, and maybe others. Most blocks have no likely place.
 #[inline(always)]
 fn places_in_doubt(text: &[u8], marker: &[u8], at: usize) -> u64
     requires some { 0 < length marker.now }
@@ -196,7 +196,7 @@ fn places_in_doubt(text: &[u8], marker: &[u8], at: usize) -> u64
     from_first_in_doubt(text, marker, at, likely)
 }
 
-/// The first of the marked places at which the marker stands. Bit k is the place after `at + k`.
+/// The first of the marked places that has the marker. Bit k is the place after `at + k`.
 #[inline(always)]
 fn first_standing(text: &[u8], marker: &[u8], at: usize, marked: u64) -> Option<usize>
     requires room { at + PLACES < length text.now }
@@ -217,7 +217,7 @@ fn first_standing(text: &[u8], marker: &[u8], at: usize, marked: u64) -> Option<
     None
 }
 
-/// The first place after this one at which a marker line's marker may stand. Most are passed many at a time.
+/// The first place after this one at which a marker line's marker may be. Most places are skipped many at a time.
 #[inline(always)]
 fn past_unlikely(text: &[u8], marker: &[u8], place: usize) -> usize
     requires some { 0 < length marker.now }
@@ -237,8 +237,8 @@ fn past_unlikely(text: &[u8], marker: &[u8], place: usize) -> usize
     here + 1
 }
 
-/// Where the marker stands that comes first after a line's beginning, of those that may be a marker line's. A call, since
-/// the loop needs more registers than the scan leaves.
+/// The first marker after a line's beginning that may be a marker line's. This is a call, since the loop needs more
+/// registers than the scan leaves.
 #[cold]
 #[inline(never)]
 fn next_place(text: &[u8], marker: &[u8], at: usize) -> Option<usize>
@@ -257,7 +257,7 @@ fn next_place(text: &[u8], marker: &[u8], at: usize) -> Option<usize>
     None
 }
 
-/// Where the next line begins after a place.
+/// The beginning of the next line after a place.
 fn next_line(text: &[u8], place: usize) -> Option<usize>
     requires { place ≤ length text.now }
     ensures found { IfSome result (IsNextLine text.now place) }
@@ -269,9 +269,8 @@ fn next_line(text: &[u8], place: usize) -> Option<usize>
     Some(place + line + 1)
 }
 
-/// Where the first line begins that is the marker.
-/// A line is asked once, where the marker comes first in it with a blank or nothing at either end: before a marker line's
-/// marker only blanks stand, and none begins a marker.
+/// The beginning of the first line that is the marker. A line is tested once, at the first marker in it with a blank or
+/// nothing at either end: a marker line's marker has only blanks before it, and no marker begins with one.
 pub fn marker_line(text: &[u8], marker: &[u8]) -> Option<usize>
     requires some { 0 < length marker.now }
     requires begins { is_blank (get_or marker.now 0 0) ≡ false }
@@ -288,7 +287,7 @@ pub fn marker_line(text: &[u8], marker: &[u8]) -> Option<usize>
     None
 }
 
-/// How many bytes of a marker line are its blanks and its marker.
+/// How many bytes the blanks and the marker of a marker line have.
 pub fn closer_len(line: &[u8], marker: &[u8]) -> usize
     requires { IsTrue (starts (skip_blanks line.now) marker.now) }
     ensures value { result ≡ closer_len marker.now line.now }

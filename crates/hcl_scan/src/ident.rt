@@ -25,7 +25,7 @@ fn starts_ident(c: char) -> bool
     unicode_ident::is_xid_start(c) || c == '_'
 }
 
-/// The ASCII characters that may continue an identifier, each at its own place, and points for all other bytes.
+/// The ASCII characters that may be inside an identifier, each at its own place, and points for all other bytes.
 static CONTINUING: [u8; 256] = *b"\
     ................................\
     .............-..0123456789......\
@@ -36,7 +36,7 @@ static CONTINUING: [u8; 256] = *b"\
     ................................\
     ................................";
 
-/// Whether the ASCII byte may continue an identifier.
+/// Whether the ASCII byte may be inside an identifier.
 fn continues_ascii(b: u8) -> bool
     ensures { result ≡ continues_ascii b }
 {
@@ -50,7 +50,7 @@ fn starts_ascii(b: u8) -> bool
     b.is_ascii_alphabetic() || b == b'_'
 }
 
-/// How many bytes the first character has, if it may continue an identifier.
+/// How many bytes the first character has, if it may be inside an identifier.
 fn continuing_char(text: &str) -> Option<usize>
     ensures found { IfSome result (FirstChar continues_ident text.now) }
     ensures none { IfNone result (BeginsWithout continues_ident text.now) }
@@ -83,7 +83,7 @@ fn begins_ident(text: &str) -> bool
     }
 }
 
-/// How many bytes the ASCII characters at the front have that may continue an identifier, one after the other.
+/// How many bytes the ASCII characters at the front have that may be inside an identifier, counted one by one.
 #[inline(always)]
 fn continuing_few(bytes: &[u8]) -> usize
     ensures count { result ≡ prefix_len continues_ascii bytes.now }
@@ -92,7 +92,7 @@ fn continuing_few(bytes: &[u8]) -> usize
     bytes.iter().take_while(|b| continues_ascii(**b)).count()
 }
 
-/// The same, by blocks.
+/// How many bytes the ASCII characters at the front have that may be inside an identifier, counted by blocks.
 #[inline(always)]
 fn continuing_ascii(bytes: &[u8]) -> usize
     ensures { result ≡ prefix_len continues_ascii bytes.now }
@@ -109,8 +109,8 @@ fn continuing_ascii(bytes: &[u8]) -> usize
     len + continuing_few(rest)
 }
 
-/// How many bytes the characters at the front have that may continue an identifier. Nearly always
-/// these are ASCII, and are counted as bytes; only from another one on each is read as a character.
+/// How many bytes the characters at the front have that may be inside an identifier. Nearly always these are ASCII, and
+/// are counted as bytes; from the first other one on each is read as a character.
 fn continuing_len(text: &str) -> usize
     ensures boundary { IsCharBoundary text.now result }
     ensures continuing { AreContinuing (take result text.now) }
@@ -142,7 +142,7 @@ pub(crate) fn ident_len(text: &str) -> Option<usize>
     }
 }
 
-/// The longest identifier at the front, where the first byte may begin one: of ASCII characters alone it is one then.
+/// The longest identifier at the front, if the first byte may begin one: a run of ASCII characters alone is one.
 #[inline(always)]
 pub(crate) fn begun_ident(text: &str) -> Option<Found>
     requires { may_begin_ident (get_or text.now 0 0) ≡ true }
@@ -167,7 +167,7 @@ pub(crate) fn begun_ident(text: &str) -> Option<Found>
     }
 }
 
-/// How many bytes of the opener of a heredoc stand before its marker, 0 where there is none.
+/// How many bytes of the opener of a heredoc are before its marker; 0 if there is no opener.
 fn heredoc_mark_len(seen: &[u8]) -> usize
     ensures { result ≡ heredoc_mark_len seen.now }
 {

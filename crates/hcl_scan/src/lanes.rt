@@ -1,6 +1,6 @@
 //! Many bytes at a time, as the lanes of a vector.
 //!
-//! A marker `AB` may stand after a place where all of this is so (`_` is a blank):
+//! A marker `AB` may be after a place if all of these hold (`_` is a blank):
 //!
 //! ```text
 //! \n A  B  C \n  _  A  B \n  x
@@ -18,10 +18,10 @@ ghost use Rattle.hcl_scan.specs.Inner.Lanes.{first_set, MarksLikely};
 
 use std::simd::prelude::*;
 
-/// How many bytes of a run are looked at in one step.
+/// How many bytes of a run one step reads.
 pub(crate) const LANES: usize = 16;
 
-/// How many places for a marker are looked at in one step.
+/// How many places for a marker one step tests.
 pub(crate) const PLACES: usize = 32;
 
 /// The lane of the lowest bit that is set, or the number of lanes.
@@ -36,7 +36,7 @@ fn first_set(mask: u64) -> usize
     }
 }
 
-/// How many bytes stand before the first LF, of as many as there are lanes.
+/// How many bytes are before the first LF, within the lanes.
 #[inline(always)]
 pub(crate) fn line_run(seen: &[u8]) -> usize
     requires { length seen.now ≡ LANES }
@@ -47,7 +47,7 @@ pub(crate) fn line_run(seen: &[u8]) -> usize
     first_set(v.simd_eq(u8x16::splat(b'\n')).to_bitmask())
 }
 
-/// How many bytes at the front are each an element of literal text by itself, of as many as there are lanes.
+/// How many bytes at the front are each an element of literal text by itself, within the lanes.
 #[inline(always)]
 pub(crate) fn ordinary_run(seen: &[u8]) -> usize
     requires { length seen.now ≡ LANES }
@@ -87,8 +87,8 @@ pub(crate) fn without(mask: u64, bit: usize) -> u64
     mask & !(1 << bit)
 }
 
-/// After which of the next places a marker line's marker may stand. Before it stands a blank or an LF, and after it a
-/// blank, an LF, a CR or nothing: none of these is above a blank.
+/// The places among the next ones after which a marker line's marker may be. Before it is a blank or an LF, and after
+/// it a blank, an LF, a CR or nothing: none of these is above a blank.
 #[inline(always)]
 pub(crate) fn likely_places(text: &[u8], at: usize, marker: &[u8]) -> u64
     requires some { 0 < length marker.now }
@@ -103,6 +103,6 @@ pub(crate) fn likely_places(text: &[u8], at: usize, marker: &[u8]) -> u64
     let front = u8x32::from_slice(&text[at + 1..]).simd_eq(first);
     let back = u8x32::from_slice(&text[at + len..]).simd_eq(last);
     let after = u8x32::from_slice(&text[at + len + 1..]).simd_le(blank);
-    // side by side the two tests of blanks are one of the larger bytes
+    // next to each other, the two tests of blanks are one of the larger bytes
     (before & after & front & back).to_bitmask()
 }

@@ -1,5 +1,4 @@
-//! What is proved of the definitions alone. No program calls these functions: their contracts are
-//! the laws.
+//! Laws of the definitions alone. No program calls these functions: their contracts are the laws.
 
 ghost use Rattle.std.specs.Prelude.{◌≡◌, ◌⊎◌, ◌<◌, ◌≤◌, ◌+◌, ◌==◌, ◌++◌, ℕ, Bool, true, false, IsTrue, IsFalse, IsUtf8, IfSome, IfNone, List, [], ◌∷◌, length, take, drop, count_by};
 ghost use Rattle.std.specs.List.{flat_map};
@@ -56,19 +55,19 @@ pub fn fault_or_list()
         → IsScanFault text kind at → ¬ Scans text ts }
 {}
 
-/// What is open after a list of tokens is a function of the list.
+/// The open constructs after a list of tokens are a function of the list.
 pub fn context_of_list()
     ensures { (s : State) (ts : List Lexeme) (end : State) → Run s ts end
         → end.opens ≡ open_after_all s.opens ts }
 {}
 
-/// After each front of a text's list of tokens at most `max_open` things are open.
+/// After each front of a text's list of tokens at most `max_open` constructs are open.
 pub fn bounded()
     ensures { (text : List ℕ) (front back : List Lexeme) → Scans text (front ++ back)
         → length (open_after_all [] front) ≤ max_open }
 {}
 
-/// What tells kinds apart leaves out no kind.
+/// The test of kinds leaves out no kind.
 pub fn all_kinds_told()
     ensures { (kind : Kind) → is kind kind ≡ true }
 {}
@@ -92,7 +91,7 @@ pub fn neighbours()
         → IsLongest opens after_dot (text ++ other) kind text other }
 {}
 
-/// What follows the marker line of a heredoc doesn't move it, as long as it ends the line.
+/// Text after the marker line of a heredoc doesn't move it, as long as it ends the line.
 pub fn marker_line_kept()
     ensures { (opens : List Opener) (after_dot : Bool) (text rest after : List ℕ) (n : ℕ)
         → IsSpelling opens after_dot HeredocOpen text rest
@@ -101,12 +100,12 @@ pub fn marker_line_kept()
         (take n rest ++ ((hides (marker_of text) (drop n rest)).closer ++ after)) n }
 {}
 
-/// What a scan says of tokens that stand side by side.
+/// The facts of adjacent tokens in a scan.
 pub fn side_by_side()
     ensures { (text : List ℕ) (ts : List Lexeme) → Scans text ts → Besides Newline ts }
 {}
 
-/// The same tokens with other gaps between them, where these fit, are scanned again.
+/// The tokens of a text with other gaps between them are scanned again, if these gaps fit.
 pub fn other_gaps()
     ensures { (text : List ℕ) (ps : List (ℕ × Lexeme)) → Scans text (without_gaps ps)
         → AllFit false Newline ps → Scans (text_with_gaps ps) (placed_tokens 0 ps) }
@@ -126,7 +125,7 @@ pub fn heredoc_kept()
         → 0 < length next.hidden → Next s t next → ReadsToo other twin t next }
 {}
 
-/// The line of a token is 1 and the LFs in the texts before it: what stands between tokens ends no line.
+/// The line of a token is 1 plus the LFs in the texts before it: gaps end no line.
 pub fn line_of_token()
     ensures { (text : List ℕ) (front : List Lexeme) (t : Lexeme) (back : List Lexeme)
         → Scans text (front ++ t ∷ back)

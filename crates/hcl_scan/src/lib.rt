@@ -1,8 +1,8 @@
 //! The tokens of a file in HCL native syntax.
 //!
-//! Data flows one way: bytes from a [`ByteSource`] become a [`Source`], and [`scan`] makes its [`Tokens`]. All that
-//! `hcl_source` has is re-exported, and what callers need of `hcl_tokens`, so that where a text is scanned this crate is
-//! named alone. The module [`laws`] holds what is proved of the definitions alone.
+//! Data flows one way: bytes from a [`ByteSource`] become a [`Source`], and [`scan`] makes its [`Tokens`]. It
+//! re-exports all of `hcl_source`, and the items of `hcl_tokens` that callers need, so that code that scans a text
+//! names only this crate. The module [`laws`] has laws of the definitions alone.
 #![tactic(auto)]
 
 mod comment;

@@ -14,7 +14,7 @@ fn are_hex(bytes: &[u8]) -> bool
     bytes.iter().all(|b| b.is_ascii_hexdigit())
 }
 
-/// Whether so many hexadecimal digits stand at the front.
+/// Whether there are this many hexadecimal digits at the front.
 fn hex_digits(bytes: &[u8], count: usize) -> bool
     ensures { result ≡ hex_digits_after count bytes.now }
 {
@@ -25,7 +25,7 @@ fn hex_digits(bytes: &[u8], count: usize) -> bool
     are_hex(digits)
 }
 
-/// Whether an escape of a backslash and one character stands at the front.
+/// Whether there is an escape of a backslash and one character at the front.
 fn is_short_escape(seen: &[u8]) -> bool
     ensures { result ≡ (starts seen.now (codes "\\n") || starts seen.now (codes "\\r")
         || starts seen.now (codes "\\t")
@@ -38,7 +38,7 @@ fn is_short_escape(seen: &[u8]) -> bool
         || seen.starts_with(b"\\\\")
 }
 
-/// Whether an escape with so many hexadecimal digits stands at the front, where `front` is its backslash and letter.
+/// Whether there is an escape with this many hexadecimal digits at the front; `front` is its backslash and letter.
 fn is_code_escape(seen: &[u8], front: &[u8], count: usize) -> bool
     requires { length front.now ≡ 2 }
     ensures { result ≡ (starts seen.now front.now && hex_digits_after count (drop 2 seen.now)) }
@@ -80,14 +80,15 @@ fn is_dollar_or_percent(b: u8) -> bool
     b == b'$' || b == b'%'
 }
 
-/// Whether `$${` or `%%{` stands at the front.
+/// Whether `$${` or `%%{` is at the front.
 fn is_doubled_sign(seen: &[u8]) -> bool
     ensures { result ≡ (starts seen.now (codes "$${") || starts seen.now (codes "%%{")) }
 {
     seen.starts_with(b"$${") || seen.starts_with(b"%%{")
 }
 
-/// The bytes that may be more than an element of literal text by themselves, each at its own place, and points for all others.
+/// The bytes that may not be an element of literal text by themselves, each at its own place, and points for all
+/// others.
 static SPECIAL: [u8; 256] = *b"\
     ..........\n..\r..................\
     ..\".$%..........................\
@@ -98,14 +99,14 @@ static SPECIAL: [u8; 256] = *b"\
     ................................\
     ................................";
 
-/// Whether the byte is an element of literal text by itself, wherever it stands. Letters are, so these are asked first.
+/// Whether the byte is an element of literal text by itself, at any place. Letters are, so they are tested first.
 fn is_ordinary(b: u8) -> bool
     ensures { result ≡ is_ordinary b }
 {
     b > b'\\' || SPECIAL[b as usize] == b'.'
 }
 
-/// How many bytes at the front are each an element of literal text by itself, one after the other.
+/// How many bytes at the front are each an element of literal text by itself, counted one by one.
 #[inline(always)]
 fn ordinary_few(seen: &[u8]) -> usize
     ensures count { result ≡ prefix_len is_ordinary seen.now }
@@ -114,7 +115,7 @@ fn ordinary_few(seen: &[u8]) -> usize
     seen.iter().take_while(|b| is_ordinary(**b)).count()
 }
 
-/// The same, many at a time.
+/// How many bytes at the front are each an element of literal text by itself, counted many at a time.
 #[inline(always)]
 fn ordinary_len(seen: &[u8]) -> usize
     ensures count { result ≡ prefix_len is_ordinary seen.now }
@@ -132,8 +133,8 @@ fn ordinary_len(seen: &[u8]) -> usize
     len + ordinary_few(rest)
 }
 
-/// Where the first byte stands from here on that isn't an element of literal text by itself, or the end. Often it is the
-/// one here. A call, since the scan needs the registers.
+/// The place of the next byte that isn't an element of literal text by itself, or the end. Often it is the current one.
+/// This is a call, since the scan needs the registers.
 #[inline(never)]
 fn past_ordinary(seen: &[u8], from: usize) -> usize
     requires { from ≤ length seen.now }
@@ -167,7 +168,7 @@ fn element_len(seen: &[u8], b: u8, after: &[u8], quoted: bool) -> Option<usize>
     }
 }
 
-/// How many bytes of literal text stand at the front.
+/// How many bytes the literal text at the front has.
 pub fn literal_len(seen: &[u8], quoted: bool) -> usize
     ensures within { result ≤ length seen.now }
     ensures elements { IsTrue (are_elements quoted 0 (take result seen.now)

@@ -15,7 +15,7 @@ fn count_digits(seen: &[u8]) -> usize
     seen.iter().take_while(|b| b.is_ascii_digit()).count()
 }
 
-/// How many digits stand at the front.
+/// How many digits are at the front.
 pub(crate) fn digits_len(seen: &[u8]) -> Option<usize>
     ensures found { IfSome result (IsLongestFront IsDigits seen.now) }
     ensures none { IfNone result (HasNoFront IsDigits seen.now) }

@@ -1,4 +1,4 @@
-//! One token after the other.
+//! One token after another.
 
 ghost use Rattle.std.specs.Prelude.{◌≡◌, ◌<◌, ◌≤◌, ◌≢◌, ◌∷◌, [], List, true, false, None, Some, length, slice_range, IfSome, IfNone, IfOk, IfErr, OnOk};
 ghost use Rattle.std.specs.Str.{IsCharBoundary};
@@ -24,14 +24,14 @@ use hcl_source::FaultKind;
 use hcl_tokens::{Entry, Kind};
 use std::marker::Model;
 
-/// A fault, and the offset at which it stands.
+/// A fault and its offset.
 #[derive(Clone, Copy)]
 pub struct Stopped {
     pub kind: FaultKind,
     pub at: u32,
 }
 
-/// Whether the token before is a Dot, kept as its kind: few tokens ask for it.
+/// Whether the token before is a Dot, stored as its kind: few tokens need it.
 #[derive(Drop)]
 struct AfterDot {
     before: Kind,
@@ -55,7 +55,7 @@ impl AfterDot {
         AfterDot { before }
     }
 
-    /// At the front, or after a token that is no Dot.
+    /// At the front, or after a token other than a Dot.
     fn no() -> AfterDot
         ensures { result ≡ false }
     {
@@ -71,20 +71,20 @@ impl AfterDot {
     }
 }
 
-/// Where a scan stands. What is seen is the text from `at` up to `end`.
+/// The state of a scan. The visible text goes from `at` up to `end`.
 #[derive(Drop)]
 pub struct Scanner<'s, 'k> {
     text: &'s str,
     /// How many bytes were read.
     at: usize,
-    /// Where the innermost open heredoc's marker line begins, or the end of the text.
+    /// The beginning of the innermost open heredoc's marker line, or the end of the text.
     end: usize,
     /// The token before is a Dot.
     after_dot: AfterDot,
     stack: Stack<'k>,
 }
 
-/// What a token of this kind opens, heredocs aside.
+/// The opener that a token of this kind is, heredocs aside.
 fn opener(kind: Kind) -> Option<Opener>
     ensures { result ≡ opened_by kind }
 {
@@ -104,7 +104,7 @@ fn is_heredoc_open(kind: Kind) -> bool
     matches!(kind, Kind::HeredocOpen)
 }
 
-/// Whether a token of this kind changes what is open. Most don't, and are told by this one test.
+/// Whether a token of this kind changes the open constructs. Most don't, and this one test shows it.
 fn opens_or_closes(kind: Kind) -> bool
     ensures { result ≡ opens_or_closes kind }
 {
@@ -154,7 +154,7 @@ impl<'s, 'k> Scanner<'s, 'k> {
         }
     }
 
-    /// A heredoc hides its marker line, so only inside one does what is seen end before the text.
+    /// A heredoc hides its marker line, so the visible text ends before the text only inside a heredoc.
     fn inside_heredoc(&self) -> bool
         requires { IsSound self.now }
         ensures { result ≡ in_heredoc (openers_of self.now.stack) }
@@ -162,7 +162,7 @@ impl<'s, 'k> Scanner<'s, 'k> {
         self.end < self.text.len()
     }
 
-    /// Where the next token begins: blanks are gaps in expressions outside heredocs.
+    /// The start of the next token: blanks are gaps in expressions outside heredocs.
     fn start(&self) -> usize
         requires { IsSound self.now }
         ensures { IsStart self.now result }
@@ -230,7 +230,8 @@ impl<'s, 'k> Scanner<'s, 'k> {
         }
     }
 
-    /// Where all that is seen was read, and no heredoc ends: why more is needed, if something is owed.
+    /// After the end of the visible text, without a heredoc that ends: the reason why more is needed, if a construct
+    /// must still be closed.
     fn owed(&mut self) -> Option<Stopped>
         requires sound { IsSound self.old }
         requires read { ahead (state_of self.old) ≡ [] }
@@ -254,7 +255,7 @@ impl<'s, 'k> Scanner<'s, 'k> {
         }
     }
 
-    /// Reads what neither opens nor closes.
+    /// Reads a token that neither opens nor closes.
     fn read_plain(&mut self, entry: Entry)
         requires sound { IsSound self.old }
         requires next { IsNext self.old entry }
@@ -265,7 +266,7 @@ impl<'s, 'k> Scanner<'s, 'k> {
         self.after_dot = AfterDot::after(entry.kind);
     }
 
-    /// Reads what closes something.
+    /// Reads a closer.
     fn read_closer(&mut self, entry: Entry)
         requires sound { IsSound self.old }
         requires next { IsNext self.old entry }
@@ -279,7 +280,7 @@ impl<'s, 'k> Scanner<'s, 'k> {
         self.after_dot = AfterDot::no();
     }
 
-    /// Reads what opens something, heredocs aside.
+    /// Reads an opener, heredocs aside.
     fn read_opener(&mut self, entry: Entry, by: Opener) -> Result<(), Stopped>
         requires sound { IsSound self.old }
         requires next { IsNext self.old entry }
@@ -299,7 +300,7 @@ impl<'s, 'k> Scanner<'s, 'k> {
         Ok(())
     }
 
-    /// Reads what opens a heredoc, and looks for its marker line.
+    /// Reads the opener of a heredoc, and searches for its marker line.
     fn read_heredoc(&mut self, entry: Entry) -> Result<(), Stopped>
         requires sound { IsSound self.old }
         requires next { IsNext self.old entry }
@@ -346,7 +347,7 @@ impl<'s, 'k> Scanner<'s, 'k> {
         let entry = Entry {
             kind: Kind::HeredocClose,
             inside_heredoc: true,
-            // the same as `at`, which needs no register of its own then
+            // equal to `at`, which then needs no register of its own
             start: self.end as u32,
             end: closer_end,
         };
@@ -357,7 +358,7 @@ impl<'s, 'k> Scanner<'s, 'k> {
         entry
     }
 
-    /// Reads the longest token that comes next.
+    /// Reads the longest next token.
     fn read(&mut self, entry: Entry) -> Result<(), Stopped>
         requires sound { IsSound self.old }
         requires next { IsNext self.old entry }
@@ -401,7 +402,7 @@ impl<'s, 'k> Scanner<'s, 'k> {
         }
     }
 
-    /// Reads a token, or gives `None` where all was read and nothing is owed.
+    /// Reads a token, or returns `None` if all was read and nothing must still be closed.
     pub fn next_token(&mut self) -> Option<Result<Entry, Stopped>>
         requires { IsSound self.old }
         ensures complete { IfNone result (IsComplete (state_of self.old)) }

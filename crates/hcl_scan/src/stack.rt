@@ -1,4 +1,4 @@
-//! What is open while a text is scanned.
+//! The stack of open constructs of a scan.
 
 ghost use Rattle.std.specs.Prelude.{◌≡◌, ◌==◌, ◌<◌, ◌≤◌, ◌∷◌, [], length, drop, slice_index_or, MatchOption};
 ghost use Rattle.hcl_tokens.specs.Lexemes.{max_open, same_opener};
@@ -11,8 +11,7 @@ ghost use Rattle.hcl_scan.specs.declared.stack.Frame.{Frame};
 use hcl_tokens::{Kind, MAX_OPEN};
 use std::marker::Model;
 
-/// What opens. A heredoc is kept by where its closing marker ends, and where what was seen around it
-/// ends.
+/// An opener. A heredoc is stored as the end of its closing marker and the end of the visible text around it.
 #[derive(Clone, Copy)]
 pub enum Opener {
     Quote,
@@ -23,7 +22,7 @@ pub enum Opener {
     Paren,
 }
 
-/// What was opened, and where.
+/// An opener and its offset.
 #[derive(Clone, Copy)]
 pub struct Opened {
     pub by: Opener,
@@ -32,8 +31,8 @@ pub struct Opened {
     pub closes_sequence: bool,
 }
 
-/// How the text is read in what is open: whether it is literal text, and else what a `}` closes. It is one byte, kept in a
-/// register, since each token asks for it:
+/// The scanner's mode: literal text, or code, and then what a `}` closes. It is one byte, kept in a register, since
+/// each token needs it:
 ///
 /// ```text
 /// tags = ["a-${var.name}", <<EOT
@@ -51,7 +50,7 @@ pub enum Reading {
     HeredocText,
 }
 
-/// What opens, alone.
+/// An opener, without its offset.
 #[derive(Clone, Copy)]
 enum Form {
     Quote,
@@ -62,19 +61,19 @@ enum Form {
     Paren,
 }
 
-/// What was opened, as it is kept. Of all but heredocs the two ends are left as they were, and mean nothing.
+/// The stored form of an opener. For openers other than heredocs the two ends are unset and mean nothing.
 #[derive(Clone, Copy)]
 struct Frame {
     at: u32,
     form: Form,
-    /// How the text is read around it.
+    /// The mode around it.
     around: Reading,
     closer_end: u32,
     outer_end: u32,
 }
 
-/// Room for what is open, and how much is. A [`Stack`] borrows it, so that how the text is read stands apart and can be kept in a
-/// register.
+/// Storage for the open constructs, and their number. A [`Stack`] borrows it, so that the mode is separate and can be
+/// kept in a register.
 #[derive(Drop)]
 pub struct Room {
     frames: [Frame; MAX_OPEN],
@@ -95,7 +94,7 @@ impl Room {
         }
     }
 
-    /// What is kept at this place.
+    /// The entry at this place.
     fn frame(&self, place: usize) -> Frame
         requires { place < max_open }
         ensures { (d : Frame) → result ≡ slice_index_or self.now.frames place d }
@@ -108,7 +107,7 @@ impl Room {
 #[derive(Drop)]
 pub struct Stack<'k> {
     room: &'k mut Room,
-    /// How the text is read in the innermost.
+    /// The mode of the innermost opener.
     reading: Reading,
 }
 
@@ -132,14 +131,14 @@ fn closes_in(reading: Reading) -> bool
     matches!(reading, Reading::SequenceCode)
 }
 
-/// Whether this is literal text: one comparison, which all that ask share.
+/// Whether this is literal text: one comparison, which all tests of it share.
 fn is_text(reading: Reading) -> bool
     ensures { result ≡ is_text reading }
 {
     !matches!(reading, Reading::Code | Reading::SequenceCode)
 }
 
-/// Where this is literal text, whether it is in quotes.
+/// For literal text, whether it is in quotes.
 fn template_in(reading: Reading) -> Option<bool>
     ensures { result ≡ template_in reading }
 {
@@ -150,7 +149,7 @@ fn template_in(reading: Reading) -> Option<bool>
     }
 }
 
-/// How the text is read in a bracket: as the expression around it.
+/// The mode in a bracket: that of the expression around it.
 fn reading_in_group(around: Reading) -> Reading
     ensures { result ≡ group_reading around }
 {
@@ -161,7 +160,7 @@ fn reading_in_group(around: Reading) -> Reading
     }
 }
 
-/// How the text is read in what this opens.
+/// The mode inside this opener.
 fn reading_on(by: Opener, around: Reading) -> Reading
     ensures { result ≡ reading_on by around }
 {
@@ -174,7 +173,7 @@ fn reading_on(by: Opener, around: Reading) -> Reading
     }
 }
 
-/// What opened this.
+/// The opener of this entry.
 fn opener_in(frame: Frame) -> Opener
     ensures { result ≡ opener_in frame }
 {
@@ -191,7 +190,7 @@ fn opener_in(frame: Frame) -> Opener
     }
 }
 
-/// What is kept so.
+/// The opener that is stored so.
 fn opened_of(frame: Frame) -> Opened
     ensures { result ≡ opened_of frame }
 {
@@ -204,7 +203,7 @@ fn opened_of(frame: Frame) -> Opened
 }
 
 impl Frame {
-    /// Keeps what opens here, part by part where it stands: a whole one would be put together first.
+    /// Stores an opener, field by field in place: a whole entry would be assembled first.
     #[inline(always)]
     fn keep(&mut self, by: Opener, at: u32, around: Reading)
         ensures by { opener_in self.new ≡ by }
@@ -245,7 +244,7 @@ fn is_same(by: Opener, other: Opener) -> bool
     }
 }
 
-/// Where this opens a template, whether it is in quotes.
+/// If this opens a template, whether it is in quotes.
 fn template_by(by: Opener) -> Option<bool>
     ensures { result ≡ quoted_in (context_in (opener_of by)) }
 {
@@ -262,7 +261,7 @@ fn is_group(by: Opener) -> bool
     matches!(by, Opener::Paren | Opener::Bracket)
 }
 
-/// What only expressions need isn't owed at the end.
+/// Groups that only expressions need don't have to be closed at the end.
 fn owes(by: Opener) -> bool
     ensures { result ≡ owes (opener_of by) }
 {
@@ -288,7 +287,7 @@ impl<'k> Stack<'k> {
         self.room.depth == MAX_OPEN
     }
 
-    /// Puts what opens here on top.
+    /// Pushes an opener.
     pub fn open(&mut self, by: Opener, at: u32)
         requires { length self.old < max_open }
         ensures { self.new ≡ opened_on by at self.old }
@@ -333,7 +332,7 @@ impl<'k> Stack<'k> {
         closes_in(self.reading)
     }
 
-    /// Where the innermost is a template, whether it is in quotes.
+    /// If the innermost is a template, whether it is in quotes.
     pub fn template(&self) -> Option<bool>
         ensures { result ≡ quoted_in (context (openers_of self.now)) }
     {
@@ -354,7 +353,7 @@ impl<'k> Stack<'k> {
         }
     }
 
-    /// Drops what a token of this kind closes.
+    /// Drops the constructs that a token of this kind closes.
     pub fn close(&mut self, kind: Kind)
         ensures { self.new ≡ closed kind self.old }
     {
@@ -388,7 +387,7 @@ impl<'k> Stack<'k> {
         }
     }
 
-    /// Drops the top if it was opened so.
+    /// Drops the top if it has this opener.
     fn pop_if(&mut self, by: Opener)
         ensures { self.new ≡ popped_if (opener_of by) self.old }
     {
@@ -400,7 +399,7 @@ impl<'k> Stack<'k> {
         }
     }
 
-    /// The innermost quote, heredoc or sequence; the stack is used up on the way to it.
+    /// The innermost quote, heredoc or sequence; this pops the stack down to it.
     pub fn pop_owed(&mut self) -> Option<Opened>
         ensures { result ≡ innermost_owed self.old }
     {

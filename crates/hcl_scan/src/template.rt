@@ -11,7 +11,7 @@ use crate::found::Found;
 use crate::literal::literal_len;
 use hcl_tokens::Kind;
 
-/// How many bytes the opener of a sequence has, which is there: the longer one where it fits.
+/// How many bytes the opener of a sequence at the front has: the longer one if it fits.
 fn sequence_open_len(seen: &[u8]) -> usize
     requires { 2 ≤ length seen.now }
     ensures { result ≡ (if starts (drop 2 seen.now) (codes "~") then 3 else 2) }
@@ -20,7 +20,7 @@ fn sequence_open_len(seen: &[u8]) -> usize
     if after.starts_with(b"~") { 3 } else { 2 }
 }
 
-/// The longest token at the front of what is seen of a template.
+/// The longest token at the front of the visible text of a template.
 pub fn next_in_template(seen: &[u8], quoted: bool) -> Option<Found>
     ensures found { IfSome result (λ f. (opens : List Opener) (after_dot : Bool)
         → context opens ≡ Template quoted → Finds opens after_dot seen.now f.kind f.len) }

@@ -1,4 +1,4 @@
-//! What stands at the front of a text: a byte, a line, a newline, blanks.
+//! The front of a text: a byte, a line, a newline, blanks.
 
 ghost use Rattle.std.specs.Prelude.{◌≡◌, ◌==◌, ◌≤◌, ◌+◌, length, get_or, slice_range, IfSome, IfNone};
 ghost use Rattle.std.specs.List.{prefix_len, position_or_len};
@@ -8,15 +8,15 @@ ghost use Rattle.hcl_tokens.specs.Scans.{skip_blanks};
 
 use crate::lanes::{LANES, line_run};
 
-/// How many bytes of a long run are looked at in one step. Between them it isn't asked whether the text ends, which takes
-/// half of the instructions where it is asked of each:
+/// How many bytes of a long run one step reads. The end of the text is tested once per step, which halves the
+/// instructions of a test for each byte:
 ///
 /// ```text
 /// compute_instance.service_1 = 2
 /// |------||------||------|xx
 /// ```
 ///
-/// Three blocks pass, the fourth stops after two bytes. What is left after the last whole block is looked at one by one.
+/// Three blocks pass, the fourth stops after two bytes. The bytes after the last whole block are read one by one.
 pub(crate) const BLOCK: usize = 8;
 
 /// The byte at the index, or 0 after the end.
@@ -41,7 +41,7 @@ pub(crate) fn newline_len(seen: &[u8]) -> Option<usize>
     }
 }
 
-/// How many bytes stand before the first LF, or before the end, one after the other.
+/// How many bytes are before the first LF, or before the end, counted one by one.
 #[inline(always)]
 fn few_before_lf(seen: &[u8]) -> usize
     ensures count { result ≡ position_or_len (λ b. b == 10) seen.now }
@@ -50,7 +50,7 @@ fn few_before_lf(seen: &[u8]) -> usize
     seen.iter().take_while(|b| **b != b'\n').count()
 }
 
-/// The same, many at a time.
+/// How many bytes are before the first LF, or before the end, counted many at a time.
 pub(crate) fn line_len(seen: &[u8]) -> usize
     ensures count { result ≡ position_or_len (λ b. b == 10) seen.now }
     ensures within { result ≤ length seen.now }
@@ -73,7 +73,8 @@ pub(crate) fn is_blank(b: u8) -> bool
     b == b' ' || b == b'\t'
 }
 
-/// Where the blanks end that begin at `at`. Offsets into the whole text take half the instructions of a part and its count.
+/// The end of the blanks that begin at `at`. Offsets into the whole text take half the instructions of a part and its
+/// count.
 pub(crate) fn past_blanks(text: &[u8], at: usize, end: usize) -> usize
     requires order { at ≤ end }
     requires within { end ≤ length text.now }
@@ -89,7 +90,7 @@ pub(crate) fn past_blanks(text: &[u8], at: usize, end: usize) -> usize
     here
 }
 
-/// How many spaces and tabs stand at the front.
+/// How many spaces and tabs are at the front.
 pub fn count_blanks(seen: &[u8]) -> usize
     ensures count { result ≡ prefix_len is_blank seen.now }
     ensures within { result ≤ length seen.now }
@@ -99,7 +100,7 @@ pub fn count_blanks(seen: &[u8]) -> usize
         .count()
 }
 
-/// What follows the blanks at the front.
+/// The text after the blanks at the front.
 pub fn skip_blanks(text: &[u8]) -> &[u8]
     ensures { result.now ≡ skip_blanks text.now }
 {
@@ -107,7 +108,7 @@ pub fn skip_blanks(text: &[u8]) -> &[u8]
     after
 }
 
-/// How many bytes the blanks at the front have, if there are some.
+/// How many bytes the blanks at the front have, if there are any.
 pub(crate) fn blanks_len(seen: &[u8]) -> Option<usize>
     ensures found { IfSome result (IsLongestFront IsBlanks seen.now) }
     ensures none { IfNone result (HasNoFront IsBlanks seen.now) }

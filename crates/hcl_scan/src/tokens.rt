@@ -10,15 +10,15 @@ use hcl_source::{Fault, Source};
 use hcl_tokens::{Entries, ScanError, Tokens};
 use std::alloc::Global;
 
-/// How many bytes of a source there are for each token that the list has room for at first. Most texts have four to six
-/// bytes a token, and where there are fewer the list grows.
+/// Bytes of a source per token for the first room of the list. Most texts have four to six bytes per token; for those
+/// with fewer the list grows.
 const BYTES_A_TOKEN: usize = 4;
 
-/// How many tokens the list has room for at most at first: it is small files whose lists take long to grow.
+/// The most tokens for which the list has room at first: small files are the ones whose lists take long to grow.
 const MOST_ROOM: usize = 8_192;
 
-/// No entries, with room for most of those of a source: a list that grows from nothing is moved several times. The room is in
-/// fours, since a list's own first room is for four.
+/// An empty list with room for most entries of a source: a list that grows from nothing is moved several times. The
+/// room is in fours, since a list's own first room is for four.
 fn no_entries(alloc: Global, source: &Source) -> Result<Entries, ScanError>
     ensures none { IfOk result (λ entries. entries ≡ []) }
     ensures err { IfErr result (IsScanError source.now) }
@@ -30,8 +30,8 @@ fn no_entries(alloc: Global, source: &Source) -> Result<Entries, ScanError>
     }
 }
 
-/// The tokens of a source, or the one fault that it is refused for. It is called, and what it calls seldom is marked as cold,
-/// so that its loop keeps its registers.
+/// The tokens of a source, or its one fault. This is a call, and its rare calls are marked as cold, so that its loop
+/// keeps its registers.
 #[inline(never)]
 pub fn scan<'s>(alloc: Global, source: &'s Source) -> Result<Tokens<'s>, ScanError>
     ensures source { IfOk result (λ t. t.text ≡ source.now) }

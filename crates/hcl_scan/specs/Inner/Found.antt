@@ -1,4 +1,4 @@
--- What the parts of the scanner find at the front of what is seen: the longest token of any kind, as the HCL Native
+-- The results of the scanner's parts at the front of the visible text: the longest token of any kind, as the HCL Native
 -- Syntax Specification reads a text, or the longest front of one form.
 use Rattle.std.specs.Prelude.{◌≡◌, ℕ, ◌+◌, ◌<◌, ◌≤◌, ◌==◌, ◌||◌, not, Bool, true, false, List, [], ◌++◌, length, take, drop, if◌then◌else◌, get_or, codes, encode_utf8, encode_utf8_all, ◌⊎◌}
 use Rattle.std.specs.Char.{is_ascii_alphanumeric}
@@ -15,7 +15,7 @@ pub record Finds (opens : List Opener) (after_dot : Bool) (seen : List ℕ) (kin
   pub some : 0 < n
   pub longest : IsLongest opens after_dot seen kind (take n seen) (drop n seen)
 
--- what is open leaves an expression, in a heredoc or not, in which a `}` closes a sequence or not
+-- the context is an expression, in a heredoc or not, in which a `}` closes a sequence or not
 pub record AreSurroundings (opens : List Opener) (inside closes : Bool) : Type 0 where
   pub expression : context opens ≡ Expression
   pub heredoc : in_heredoc opens ≡ inside
@@ -53,7 +53,7 @@ abbrev pub closer_kind : Bool → Kind
 closer_kind true = SeqClose
 closer_kind false = BraceClose
 
--- the text of a mark of this kind is at the front, and no longer one
+-- the text of a mark of this kind is at the front, and of no longer mark
 pub record IsLongestPunctuation (table : List (List ℕ × Kind)) (seen : List ℕ) (kind : Kind) (n : ℕ) : Type 0 where
   pub within : n ≤ length seen
   pub formed : IsPunctuation table (take n seen) kind
@@ -78,15 +78,15 @@ pub record FirstChar (test : ℕ → Bool) (text : List ℕ) (n : ℕ) : Type 0 
 abbrev pub BeginsWithout : (ℕ → Bool) → List ℕ → Type 0
 BeginsWithout test text = (text ≡ []) ⊎ ((first : ℕ) × (rest : List ℕ) × (test first ≡ false) × (text ≡ encode_utf8 first ++ rest))
 
--- the ASCII byte may continue an identifier
+-- the ASCII byte may be inside an identifier
 abbrev pub continues_ascii : ℕ → Bool
 continues_ascii b = is_ascii_alphanumeric b || (b == 95) || (b == 45)
 
--- characters that may continue an identifier
+-- characters that may be inside an identifier
 abbrev pub AreContinuing : List ℕ → Type 0
 AreContinuing text = (cs : List ℕ) × (list_all continues_ident cs ≡ true) × (text ≡ encode_utf8_all cs)
 
--- the byte is an element of literal text by itself, wherever it stands
+-- the byte is an element of literal text by itself, at any place
 abbrev pub is_ordinary : ℕ → Bool
 is_ordinary b = not (is_dollar_or_percent b || (b == 34) || (b == 92) || (b == 10) || (b == 13))
 
@@ -94,10 +94,10 @@ is_ordinary b = not (is_dollar_or_percent b || (b == 34) || (b == 92) || (b == 1
 abbrev pub IsMarker : List ℕ → Type 0
 IsMarker text = (marker end : List ℕ) × IsIdent marker × IsNewline end × (text ≡ marker ++ end)
 
--- how many bytes stand before the marker of a heredoc's opener
+-- how many bytes are before the marker of a heredoc's opener
 abbrev pub heredoc_mark_len : List ℕ → ℕ
 heredoc_mark_len seen = if starts seen (codes "<<-") then 3 else (if starts seen (codes "<<") then 2 else 0)
 
--- a `*/` stands after n bytes
+-- there is a `*/` after n bytes
 abbrev pub EndsComment : List ℕ → ℕ → Type 0
 EndsComment text n = (get_or text n 0 ≡ 42) × (get_or text (n + 1) 0 ≡ 47)

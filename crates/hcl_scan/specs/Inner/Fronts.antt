@@ -1,4 +1,4 @@
--- What the first bytes of a text are: a mark, or what they lead to.
+-- The meaning of the first bytes of a text: a mark, or the forms that they lead to.
 use Rattle.std.specs.Prelude.{◌≡◌, ℕ, List, Some, None}
 use Rattle.hcl_scan.specs.Inner.Leads.{lead_of}
 use Rattle.hcl_scan.specs.Inner.Punctuation.{first_punctuation}
@@ -6,7 +6,7 @@ use Rattle.hcl_scan.specs.declared.front.Front.{Front}
 use Rattle.hcl_scan.specs.declared.front.Front.TheVariants.{Mark, Led}
 use Rattle.hcl_scan.specs.declared.front.Lead.TheVariants.{Sign}
 
--- of what could be a mark and is none, no mark is found
+-- bytes that could be a mark and are none: no mark is found
 abbrev pub IsFront : List ℕ → Front → Type 0
 IsFront seen (Mark kind len) = (lead_of seen ≡ Sign) × (first_punctuation seen ≡ Some (kind, len))
 IsFront seen (Led Sign) = (lead_of seen ≡ Sign) × (first_punctuation seen ≡ None)

@@ -1,4 +1,4 @@
--- What the first two bytes of a text say of its kind: an own choice, which makes each step of the scanner short.
+-- The kinds that the first two bytes of a text allow: an own choice, which makes each step of the scanner short.
 use Rattle.std.specs.Prelude.{ℕ, ◌==◌, ◌||◌, ◌&&◌, List, if◌then◌else◌, get_or}
 use Rattle.std.specs.Char.{is_ascii_digit}
 use Rattle.hcl_tokens.specs.Spelling.{is_blank}

@@ -1,5 +1,5 @@
--- What the scanner keeps of what is open, and what this stands for: the openers, their offsets, what heredocs hide.
--- Our own choice of representation: a heredoc is kept by where its closing marker ends and where what was seen around it ends.
+-- The scanner's stack, and the openers, offsets and hidden text that it represents. Our own choice of representation: a
+-- heredoc is stored as the end of its closing marker and the end of the visible text around it.
 use Rattle.std.specs.Prelude.{ℕ, ◌-◌, ◌||◌, Bool, true, false, List, [], ◌∷◌, length, map, drop, if◌then◌else◌, slice_range, Option, Some, None}
 use Rattle.hcl_tokens.specs.Lexemes as lexemes
 use Rattle.hcl_tokens.specs.Lexemes.{is_group, open_after, same_opener}
@@ -21,7 +21,7 @@ opener_of Brace = lexemes.Brace
 opener_of Bracket = lexemes.Bracket
 opener_of Paren = lexemes.Paren
 
--- what is open
+-- the open constructs
 abbrev pub openers_of : List Opened → List lexemes.Opener
 openers_of stack = map (λ o. opener_of o.by) stack
 
@@ -29,7 +29,7 @@ openers_of stack = map (λ o. opener_of o.by) stack
 abbrev pub offsets_in : List Opened → List ℕ
 offsets_in stack = map (λ o. o.at) stack
 
--- what is hidden where what is seen ends at `end`
+-- the hidden text, if the visible text ends at `end`
 abbrev pub hidden_under : List ℕ → ℕ → Opener → (ℕ → List Hidden) → List Hidden
 hidden_under text end (Heredoc closer_end outer_end) above = record { closer = slice_range text end closer_end; after = slice_range text closer_end outer_end } ∷ above outer_end
 hidden_under text end _ above = above end
@@ -41,7 +41,7 @@ hidden_of text (o ∷ stack) end = hidden_under text end o.by (hidden_of text st
 abbrev pub is_group_by : Opener → Bool
 is_group_by by = is_group (opener_of by)
 
--- without the parens and brackets on top
+-- without parens and brackets on top
 abbrev pub popped_groups : List Opened → List Opened
 popped_groups [] = []
 popped_groups (o ∷ stack) = if is_group_by o.by then popped_groups stack else o ∷ stack
@@ -51,11 +51,11 @@ abbrev pub popped_if : lexemes.Opener → List Opened → List Opened
 popped_if opener [] = []
 popped_if opener (o ∷ stack) = if same_opener (opener_of o.by) opener then stack else o ∷ stack
 
--- without what a token of this kind closes: as much is left as the token leaves open
+-- without the constructs that a token of this kind closes: the token leaves the rest open
 abbrev pub closed : Kind → List Opened → List Opened
 closed kind stack = drop (length stack - length (open_after kind (openers_of stack))) stack
 
--- a `}` closes a sequence in what this opens, where it does so around it or not
+-- a `}` closes a sequence inside this opener, given whether it does so around it
 abbrev pub closes_on : Opener → Bool → Bool
 closes_on Sequence around = true
 closes_on Paren around = around
@@ -66,7 +66,7 @@ abbrev pub top_closes : List Opened → Bool
 top_closes [] = false
 top_closes (o ∷ stack) = o.closes_sequence
 
--- with what opens at this offset on top
+-- with an opener at this offset on top
 abbrev pub opened_on : Opener → ℕ → List Opened → List Opened
 opened_on by at stack = record { by = by; at = at; closes_sequence = closes_on by (top_closes stack) } ∷ stack
 
@@ -80,11 +80,11 @@ abbrev pub quoted_in : Context → Option Bool
 quoted_in (Template quoted) = Some quoted
 quoted_in Expression = None
 
--- tokens of this kind change what is open: of a group, a quote or a heredoc
+-- tokens of this kind change the open constructs: a group, a quote or a heredoc
 abbrev pub opens_or_closes : Kind → Bool
 opens_or_closes k = is_opener k || is_closer k || is QuoteOpen k || is QuoteClose k || is HeredocOpen k || is HeredocClose k
 
--- what a token of this kind opens, heredocs aside
+-- the opener that a token of this kind is, heredocs aside
 abbrev pub opened_by : Kind → Option Opener
 opened_by QuoteOpen = Some Quote
 opened_by InterpOpen = Some Sequence
@@ -98,7 +98,7 @@ abbrev pub option_and : Option Bool → Opened → Option Opened
 option_and None o = None
 option_and (Some quoted) o = Some o
 
--- the innermost, if it is a template
+-- the innermost opener, if it begins a template
 abbrev pub template_top : List Opened → Option Opened
 template_top [] = None
 template_top (o ∷ stack) = option_and (quoted_in (context_in (opener_of o.by))) o

@@ -1,5 +1,5 @@
--- How the text is read in what is open, which the stack keeps in one byte, and what is kept of each thing that is open.
--- Our own choice of representation.
+-- The scanner's mode, which the stack keeps in one byte, and the stored form of each open construct. Our own choice of
+-- representation.
 use Rattle.std.specs.Prelude.{◌≡◌, ℕ, ◌≤◌, Bool, true, false, List, [], ◌∷◌, length, take, reverse, Option, Some, None}
 use Rattle.hcl_tokens.specs.Lexemes.{max_open}
 use Rattle.hcl_scan.specs.declared.stack.Opener.{Opener}
@@ -27,12 +27,12 @@ template_in QuotedText = Some true
 template_in HeredocText = Some false
 template_in _ = None
 
--- in a bracket, by what is around it
+-- in a bracket, from the mode around it
 abbrev pub group_reading : Reading → Reading
 group_reading SequenceCode = SequenceCode
 group_reading _ = Code
 
--- in what this opens, by what is around it
+-- inside this opener, from the mode around it
 abbrev pub reading_on : Opener → Reading → Reading
 reading_on by.Quote around = QuotedText
 reading_on (by.Heredoc closer_end outer_end) around = HeredocText
@@ -49,7 +49,7 @@ opener_by form.Brace closer_end outer_end = by.Brace
 opener_by form.Bracket closer_end outer_end = by.Bracket
 opener_by form.Paren closer_end outer_end = by.Paren
 
--- what is kept so
+-- the opener that is stored as this
 abbrev pub opener_in : Frame → Opener
 opener_in f = opener_by f.form f.closer_end f.outer_end
 
@@ -60,17 +60,17 @@ opened_of f = record { by = opener_in f; at = f.at; closes_sequence = closes_in 
 abbrev pub frames_of : ℕ → List Frame → List Frame
 frames_of n fs = reverse (take n fs)
 
--- how the text is read under these
+-- the mode under these
 abbrev pub reading_under : List Frame → Reading
 reading_under [] = Code
 reading_under (f ∷ fs) = reading_on (opener_in f) f.around
 
--- each says how it is read around it
+-- each has the mode around it
 abbrev pub AreFrames : List Frame → Type 0
 AreFrames [] = Unit {0}
 AreFrames (f ∷ fs) = (f.around ≡ reading_under fs) × AreFrames fs
 
--- what is kept of what is open, of which there are n
+-- the stored form of the open constructs; there are n
 pub record IsRoom (n : ℕ) (fs : List Frame) (reading : Reading) : Type 0 where
   pub room : length fs ≡ max_open
   pub within : n ≤ max_open

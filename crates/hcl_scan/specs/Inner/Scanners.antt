@@ -1,5 +1,5 @@
--- Where the scanner stands, as a state of the reading, and what it comes to next: a token, or the fault.
--- Our own choice of representation: offsets into one text in place of its parts.
+-- The scanner's state as a state of the reading, and its next step: a token, or the fault. Our own choice of
+-- representation: offsets into one text in place of its parts.
 use Rattle.std.specs.Prelude.{◌≡◌, ℕ, ◌+◌, ◌<◌, ◌≤◌, Bool, true, false, IsTrue, List, [], ◌∷◌, length, slice_range}
 use Rattle.std.specs.Str.{IsCharBoundary}
 use Rattle.hcl_source.specs.Load.{max_source}
@@ -27,12 +27,12 @@ fits_in Sequence Expression = false
 fits_in _ (Template quoted) = false
 fits_in _ Expression = true
 
--- what is seen inside a heredoc ends before its closing marker, and what is seen around it after
+-- the visible text of a heredoc ends before its closing marker, and the visible text around it after
 abbrev pub AreEndsBy : List ℕ → ℕ → kept.Opener → (ℕ → Type 0) → Type 0
 AreEndsBy text end (Heredoc closer_end outer_end) around = (end < closer_end) × (closer_end ≤ outer_end) × IsCharBoundary text closer_end × IsCharBoundary text outer_end × around outer_end
 AreEndsBy text end _ around = around end
 
--- the stack is one of this text, where what is seen ends at `end`
+-- the stack fits this text, with the visible text ending at `end`
 abbrev pub IsStack : List ℕ → List Opened → ℕ → Type 0
 IsStack text [] end = end ≡ length text
 IsStack text (o ∷ stack) end = (o.closes_sequence ≡ closes_sequence (openers_of (o ∷ stack))) × IsTrue (fits_in (opener_of o.by) (context (openers_of stack))) × IsCharBoundary text o.at × AreEndsBy text end o.by (IsStack text stack)
@@ -52,7 +52,7 @@ pub record IsStart (s : Scanner) (start : ℕ) : Type 0 where
   pub within : start ≤ s.end
   pub boundary : IsCharBoundary s.text.now start
 
--- the entry is the longest token that comes next
+-- the entry is the longest next token
 pub record IsNext (s : Scanner) (e : Entry) : Type 0 where
   pub start : IsStart s e.start
   pub order : e.start < e.end

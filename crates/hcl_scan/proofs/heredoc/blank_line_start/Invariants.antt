@@ -2,7 +2,7 @@ use Rattle.std.proofs.Common.{◌≡◌, ℕ, ◌≤◌, ◌<◌, true, get_or}
 use Rattle.hcl_tokens.specs.Spelling.{is_blank}
 use Rattle.hcl_scan.proofs.heredoc.blank_line_start.Given as goal
 
--- only blanks stand from here up to the place
+-- only blanks are from here up to the place
 abbrev pub invariant-loop-start : goal.invariant-loop-start
 invariant-loop-start l = record { before : l.start ≤ l.place; blank : (k : ℕ) → l.start ≤ k → k < l.place → is_blank (get_or l.text k 0) ≡ true }
 

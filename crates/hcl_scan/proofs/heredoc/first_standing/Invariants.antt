@@ -1,7 +1,7 @@
 use Rattle.hcl_scan.specs.Inner.Lanes.{MarksStanding}
 use Rattle.hcl_scan.proofs.heredoc.first_standing.Given as goal
 
--- where the marker stands, it is left
+-- a place with the marker remains
 abbrev pub invariant-loop-left : goal.invariant-loop-left
 invariant-loop-left l = MarksStanding l.text l.marker l.at l.left
 

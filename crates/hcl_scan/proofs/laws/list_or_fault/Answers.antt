@@ -15,7 +15,7 @@ Read text s = (ts : List Lexeme) × Run (begin text) ts (state_of s)
 still : (text : List ℕ) (s next : Scanner) (e : Entry) → s.text.now ≡ text → Moves s e next → next.text.now ≡ text
 still text s next e same moved = ap (λ t. t.now) moved.same_text ∙ same
 
--- one token more
+-- one more token
 read_on : (text : List ℕ) (s next : Scanner) (e : Entry) → s.text.now ≡ text → Moves s e next → Read text s → Read text next
 read_on text s next e same moved (ts, run) = (
   ts ++ lexeme_of text e ∷ [],

@@ -2,7 +2,7 @@ use Rattle.std.proofs.Common.{◌≡◌, length}
 use Rattle.hcl_scan.specs.Inner.Openings.{innermost_owed}
 use Rattle.hcl_scan.proofs.stack.Stack.pop_owed.Given as goal
 
--- what is found in the end stays the same
+-- the final result stays the same
 abbrev pub invariant-loop-top : goal.invariant-loop-top
 invariant-loop-top l = innermost_owed l.self ≡ innermost_owed l.initial.self
 
