@@ -1,4 +1,4 @@
--- Formatted files have the tokens of the files on the same lines, so they have the same issues, columns aside.
+-- Formatted files have the tokens of the files on the same lines, so they have the same issues, apart from columns.
 use Rattle.std.proofs.Common.{◌≡◌, ◌∙◌, ◌+◌, ◌≤◌, ap, refl, sym, subst, ℕ, List, [], ◌∷◌, Option, Some, None, inl, inr, map, length}
 use Rattle.std.specs.Prelude.{Result, Ok, Err}
 use Rattle.std.proofs.lemmas.List.Elements.{All-head, All-tail}
@@ -114,7 +114,7 @@ all_same n (f ∷ fs) (g ∷ gs) [] others z a b = absurd a
 all_same n (f ∷ fs) (g ∷ gs) (s ∷ ss) [] z a b = absurd b
 all_same n (f ∷ fs) (g ∷ gs) (s ∷ ss) (o ∷ os) z a b = (same_tokens n f g s o z.0 a.0 b.0, all_same (n + 1) fs gs ss os z.1 a.1 b.1)
 
--- ---- what is told
+-- ---- the report
 abbrev without_token : rules.Told → WithoutColumn
 without_token t = record { file = t.file; line = t.line; rule = t.rule; message = t.message }
 
@@ -142,7 +142,7 @@ agree asking files formatted row other z first again =
     reports_again asking.asked files formatted first.sources again.sources first.found.report again.found.report z first.accepted.each again.accepted.each first.found.is again.found.is in
     ap without_columns (sym first.found.same) ∙ without_tokens first.found.report ∙ ap (map without_token) e ∙ sym (without_tokens again.found.report) ∙ ap without_columns again.found.same
 
--- the status goes by the rules of the issues
+-- the status depends on the rules of the issues
 rules_of : (issues : List Issue) → map (λ i. i.rule) issues ≡ map (λ w. w.rule) (without_columns issues)
 rules_of [] = refl
 rules_of (i ∷ is) = ap (λ l. i.rule ∷ l) (rules_of is)

@@ -1,7 +1,7 @@
 //! The laws on both programs: formatting the files of a module changes none of its issues. No program calls these
 //! functions: their contracts are the laws.
 //!
-//! They stand apart from the linter, so that it doesn't wait for the formatter.
+//! They are separate from the linter, so that it doesn't wait for the formatter.
 #![tactic(auto)]
 
 ghost use Rattle.std.specs.Prelude.{◌≡◌, ◌≤◌, ℕ, List, length};
@@ -16,9 +16,9 @@ ghost use Rattle.tfrules_command.specs.Files.{NamedFile, AreAccepted, IsAccepted
 ghost use Rattle.tfrules_command.specs.Line.{Asking};
 ghost use Rattle.agreement.specs.Formatted.{IsFormatted, without_columns};
 
-/// Where all files of a module are accepted, of whatever size the module is, so are the formatted files, unless one of
-/// them is too large for a source; and a report of the formatted files has the same issues in the same order, with the
-/// same lines, rules and messages: columns alone may differ.
+/// If all files of a module are accepted, whatever its size, so are the formatted files, unless one of them is too
+/// large for a source; and a report of the formatted files has the same issues in the same order, with the same lines,
+/// rules and messages: columns alone may differ.
 pub fn agree_at_any_size()
     ensures accepted { (files formatted : List NamedFile) (sources : List Scanned)
         → AllZip IsAcceptedAs files sources → AllZip IsFormatted files formatted
@@ -32,9 +32,9 @@ pub fn agree_at_any_size()
         → issues.IsReport asked (numbered_files 0 others) other → told_all report ≡ told_all other }
 {}
 
-/// Where the files of a module are accepted, so are the formatted files, unless they are too large, and a run over them
-/// has the same issues in the same order, with the same lines, rules and messages, and the same status: columns alone may
-/// differ.
+/// If the files of a module are accepted, so are the formatted files, unless they are too large, and a run over them
+/// has the same issues in the same order, with the same lines, rules and messages, and the same status: columns alone
+/// may differ.
 pub fn agree()
     ensures accepted { (files formatted : List NamedFile) (sources : List Scanned)
         → AreAccepted files sources → AllZip IsFormatted files formatted

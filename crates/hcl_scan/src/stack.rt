@@ -261,7 +261,7 @@ fn is_group(by: Opener) -> bool
     matches!(by, Opener::Paren | Opener::Bracket)
 }
 
-/// Groups that only expressions need don't have to be closed at the end.
+/// Whether this must be closed before the end: groups, which only expressions have, need not.
 fn owes(by: Opener) -> bool
     ensures { result ≡ owes (opener_of by) }
 {

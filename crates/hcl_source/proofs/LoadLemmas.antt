@@ -9,7 +9,7 @@ use Rattle.hcl_source.specs.declared.fault.Fault.{Fault}
 use Rattle.hcl_source.specs.declared.fault.FaultKind.{FaultKind}
 use Rattle.hcl_source.specs.declared.fault.FaultKind.TheVariants.{TooLarge, InvalidUtf8, ByteOrderMark}
 
--- the three ways to be no source
+-- the three reasons to be no source
 data Refused (bytes : List ℕ) (kind : FaultKind) (at : ℕ) : Type 0 where
   large : kind ≡ TooLarge → max_source < length bytes → at ≡ 0 → Refused bytes kind at
   invalid : kind ≡ InvalidUtf8 → length bytes ≤ max_source → IsValidUpTo bytes at → Refused bytes kind at
@@ -54,7 +54,7 @@ text_or_fault bytes fault text x = by (refused bytes fault.kind x.0 x.1)
     by (invalid k s v) = no_utf8 bytes x.0 v text.utf8
     by (marked k s u m a) = let f = text.unmarked in let t : has_byte_order_mark bytes ≡ true = m in absurd (cc)
 
--- where too many bytes were taken, the whole input has their fault
+-- if too many bytes were taken, the whole input has their fault
 pub too_large_too : (bytes rest : List ℕ) (fault : Fault) → max_source < length bytes → IsLoadFault bytes fault → IsLoadFault (bytes ++ rest) fault
 too_large_too bytes rest fault more x = by (refused bytes fault.kind x.0 x.1)
   where

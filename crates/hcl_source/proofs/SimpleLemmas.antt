@@ -1,5 +1,5 @@
--- As many grapheme clusters as characters in a text of characters between any two of which a cluster ends, and as many as
--- bytes in one that is ASCII without CR.
+-- A text has as many grapheme clusters as characters if a cluster ends between any two of them, and as many as bytes if
+-- it is ASCII without CR.
 use Rattle.std.proofs.Common.{get_or, not, ◌≡◌, ◌∙◌, ◌+◌, ◌-◌, ◌*◌, ◌≤◌, ◌<◌, ◌==◌, ◌&&◌, ap, ap₂, sym, refl, true≢false, ℕ, suc, zero, Bool, true, false, List, [], ◌∷◌, length, arith, drop, take, add-one, drop-cons}
 use Rattle.std.specs.Prelude.{encode_utf8_all, ◌++◌, nat_eq, nat_lt, slice_index_or, unwrap_or}
 use Rattle.std.specs.List.{list_all}
@@ -69,7 +69,7 @@ is_alone c = nat_lt c first_joining && not (c == 13)
 abbrev are_alone : List ℕ → Bool
 are_alone cs = list_all is_alone cs
 
--- what the table gives on them: the ends of lines apart, only what breaks on both sides
+-- the table's classes for them: apart from the ends of lines, all break on both sides
 abbrev alone_class : ℕ → GraphemeClusterBreak → Bool
 alone_class c Other = true
 alone_class c Control = true
@@ -81,7 +81,7 @@ class_of_alone : (c : ℕ) → c < first_joining → alone_class c (grapheme_clu
 unfolding ucd_breaks
 class_of_alone c below = Stepped-below grapheme_cluster_break grapheme_cluster_break_stepped alone_class first_joining refl c below
 
--- whether two characters of these classes break, where the tables' further rules say so of two others
+-- whether two characters of these classes break, given the answer of the tables' further rules
 pair_breaks : (l r : GraphemeClusterBreak) (c n : ℕ) (more : Bool) → alone_class c l ≡ true → alone_class n r ≡ true → ((c == 13) && (n == 10)) ≡ false
     → (Other ≡ l → Other ≡ r → unwrap_or (break_by_pair true l r) more ≡ true) → unwrap_or (break_by_pair true l r) more ≡ true
 pair_breaks Control Control c n more p q e f = refl
@@ -151,7 +151,7 @@ pair_breaks Other Other c n more p q e f = f refl refl
 pair_breaks Other Zwj c n more p q e f = absurd (true≢false (sym q))
 pair_breaks Zwj r c n more p q e f = absurd (true≢false (sym p))
 
--- a character that is alone
+-- a character that is a cluster by itself
 alone_is : (c : ℕ) → is_alone c ≡ true → (c < first_joining) × ((c == 13) ≡ false)
 alone_is c e = go (nat_lt c first_joining) refl (c == 13) refl e
   where
@@ -170,7 +170,7 @@ alone_breaks c n before after p q =
 
 -- ---- ASCII
 
--- a byte more that is simple
+-- another simple byte
 pub simple_parts : (b : ℕ) (text : List ℕ) → is_simple (b ∷ text) ≡ true → (b < 128) × ((b == 13) ≡ false) × (is_simple text ≡ true)
 simple_parts b text e = go (nat_lt b 128) refl (b == 13) refl e
   where

@@ -1,4 +1,4 @@
--- What answers of devices say: our own words for our own devices.
+-- The meaning of devices' answers: our own words for our own devices.
 use Rattle.std.specs.Prelude.{◌≡◌, ℕ, ◌<◌, Bool, true, false, Option, Some, None, Result, Ok, Err}
 use Rattle.hcl_source.specs.declared.device.ReadError.{ReadError}
 use Rattle.hcl_source.specs.declared.device.ReadError.TheVariants.{Failed}
@@ -10,7 +10,7 @@ abbrev pub TookSome : {E : Type 0} → Result ℕ E → Type 0
 TookSome (Ok n) = 0 < n
 TookSome (Err e) = ⊥
 
--- where a device tells something, this is it
+-- if a device tells something, it is this
 abbrev pub Tells : {X : Type 0} → Option X → X → Type 0
 Tells None x = Unit {0}
 Tells (Some told) x = told ≡ x
@@ -20,7 +20,7 @@ abbrev pub is_read_failed : {X : Type 0} → Result X ReadError → Bool
 is_read_failed (Err Failed) = true
 is_read_failed _ = false
 
--- how often a sink was flushed, after one more flush
+-- the count of a sink's flushes, after one more flush
 abbrev pub one_more : Flushes → Flushes
 one_more Never = Once
 one_more Once = Often

@@ -1,4 +1,4 @@
--- The words that messages say for each kind of fault: our own choice.
+-- The words of messages for each kind of fault: our own choice.
 use Rattle.std.specs.Prelude.{ℕ, List, codes}
 use Rattle.hcl_source.specs.declared.fault.FaultKind.{FaultKind}
 use Rattle.hcl_source.specs.declared.fault.FaultKind.TheVariants.{TooLarge, InvalidUtf8, ByteOrderMark, InvalidCharacter, UnterminatedQuote, UnterminatedComment, UnterminatedHeredoc, UnterminatedTemplate, InvalidEscape, TooDeep, UnexpectedToken, UnexpectedEnd, ResultTooLarge}

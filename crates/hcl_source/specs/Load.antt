@@ -1,5 +1,5 @@
--- Which bytes are a source, and what others are refused for: our own choice, since the HCL Native Syntax
--- Specification asks for UTF-8 alone. The faults exclude each other, so bytes have one at most.
+-- Which bytes are a source, and the faults of others: our own choice, since the HCL Native Syntax Specification asks
+-- for UTF-8 alone. The faults exclude each other, so bytes have one at most.
 use Rattle.std.specs.Prelude.{◌≡◌, ℕ, ◌<◌, ◌≤◌, Bool, true, false, IsTrue, IsFalse, List, [], ◌∷◌, length, nat_eq, IsUtf8, Option, Result, Ok, Err}
 use Rattle.std.specs.List.{starts_with}
 use Rattle.std.specs.Str.{IsValidUpTo}
@@ -19,20 +19,20 @@ max_source = 4_194_304
 abbrev pub has_byte_order_mark : List ℕ → Bool
 has_byte_order_mark bytes = starts_with nat_eq bytes (0xEF ∷ 0xBB ∷ 0xBF ∷ [])
 
--- what a source is
+-- the definition of a source
 pub record IsText (bytes : List ℕ) : Type 0 where
   pub small : length bytes ≤ max_source
   pub utf8 : IsUtf8 bytes
   pub unmarked : IsFalse (has_byte_order_mark bytes)
 
--- a fault of this kind stands at this offset of bytes that are no source
+-- bytes that are no source have a fault of this kind at this offset
 abbrev pub IsLoadFaultAt : List ℕ → FaultKind → ℕ → Type 0
 IsLoadFaultAt bytes TooLarge at = (max_source < length bytes) × (at ≡ 0)
 IsLoadFaultAt bytes InvalidUtf8 at = (length bytes ≤ max_source) × IsValidUpTo bytes at
 IsLoadFaultAt bytes ByteOrderMark at = (length bytes ≤ max_source) × IsUtf8 bytes × IsTrue (has_byte_order_mark bytes) × (at ≡ 0)
 IsLoadFaultAt bytes _ at = ⊥
 
--- THE FAULT that bytes are refused for
+-- THE FAULT for which bytes are refused
 abbrev pub IsLoadFault : List ℕ → Fault → Type 0
 IsLoadFault bytes fault = (at : ℕ) × IsLoadFaultAt bytes fault.kind at × (fault.at ≡ place bytes at)
 
@@ -40,14 +40,14 @@ IsLoadFault bytes fault = (at : ℕ) × IsLoadFaultAt bytes fault.kind at × (fa
 abbrev pub print_too_large : Fault
 print_too_large = record { kind = ResultTooLarge; at = record { line = 1; column = 1 } }
 
--- an error of loading bytes that are there
+-- an error of loading bytes that were read
 abbrev pub IsLoadError : List ℕ → LoadError → Type 0
 IsLoadError bytes (error.Fault fault) = IsLoadFault bytes fault
 IsLoadError bytes error.ReadFailed = ⊥
 IsLoadError bytes error.OutOfMemory = Unit {0}
 
--- What loading answers, where `bytes` were taken from a device that has `left` now: the bytes themselves,
--- with nothing left; or their fault, with nothing left unless they are too many.
+-- The answer of loading, with `bytes` taken from a device that has `left` now: the bytes themselves, with nothing left;
+-- or their fault, with nothing left unless they are too many.
 abbrev pub Loads : List ℕ → Option (List ℕ) → Result (List ℕ) LoadError → Type 0
 Loads bytes left (Ok source) = (source ≡ bytes) × IsText bytes × IsAtEnd left
 Loads bytes left (Err (error.Fault fault)) = IsLoadFault bytes fault × (length bytes ≤ max_source → IsAtEnd left)

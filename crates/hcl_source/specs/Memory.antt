@@ -2,17 +2,17 @@
 use Rattle.std.specs.Prelude.{ℕ, ◌-◌, ◌==◌, ◌||◌, ◌&&◌, Bool, false, not, List, length, min, Option, Some, None}
 use Rattle.hcl_source.specs.declared.device.Flushes.{Flushes}
 
--- What a source in memory is: the bytes that are left; how many a read gives at most; how many reads go well before
--- the one that fails, where one is to fail; and whether one has failed.
+-- A source in memory: the remaining bytes; the most that a read gives; the number of reads that succeed before the one
+-- that fails, if one is to fail; and whether one has failed.
 pub record Giving : Type 0 where
   pub rest : List ℕ
   pub most : ℕ
   pub good_reads : Option ℕ
   pub has_failed : Bool
 
--- What a sink in memory is: the bytes that it took; how many a write takes at most; how many writes go well before the
--- one that fails, where one is to fail; whether a flush is to fail; whether a call has failed; whether all that was taken has
--- been flushed; and how often it was flushed.
+-- A sink in memory: the bytes that it took; the most that a write takes; the number of writes that succeed before the
+-- one that fails, if one is to fail; whether a flush is to fail; whether a call has failed; whether all taken bytes
+-- have been flushed; and how often it was flushed.
 pub record Taking : Type 0 where
   pub bytes : List ℕ
   pub most : ℕ
@@ -26,17 +26,17 @@ pub record Taking : Type 0 where
 abbrev pub sink_room : ℕ
 sink_room = 4_096
 
--- no good call is left before the one that fails
+-- no good call remains before the one that fails
 abbrev pub is_due : Option ℕ → Bool
 is_due None = false
 is_due (Some good) = good == 0
 
--- the good calls that are left after one of them
+-- the good calls that remain after one of them
 abbrev pub one_less : Option ℕ → Option ℕ
 one_less None = None
 one_less (Some good) = Some (good - 1)
 
--- how many bytes a good read gives to so much room
+-- how many bytes a good read gives for this much room
 abbrev pub read_len : Giving → ℕ → ℕ
 read_len s room = min s.most (min room (length s.rest))
 
@@ -44,6 +44,6 @@ read_len s room = min s.most (min room (length s.rest))
 abbrev pub write_len : Taking → List ℕ → ℕ
 write_len s bytes = min s.most (min (length bytes) (sink_room - length s.bytes))
 
--- a write fails where it is the one that is to fail, and where there are bytes and it can take none
+-- a write fails if it is the one that is to fail, or if there are bytes and it can take none
 abbrev pub write_fails : Taking → List ℕ → Bool
 write_fails s bytes = is_due s.good_writes || (not (length bytes == 0) && write_len s bytes == 0)

@@ -9,7 +9,7 @@ use Rattle.hcl_source.specs.declared.fault.Position.{Position}
 abbrev pub line_of : List ℕ → ℕ → ℕ
 line_of text at = 1 + count_by (λ b. b == 10) (take at text)
 
--- what stands between the start of the line and the offset
+-- the text between the start of the line and the offset
 abbrev pub line_before : List ℕ → ℕ → List ℕ
 line_before text at = after_last (λ b. b == 10) (take at text)
 

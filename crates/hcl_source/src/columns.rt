@@ -1,4 +1,4 @@
-//! How many columns a text takes.
+//! The number of columns of a text.
 
 ghost use Rattle.std.specs.Prelude.{◌≡◌, ◌≤◌, true, length};
 ghost use Rattle.unicode_segmentation.specs.Grapheme.{graphemes};
@@ -6,8 +6,8 @@ ghost use Rattle.hcl_source.specs.Simple.{is_simple as is_simple_of};
 
 use unicode_segmentation::UnicodeSegmentation;
 
-/// Whether the bytes are ASCII without CR, so that each is a grapheme cluster. All of them are looked at, whatever the
-/// first are, so that the loop can be vectorised.
+/// Whether the bytes are ASCII without CR, so that each is a grapheme cluster. The loop reads all of them, whatever the
+/// first ones are, so that it can be vectorised.
 pub fn is_simple(bytes: &[u8]) -> bool
     ensures { result ≡ is_simple_of bytes.now }
 {

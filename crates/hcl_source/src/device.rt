@@ -1,4 +1,4 @@
-//! What bytes come from and go to.
+//! Sources and sinks of bytes.
 
 ghost use Rattle.std.specs.Prelude.{◌≡◌, ℕ, ◌<◌, ◌≤◌, ◌+◌, Bool, true, false, List, Option, length, take, IfOk, IfErr, OnOk, OnErr, is_err};
 ghost use Rattle.std.specs.Io.KnownBytes.{Keeps, Appends, WriteAppends, Consumes, ReadConsumes, IsAtEnd};
@@ -15,16 +15,16 @@ use std::io::{Read, Write};
 #[derive(Clone, Copy, Debug, PartialEq, Eq)]
 pub struct Failed;
 
-/// What gives bytes.
+/// A source of bytes.
 pub trait ByteSource {
-    /// The bytes that are left, where the device tells them.
+    /// The remaining bytes, if the device tells them.
     ghost left: { Self → Option (List ℕ) };
 
     /// A call has failed.
     ghost failed: { Self → Bool };
 
-    /// Fills a part of the buffer from its front, and answers how many bytes came. 0 for a buffer
-    /// with room is the end of the input.
+    /// Fills a part of the buffer from its front, and returns how many bytes came. 0 for a buffer with room is the end
+    /// of the input.
     fn read(&mut self, buffer: &mut [u8]) -> Result<usize, Failed>
         requires { failed self.old ≡ false }
         ensures bound { ReadsAtMost result buffer.new }
@@ -36,7 +36,7 @@ pub trait ByteSource {
         ensures { result ≡ failed self.now };
 }
 
-/// How often a sink was flushed, as far as a run has to tell it.
+/// How often a sink was flushed, as precisely as a run needs it.
 #[derive(Clone, Copy, Debug, PartialEq, Eq)]
 pub enum Flushes {
     Never,
@@ -46,7 +46,7 @@ pub enum Flushes {
 }
 
 impl Flushes {
-    /// How often after one more flush.
+    /// The count after one more flush.
     pub fn one_more(self) -> Flushes
         ensures { result ≡ one_more self }
     {
@@ -57,22 +57,21 @@ impl Flushes {
     }
 }
 
-/// What takes bytes.
+/// A sink of bytes.
 pub trait ByteSink {
-    /// The bytes taken so far, where the device tells them.
+    /// The bytes taken so far, if the device tells them.
     ghost taken: { Self → Option (List ℕ) };
 
     /// A call has failed.
     ghost failed: { Self → Bool };
 
-    /// All that was taken has been flushed.
+    /// All taken bytes have been flushed.
     ghost flushed: { Self → Bool };
 
-    /// How often it was flushed. A flush that fails counts too.
+    /// How often it was flushed. A failed flush counts too.
     ghost flushes: { Self → Flushes };
 
-    /// Takes a part of the bytes from their front, and answers how many: at least one, where there
-    /// is one.
+    /// Takes a part of the bytes from their front, and returns how many: at least one, if there is one.
     fn write(&mut self, bytes: &[u8]) -> Result<usize, Failed>
         requires { failed self.old ≡ false }
         ensures bound { IfOk result (λ n. n ≤ length bytes.now) }
@@ -82,7 +81,7 @@ pub trait ByteSink {
         ensures pending { TookSome result → flushed self.new ≡ false }
         ensures flushes { flushes self.new ≡ flushes self.old };
 
-    /// Passes on what was taken and not yet passed on.
+    /// Passes on the bytes that were taken and not yet passed on.
     fn flush(&mut self) -> Result<(), Failed>
         requires { failed self.old ≡ false }
         ensures bytes { Keeps (taken self.old) (taken self.new) }
@@ -134,8 +133,8 @@ impl<R: Read + Drop> ByteSource for FromRead<R> {
     }
 }
 
-/// A writer of std as a device. Any error of the writer is a failed call, and so is a write that
-/// takes nothing of something.
+/// A writer of std as a device. Any error of the writer is a failed call, and so is a write that takes none of some
+/// bytes.
 #[derive(Debug, Drop)]
 pub struct ToWrite<W: Drop> {
     writer: W,
@@ -200,7 +199,7 @@ impl<W: Write + Drop> ByteSink for ToWrite<W> {
     }
 }
 
-/// A write failed after so many bytes went out.
+/// A write failed after this many bytes went out.
 #[derive(Clone, Copy, Debug, PartialEq, Eq)]
 pub struct WriteFault {
     pub written: u64,
@@ -239,7 +238,7 @@ pub(crate) enum ReadError {
     OutOfMemory,
 }
 
-/// What a source gives, up to its end or to one byte more than `limit`.
+/// The bytes that a source gives, up to its end or to one byte more than `limit`.
 pub(crate) fn read_up_to<R: ByteSource>(
     alloc: Global,
     source: &mut R,

@@ -1,4 +1,4 @@
-//! What a text is refused for, and where.
+//! Why a text is refused, and where.
 
 ghost use Rattle.std.specs.Prelude.{◌≡◌};
 ghost use Rattle.hcl_source.specs.FaultTexts.{fault_text};
@@ -34,18 +34,18 @@ pub enum FaultKind {
     UnterminatedTemplate,
     /// A backslash that begins no escape, at the backslash.
     InvalidEscape,
-    /// An opener where as many are open as may be, at the opener.
+    /// An opener beyond the limit of open ones, at the opener.
     TooDeep,
     /// A token that the grammar has no place for, at the token.
     UnexpectedToken,
-    /// The end of the text where the grammar wants more, at the end.
+    /// The end of the text where the grammar expects more, at the end.
     UnexpectedEnd,
     /// A formatted text of more than `MAX_SOURCE` bytes, at 1:1.
     ResultTooLarge,
 }
 
 impl FaultKind {
-    /// The words that messages say for it.
+    /// Its words in messages.
     pub fn text(self) -> &'static str
         ensures { result.now ≡ fault_text self }
     {

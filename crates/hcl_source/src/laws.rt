@@ -1,5 +1,4 @@
-//! What is proved of the definitions alone. No program needs these functions for what they do:
-//! their contracts are the laws.
+//! Laws of the definitions alone. No program needs these functions for their effect: their contracts are the laws.
 
 ghost use Rattle.std.specs.Prelude.{◌≡◌, ℕ, IfSome, IfNone, List};
 ghost use Rattle.hcl_source.specs.Load.{IsText, IsLoadFault};
@@ -18,8 +17,8 @@ pub fn fault_or_text()
     ensures { (bytes : List ℕ) (fault : Fault) → IsLoadFault bytes fault → ¬ IsText bytes }
 {}
 
-/// Bytes are a source, and are given as a text, or they have a load fault. The body shows it: it
-/// loads without a copy.
+/// Bytes are a source, and are returned as a text, or they have a load fault. The body shows it: it loads without a
+/// copy.
 pub fn text_or_fault(bytes: &[u8]) -> Option<&str>
     ensures text { IfSome result (λ text. (text.now ≡ bytes.now) × IsText bytes.now) }
     ensures fault { IfNone result ((fault : Fault) × IsLoadFault bytes.now fault) }

@@ -1,8 +1,8 @@
 //! The text of a file in HCL native syntax, and the places in it.
 //!
-//! Bytes from a [`ByteSource`] become a [`Source`], and what goes out again goes to a [`ByteSink`]
-//! by [`write_fully`]. The kinds of [`Fault`] are those of all layers above, so that each has its
-//! words in one place. The module [`laws`] holds what is proved of the definitions alone.
+//! Bytes from a [`ByteSource`] become a [`Source`], and [`write_fully`] writes output to a [`ByteSink`]. The kinds of
+//! [`Fault`] are those of all layers above, so that each has its words in one place. The module [`laws`] has laws of
+//! the definitions alone.
 #![tactic(auto)]
 
 mod columns;

@@ -1,9 +1,9 @@
-//! How many lines end in a text.
+//! The number of LFs in a text.
 
 ghost use Rattle.std.specs.Prelude.{◌≡◌, ◌≤◌, ◌==◌, length, count_by};
 
-/// How many bytes are counted at a time: a multiple of what a processor compares at once, and so few that a byte holds
-/// the count.
+/// How many bytes are counted at a time: a multiple of a processor's comparison width, and so few that a byte holds the
+/// count.
 const BLOCK: usize = 240;
 
 /// How many lines end in a block. Its count is a byte, so that the compiler adds many at a time.

@@ -1,4 +1,4 @@
-//! Devices in memory, for tests of what stands on devices.
+//! Devices in memory, for tests of code that runs over devices.
 
 ghost use Rattle.std.specs.Prelude.{◌≡◌, ◌<◌, ◌≤◌, ◌==◌, ◌&&◌, ◌++◌, [], Some, None, true, false, length, take, drop, IfOk, OnOk, OnErr, is_err};
 ghost use Rattle.hcl_source.specs.Devices.{one_more};
@@ -10,7 +10,7 @@ use std::marker::Model;
 /// The most bytes that a `MemorySink` takes.
 pub const SINK_ROOM: usize = 4_096;
 
-/// No good call is left before the one that fails.
+/// No good call remains before the one that fails.
 fn is_due(good: Option<usize>) -> bool
     ensures { result ≡ is_due good }
 {
@@ -20,7 +20,7 @@ fn is_due(good: Option<usize>) -> bool
     }
 }
 
-/// The good calls that are left after one of them.
+/// The good calls that remain after one of them.
 fn one_less(good: Option<usize>) -> Option<usize>
     ensures { result ≡ one_less good }
 {
@@ -30,8 +30,8 @@ fn one_less(good: Option<usize>) -> Option<usize>
     }
 }
 
-/// A source that gives at most so many bytes a call, and that fails at one call where it is told
-/// to. A call that fails moves nothing.
+/// A source that gives at most a set number of bytes per call, and can be set to fail at one call. A failed call moves
+/// nothing.
 #[derive(Debug, Drop)]
 pub struct MemorySource<'a> {
     rest: &'a [u8],
@@ -70,7 +70,7 @@ impl<'a> MemorySource<'a> {
         }
     }
 
-    /// The same source, but the read after so many fails.
+    /// This source, set to fail at the read after a number of reads.
     pub fn failing_after(self, reads: usize) -> Self
         ensures { result ≡ record self.entry { good_reads = Some reads } }
     {
@@ -82,7 +82,7 @@ impl<'a> MemorySource<'a> {
         }
     }
 
-    /// The bytes that are left.
+    /// The remaining bytes.
     pub fn rest(&self) -> &'a [u8]
         ensures { result.now ≡ self.now.rest }
     {
@@ -131,9 +131,9 @@ impl<'a> ByteSource for MemorySource<'a> {
     }
 }
 
-/// A sink with room for `SINK_ROOM` bytes, which doesn't grow. It takes at most so many bytes a
-/// call, and it fails where it can take none of some, at one write where it is told to, and at the
-/// first flush where it is told to. A call that fails moves nothing.
+/// A sink with room for `SINK_ROOM` bytes, which doesn't grow. It takes at most a set number of bytes per call. It
+/// fails if it can take none of some bytes, and it can be set to fail at one write and at the first flush. A failed
+/// call moves nothing.
 #[derive(Debug, Drop)]
 pub struct MemorySink {
     buffer: [u8; SINK_ROOM],
@@ -158,7 +158,7 @@ impl Model for MemorySink {
 }
 
 impl MemorySink {
-    /// An empty sink that fails only where it can take none of some bytes.
+    /// An empty sink that fails only if it can take none of some bytes.
     pub fn new(most: usize) -> Self
         ensures { result ≡ record {
           bytes = [];
@@ -182,7 +182,7 @@ impl MemorySink {
         }
     }
 
-    /// The same sink, but the write after so many fails.
+    /// This sink, set to fail at the write after a number of writes.
     pub fn failing_after(mut self, writes: usize) -> Self
         ensures { result ≡ record self { good_writes = Some writes } }
     {
@@ -190,7 +190,7 @@ impl MemorySink {
         self
     }
 
-    /// The same sink, but the first flush fails.
+    /// This sink, set to fail at the first flush.
     pub fn failing_flush(mut self) -> Self
         ensures { result ≡ record self { flush_fails = true } }
     {
@@ -198,7 +198,7 @@ impl MemorySink {
         self
     }
 
-    /// The bytes that were taken.
+    /// The bytes taken.
     pub fn bytes(&self) -> &[u8]
         ensures value { result.now ≡ self.now.bytes }
         ensures small { length result.now ≤ sink_room }
@@ -206,7 +206,7 @@ impl MemorySink {
         &self.buffer[..self.len]
     }
 
-    /// Whether all that was taken has been flushed.
+    /// Whether all taken bytes have been flushed.
     pub fn is_flushed(&self) -> bool
         ensures { result ≡ self.now.is_flushed }
     {
@@ -245,7 +245,7 @@ impl MemorySink {
         Ok(count)
     }
 
-    /// Flushes what was taken, or fails.
+    /// Flushes the bytes taken, or fails.
     pub fn hand_on(&mut self) -> Result<(), Failed>
         requires { self.old.has_failed ≡ false }
         ensures fails { is_err result ≡ self.old.flush_fails }

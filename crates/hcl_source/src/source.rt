@@ -36,7 +36,7 @@ impl Model for Source {
     ghost invariant = { λ s. IsText (string_bytes s.content) };
 }
 
-/// Where the last line of a text begins: after its last LF, or at 0.
+/// The start of the last line of a text: after its last LF, or at 0.
 fn line_start(bytes: &[u8]) -> usize
     ensures within { result ≤ length bytes.now }
     ensures start { drop result bytes.now ≡ after_last (λ b. b == 10) bytes.now }
@@ -107,7 +107,7 @@ pub(crate) fn load_fault(bytes: &[u8]) -> Option<Fault>
 }
 
 impl Source {
-    /// A copy of the bytes, where they are a source. It never answers `ReadFailed`.
+    /// A copy of the bytes, if they are a source. It never returns `ReadFailed`.
     pub fn from_bytes(alloc: Global, bytes: &[u8]) -> Result<Source, LoadError>
         ensures loaded { IfOk result (λ s. (s ≡ bytes.now) × IsText bytes.now) }
         ensures refused { IfErr result (IsLoadError bytes.now) }
@@ -121,8 +121,8 @@ impl Source {
         }
     }
 
-    /// What a device has left, where it is a source. It takes at most `MAX_SOURCE` + 1 bytes, and
-    /// answers `ReadFailed` exactly where a read failed.
+    /// The rest of a device's bytes, if they are a source. It takes at most `MAX_SOURCE` + 1 bytes, and returns
+    /// `ReadFailed` if and only if a read failed.
     pub fn read_from<R: ByteSource>(alloc: Global, from: &mut R) -> Result<Source, LoadError>
         requires { R.failed from.old ≡ false }
         ensures loaded { (bytes : List ℕ) × Consumes (R.left from.old) (R.left from.new) bytes

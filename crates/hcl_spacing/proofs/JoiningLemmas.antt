@@ -1,5 +1,5 @@
--- Neighbours that the scan's table says would join are parted by one blank: for each kind before, by what the spacing's
--- table says of the pair of kinds, or of what it asks after that kind.
+-- Neighbours that the scan's table says would join are separated by one blank: proved for each kind before, from the
+-- entry of the spacing's table for the pair of kinds, or from the tests that it makes after that kind.
 use Rattle.std.proofs.Common.{◌≡◌, ℕ, ◌&&◌, ◌||◌, ◌==◌, not, Bool, true, false, List, [], ◌∷◌, get_or, Option, Some, None, ◌⊎◌, inl, inr, refl, sym, ap, ◌∙◌, arith, codes}
 use Rattle.std.specs.Prelude.{nat_le}
 use Rattle.std.specs.Char.{is_ascii_digit}
@@ -21,7 +21,7 @@ use Rattle.hcl_spacing.specs.Inner.KindPairs.{asked_after, asked_space, pair_spa
 use Rattle.hcl_spacing.proofs.KindLemmas.{each, kinds, never}
 use Rattle.hcl_spacing.proofs.KindPairLemmas.{answered, by_kinds}
 
--- the kinds whose texts may go on one of this kind, by the first byte
+-- the kinds whose texts may extend one of this kind, by the first byte
 word_byte : (b : ℕ) → neighbours.grows kind.Ident b ≡ true → (may_begin_ident b ≡ true) ⊎ (is_ascii_digit b ≡ true) ⊎ ((b == 45) ≡ true)
 word_byte b h = by (is_ascii_digit b) (is_in_range 65 90 b) (is_in_range 97 122 b) (b == 95) (b == 45) (nat_le 128 b) h
   where
@@ -43,7 +43,7 @@ e_byte b h = by (is_ascii_digit b) refl h
     by true e k = inr e
     by false e k = inl (letter b k)
 
--- of two tests of a kind: where the one holds, so does the other; tried for all kinds
+-- whenever one test of a kind holds, so does another; tried for all kinds
 so : (P Q : Kind → Bool) → list_all (λ k. not (P k) || Q k) kinds ≡ true → (k : Kind) → P k ≡ true → Q k ≡ true
 so P Q tried k h = by (P k) h (each (λ k. not (P k) || Q k) tried k)
   where
@@ -51,12 +51,12 @@ so P Q tried k h = by (P k) h (each (λ k. not (P k) || Q k) tried k)
     by true e f = f
     by false e f = cc
 
--- the two kinds alone say that one blank stands between them
+-- the two kinds alone give one blank
 abbrev parts : Option Bool → Bool
 parts None = false
 parts (Some space) = space
 
--- or don't say that none does
+-- or at least don't give none
 abbrev may_part : Option Bool → Bool
 may_part None = true
 may_part (Some space) = space
@@ -117,7 +117,7 @@ module _ (before : Option Lexeme) (u t : Lexeme) (dot : Bool) (outside_all : t.i
   told k P tried e h =
       sym (by_kinds before u t outside_all) ∙ is_told (pair_space u.kind t.kind) (asked_space before u t) (ap (λ z. parts (pair_space z t.kind)) e ∙ so P (λ r. parts (pair_space k r)) tried t.kind h)
 
-  -- or where what is asked says so
+  -- or if the tests give one
   asked : (k : Kind) (P : Kind → Bool) → list_all (λ r. not (P r) || may_part (pair_space k r)) kinds ≡ true → u.kind ≡ k → P t.kind ≡ true → asked_after k before u t ≡ true → has_blank before u t ≡ true
   asked k P tried e h f =
       sym (by_kinds before u t outside_all)

@@ -1,4 +1,4 @@
--- What a test says of each kind in turn, it says of all kinds.
+-- A test that holds for each kind in turn holds for all kinds.
 use Rattle.std.proofs.Common.{◌≡◌, ◌&&◌, ℕ, zero, suc, Bool, true, false, List, [], ◌∷◌, length, get_or, arith, refl}
 use Rattle.std.specs.Prelude.{nat_lt}
 use Rattle.std.specs.List.{list_all}

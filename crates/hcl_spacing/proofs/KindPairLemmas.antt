@@ -1,4 +1,5 @@
--- The table of spacing by pairs of kinds is the table of spacing: tried for all pairs, with all answers of what is asked.
+-- The table of spacing by pairs of kinds is the table of spacing: tried for all pairs, with all results of the further
+-- tests.
 use Rattle.std.proofs.Common.{◌≡◌, ◌∙◌, ◌&&◌, ◌||◌, not, ℕ, Bool, true, false, List, [], Option, Some, None, ap, refl, sym}
 use Rattle.std.specs.Prelude.{codes, if◌then◌else◌, is_some}
 use Rattle.std.specs.List.{list_all}
@@ -12,7 +13,7 @@ use Rattle.hcl_spacing.specs.Inner.KindPairs.{asked_space, pair_space}
 use Rattle.hcl_tokens.proofs.BooleanLemmas.{and_true, not_true}
 use Rattle.hcl_spacing.proofs.KindLemmas.{each, kinds}
 
--- by the kinds, or else by what was asked
+-- by the kinds, or otherwise by the further tests
 abbrev pub answered : Option Bool → Bool → Bool
 answered None asked = asked
 answered (Some space) asked = space
@@ -29,7 +30,7 @@ same_is false false h = refl
 abbrev agrees : Option Lexeme → Lexeme → Lexeme → Bool
 agrees before subject after = same (answered (pair_space subject.kind after.kind) (asked_space before subject after)) (has_blank before subject after)
 
--- ---- samples: after each kind, tokens for both answers of what is asked of the texts and of what stands before
+-- ---- samples: after each kind, tokens for both results of the tests of the texts and of the token before
 abbrev sample : Kind → List ℕ → Lexeme
 sample k text = record { kind = k; text = text; start = 0; inside_heredoc = false }
 
@@ -132,7 +133,7 @@ every l r x y =
     (each (λ r. both (λ x. both (λ y. on_samples agrees l r x y)))
     (each (λ l. list_all (λ r. both (λ x. both (λ y. on_samples agrees l r x y))) kinds) tried l) r) x) y
 
--- outside heredocs, the table says of two tokens what their kinds give, or else what was asked
+-- outside heredocs, the table gives for two tokens the answer of their kinds, or otherwise that of the further tests
 pub by_kinds : (before : Option Lexeme) (subject after : Lexeme) → after.inside_heredoc ≡ false → answered (pair_space subject.kind after.kind) (asked_space before subject after) ≡ has_blank before subject after
 by_kinds before subject after e =
     same_is (answered (pair_space subject.kind after.kind) (asked_space before subject after)) (has_blank before subject after)
@@ -145,7 +146,7 @@ given space subject after e f before = sym (ap (λ o. answered o (asked_space be
 pub asked_is : (before : Option Lexeme) (subject after : Lexeme) → after.inside_heredoc ≡ false → pair_space subject.kind after.kind ≡ None → asked_space before subject after ≡ has_blank before subject after
 asked_is before subject after e f = sym (ap (λ o. answered o (asked_space before subject after)) f) ∙ by_kinds before subject after e
 
--- ---- where the kinds don't tell, one blank stands between some tokens of these kinds, and none between others
+-- ---- if the kinds don't decide, some tokens of these kinds have one blank between them, and others none
 abbrev parts : Kind → Kind → Bool
 parts l r = is_some (pair_space l r) || on_samples has_blank l r true (is kind.Ident l)
 

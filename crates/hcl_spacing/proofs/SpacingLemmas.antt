@@ -1,4 +1,4 @@
--- What rows of the spacing table give: none by the first row, and none where a template goes on.
+-- The answers of rows of the spacing table: none by the first row, and none where a template continues.
 use Rattle.std.proofs.Common.{◌≡◌, ◌||◌, Bool, true, false, Option, refl, ◌∙◌}
 use Rattle.hcl_tokens.specs.Lexemes.{Lexeme}
 use Rattle.hcl_tokens.specs.Regapped as regapped
@@ -13,7 +13,7 @@ use Rattle.hcl_spacing.specs.Spacing.{has_blank}
 pub row_one : (before : Option Lexeme) (u t : Lexeme) → (is kind.Newline t.kind || t.inside_heredoc) ≡ true → has_blank before u t ≡ false
 row_one before u t h = rw h refl
 
--- ---- rows 7 and 15: where a template goes on
+-- ---- rows 7 and 15: the continuation of a template
 abbrev of_kind : Kind → Lexeme → Lexeme
 of_kind k u = record { kind = k; text = u.text; start = u.start; inside_heredoc = u.inside_heredoc }
 

@@ -1,5 +1,5 @@
--- Whether one blank or none stands between two neighbours on a line: a table whose first row that fits decides.
--- Our own choice, in the style of `terraform fmt`.
+-- Whether there is one blank or none between two neighbours on a line: a table whose first row that fits decides. Our
+-- own choice, in the style of `terraform fmt`.
 use Rattle.std.specs.Prelude.{◌≡◌, ◌&&◌, ◌||◌, ◌==◌, ℕ, Bool, true, false, not, List, [], ◌∷◌, Option, Some, None, if◌then◌else◌, codes}
 use Rattle.std.specs.Str.{bytes_eq}
 use Rattle.hcl_tokens.specs.Lexemes.{Lexeme}
@@ -12,11 +12,11 @@ use Rattle.hcl_tokens.specs.Kinds.{is}
 abbrev pub opens_sequence : Kind → Bool
 opens_sequence k = is kind.InterpOpen k || is kind.ControlOpen k
 
--- what closes a paren, a bracket or a sequence
+-- the closer of a paren, a bracket or a sequence
 abbrev pub closes_group : Kind → Bool
 closes_group k = is kind.ParenClose k || is kind.BracketClose k || is kind.SeqClose k
 
--- what an index may follow
+-- the kinds that an index may follow
 abbrev pub ends_operand : Kind → Bool
 ends_operand k = is kind.Ident k || is kind.Number k || is kind.QuoteClose k || is kind.ParenClose k || is kind.BracketClose k || is kind.BraceClose k
 
@@ -47,8 +47,8 @@ abbrev pub is_opening : Option Lexeme → Bool
 is_opening None = true
 is_opening (Some t) = is_opener t.kind || is_operator t.kind || awaits_operand t.kind
 
--- neighbours that would be read as one token, or as others: of the pairs that the scan's table of neighbours names
--- (`Neighbours.joins` of `hcl_tokens`), those that a row further down would put together
+-- neighbours that would be read as one token, or as others: among the pairs in the scan's table of neighbours
+-- (`Neighbours.joins` of `hcl_tokens`), those that a later row would put together
 abbrev pub would_join : Option Lexeme → Lexeme → Lexeme → Bool
 would_join before subject after =
     (is kind.Dot subject.kind && (is kind.Dot after.kind || is kind.Ellipsis after.kind))
@@ -61,8 +61,8 @@ would_join before subject after =
 abbrev pub is_in : Option Lexeme → Lexeme → Bool
 is_in before subject = is kind.Ident subject.kind && bytes_eq subject.text (codes "in") && stands_before (is kind.Ident) before
 
--- THE TABLE: one blank between the subject and the token after it; `before` stands before the subject on its line. The
--- words in quotation marks are headings of docs/STYLE.md, where each row stands with examples.
+-- THE TABLE: one blank between the subject and the token after it; `before` is the token before the subject on its
+-- line. The words in quotation marks are headings of docs/STYLE.md, which has each row with examples.
 abbrev pub has_blank : Option Lexeme → Lexeme → Lexeme → Bool
 has_blank before subject after =
     -- "Blanks at the ends of lines" vanish, and "Heredocs" are kept byte for byte
@@ -74,16 +74,16 @@ has_blank before subject after =
     -- "Dots" and "Two colons": a name is one thing to its reader, and so is an attribute of it
     else if is kind.Dot subject.kind || is kind.Dot after.kind then false
     else if is kind.ColonColon subject.kind || is kind.ColonColon after.kind then false
-    -- "Commas" and `...` belong to what stands before them, and a comma parts it from what follows
+    -- "Commas" and `...` belong to the token before them, and a comma separates it from the next
     else if is kind.Comma after.kind || is kind.Ellipsis after.kind then false
     else if is kind.Comma subject.kind then true
-    -- "Quotes": what is added there would be text
+    -- "Quotes": a blank there would be text
     else if is kind.QuoteOpen subject.kind || is kind.Lit subject.kind || is kind.Lit after.kind || is kind.QuoteClose after.kind then false
     -- "`in`" is a word of its own, also before a bracket
     else if is_in before subject then true
-    -- "Indexes": a bracket hugs what it indexes
+    -- "Indexes": a bracket hugs the indexed value
     else if is kind.BracketOpen after.kind && ends_operand subject.kind then false
-    -- "Not" and "Minus" as a sign stand at their operand
+    -- "Not" and "Minus" as a sign hug their operand
     else if is kind.Not subject.kind then false
     else if is kind.Minus subject.kind then not (is_opening before)
     -- "Braces": a blank on the inner side of each, none in an empty pair; and since `${{` and `}}` read badly, one between a
@@ -91,14 +91,14 @@ has_blank before subject after =
     else if is kind.BraceOpen subject.kind && is kind.BraceClose after.kind then false
     else if is kind.BraceOpen subject.kind || is kind.BraceClose after.kind then true
     else if (opens_sequence subject.kind && is kind.BraceOpen after.kind) || (is kind.BraceClose subject.kind && is kind.SeqClose after.kind) then true
-    -- "Quotes": what is added between a sequence and the next would be text
+    -- "Quotes": a blank between a sequence and the next would be text
     else if is kind.SeqClose subject.kind && opens_sequence after.kind then false
-    -- "Brackets, parentheses" and sequences hug what they hold
+    -- "Brackets, parentheses" and sequences hug their contents
     else if is kind.ParenOpen subject.kind || is kind.BracketOpen subject.kind || opens_sequence subject.kind then false
-    -- "All else" has one blank, but for what a closer holds
+    -- "All else" has one blank, except inside a closer
     else not (closes_group after.kind)
 
--- two tokens of these kinds, outside heredocs, between which one blank stands, or none
+-- two tokens of these kinds, outside heredocs, with one blank between them, or none
 pub record Stand (blank : Bool) (subject after : Kind) : Type 0 where
   pub before : Option Lexeme
   pub first : Lexeme
@@ -108,7 +108,7 @@ pub record Stand (blank : Bool) (subject after : Kind) : Type 0 where
   pub outside : next.inside_heredoc ≡ false
   pub gives : has_blank before first next ≡ blank
 
--- the kinds of two neighbours don't tell the answer: between some such tokens stands one blank, and none between others
+-- the kinds of two neighbours don't decide: some such tokens have one blank between them, and others none
 pub record AreUntold (subject after : Kind) : Type 0 where
   pub parted : Stand true subject after
   pub together : Stand false subject after

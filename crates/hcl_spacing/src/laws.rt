@@ -1,4 +1,4 @@
-//! What is proved of the definitions alone. No program calls these functions: their contracts are the laws.
+//! Laws of the definitions alone. No program calls these functions: their contracts are the laws.
 
 ghost use Rattle.std.specs.Prelude.{◌≡◌, Option, false, true};
 ghost use Rattle.hcl_tokens.specs.Lexemes.{Lexeme};
@@ -9,7 +9,7 @@ ghost use Rattle.hcl_tokens.specs.Kinds.{is};
 ghost use Rattle.hcl_tokens.specs.declared.token.Kind.TheVariants.{Dot, Newline};
 ghost use Rattle.hcl_spacing.specs.Spacing.{has_blank, stands_before};
 
-/// Outside heredocs and templates neighbours are parted that a scan would read otherwise if they stood together.
+/// Outside heredocs and templates, neighbours are separated if a scan would read them differently side by side.
 pub fn parted()
     ensures { (before : Option Lexeme) (u t : Lexeme) → Beside u.kind t → t.inside_heredoc ≡ false
         → is_template t.kind ≡ false
@@ -17,7 +17,7 @@ pub fn parted()
         → has_blank before u t ≡ true }
 {}
 
-/// Nothing is added before a newline, inside a heredoc, and where a template goes on.
+/// Nothing is added before a newline, inside a heredoc, or where a template continues.
 pub fn kept()
     ensures newline { (before : Option Lexeme) (u t : Lexeme) → is Newline t.kind ≡ true
         → has_blank before u t ≡ false }

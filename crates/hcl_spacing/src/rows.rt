@@ -1,7 +1,7 @@
-//! The rows of the spacing: before which kinds one blank follows a kind. The words in quotation marks are headings of
-//! `docs/STYLE.md`, "Between two words of a line".
+//! The rows of the spacing: for each kind, the kinds that have one blank before them. The words in quotation marks are
+//! headings of `docs/STYLE.md`, "Between two words of a line".
 //!
-//! Nearly always two kinds tell their blank, and it is asked of every token: so a row is two sets of kinds, with a bit for
+//! Two kinds nearly always decide their blank, and every token needs it: so a row is two sets of kinds, with a bit for
 //! each kind, and a pair is looked up without a branch.
 ghost use Rattle.std.specs.Prelude.{◌≡◌, Option};
 ghost use Rattle.hcl_tokens.specs.declared.token.Kind.{Kind};
@@ -9,12 +9,12 @@ ghost use Rattle.hcl_spacing.specs.Inner.KindPairs.{has, pair_space, told};
 
 use hcl_tokens::Kind;
 
-/// What a kind tells of the kinds after it.
+/// The answers of a kind for the kinds after it.
 #[derive(Clone, Copy)]
 struct Row {
-    /// Before these stands one blank.
+    /// These have one blank before them.
     blank: u64,
-    /// Of these the texts have to be asked, or what stands before.
+    /// These need a look at the texts or at the token before.
     asked: u64,
 }
 
@@ -23,16 +23,16 @@ const NONE: u64 = 0;
 /// "Blanks at the ends of lines" vanish.
 const LINE_END: u64 = 1 << Kind::Newline as u64;
 
-/// By "Dots", "Two colons" and "Commas" these stand close after whatever they don't join.
+/// By "Dots", "Two colons" and "Commas" these have no blank before them, unless they would join.
 const MARKS: u64 = 1 << Kind::Dot as u64
     | 1 << Kind::ColonColon as u64
     | 1 << Kind::Comma as u64
     | 1 << Kind::Ellipsis as u64;
 
-/// So do these, by "Quotes".
+/// By "Quotes" neither do these.
 const CLOSE: u64 = MARKS | LINE_END | 1 << Kind::Lit as u64 | 1 << Kind::QuoteClose as u64;
 
-/// What closes a paren, a bracket or a sequence.
+/// The closers of a paren, a bracket or a sequence.
 const CLOSERS: u64 = 1 << Kind::ParenClose as u64 | 1 << Kind::BracketClose as u64 | SEQUENCE_END;
 
 const SEQUENCE_END: u64 = 1 << Kind::SeqClose as u64;
@@ -51,7 +51,7 @@ const DOT: u64 = 1 << Kind::Dot as u64;
 
 const DOTS: u64 = DOT | 1 << Kind::Ellipsis as u64;
 
-/// By "Indexes" `[` hugs what is indexed.
+/// By "Indexes" `[` hugs the indexed value.
 const AFTER_OPERAND: u64 = !(CLOSE | CLOSERS | BRACKET);
 
 #[inline(always)]
@@ -61,7 +61,7 @@ fn has(kinds: u64, kind: Kind) -> bool
     (kinds >> kind as u64) & 1 == 1
 }
 
-/// A row where the kinds tell all.
+/// A row in which the kinds always decide.
 #[inline(always)]
 fn telling(blank: u64) -> Row
     ensures { result ≡ record { blank = blank; asked = 0 } }
@@ -75,7 +75,7 @@ fn row_of(left: Kind) -> Row
     ensures { (right : Kind) → told result right ≡ pair_space left right }
 {
     match left {
-        // "Not", "Minus": a sign stands at its operand. What comes before tells a sign, and a `!` may not join a `=`
+        // "Not", "Minus": a sign hugs its operand. The token before shows a sign, and a `!` may not join a `=`
         Kind::Not => Row {
             blank: NONE,
             asked: !LINE_END,
@@ -89,23 +89,23 @@ fn row_of(left: Kind) -> Row
             blank: !(CLOSE | CLOSERS),
             asked: (CLOSE | CLOSERS) & !LINE_END,
         },
-        // "Quotes": what is added there would be text; "Two colons": a name is one thing to its reader
+        // "Quotes": a blank there would be text; "Two colons": a name is one thing to its reader
         Kind::QuoteOpen | Kind::Lit | Kind::ColonColon => telling(NONE),
         // "Dots": so are attributes of attributes; but two dots would be read as another mark
         Kind::Dot => telling(DOTS),
-        // "Commas": they part what follows them from the rest, but not from a comma or dots
+        // "Commas": they separate the token after them from the rest, but not from a comma or dots
         Kind::Comma => telling(!(MARKS | LINE_END)),
-        // "Brackets, parentheses": they hug what they hold; "Braces": a closing brace never does
+        // "Brackets, parentheses": they hug their contents; "Braces": a closing brace never does
         Kind::ParenOpen | Kind::BracketOpen => telling(BRACE_END),
         // "Braces": a blank on the inner side, and none in an empty pair
         Kind::BraceOpen => telling(!(CLOSE | BRACE_END)),
-        // "Brackets, parentheses": these hug what they hold; "Braces": but for a brace, since `${{` reads badly. By "A
+        // "Brackets, parentheses": these hug their contents; "Braces": except a brace, since `${{` reads badly. By "A
         // number and a dot" an opener would join the `~` of its closer
         Kind::InterpOpen | Kind::ControlOpen => Row {
             blank: BRACE | BRACE_END,
             asked: SEQUENCE_END,
         },
-        // "Quotes and templates": what is added between a sequence and the next would be text
+        // "Quotes and templates": a blank between a sequence and the next would be text
         Kind::SeqClose => telling(!(CLOSE | CLOSERS | SEQUENCES)),
         // "Braces": `}}` reads badly at the end of a template
         Kind::BraceClose => telling(AFTER_OPERAND | SEQUENCE_END),
@@ -114,19 +114,19 @@ fn row_of(left: Kind) -> Row
             blank: AFTER_OPERAND,
             asked: DOT,
         },
-        // "Calls": a name hugs its parenthesis. By "`in`" that word has a blank after it, while an index hugs a name, and a
-        // closer what it holds
+        // "Calls": a name hugs its parenthesis. By "`in`" that word has a blank after it, while an index hugs a name,
+        // and a closer its contents
         Kind::Ident => Row {
             blank: !(CLOSE | PAREN),
             asked: BRACKET | CLOSERS,
         },
         Kind::QuoteClose | Kind::ParenClose | Kind::BracketClose => telling(AFTER_OPERAND),
-        // "All else" has one blank, but before a closer and what stands close
+        // "All else" has one blank, except before a closer and before kinds without a blank before them
         _ => telling(!(CLOSE | CLOSERS)),
     }
 }
 
-/// What two kinds tell alone, outside heredocs.
+/// The answer of two kinds alone, outside heredocs.
 #[inline(always)]
 pub fn pair_space(left: Kind, right: Kind) -> Option<bool>
     ensures { result ≡ pair_space left right }

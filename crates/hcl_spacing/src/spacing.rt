@@ -1,5 +1,5 @@
-//! One blank or none between two neighbours on a line. The words in quotation marks are headings of `docs/STYLE.md`, "Between
-//! two words of a line", where each rule stands with its examples.
+//! One blank or none between two neighbours on a line. The words in quotation marks are headings of `docs/STYLE.md`,
+//! "Between two words of a line", which has each rule with its examples.
 ghost use Rattle.std.specs.Prelude.{◌≡◌, ◌||◌, ◌&&◌, not, Bool, IfNone, IfSome, IsTrue, Option, option_map, true};
 ghost use Rattle.hcl_tokens.specs.Lexemes.{Lexeme};
 ghost use Rattle.hcl_tokens.specs.Scanned.{lexeme};
@@ -65,8 +65,9 @@ fn is_opening(before: Option<Token<'_>>) -> bool
     is_opener(before.kind) || is_operator(before.kind) || awaits_operand(before.kind)
 }
 
-/// What the texts tell and the token before, where the kinds don't: whether a `!` would join `=`, a `:` another, a
-/// number a dot, or the opening of a sequence the `~` that closes it, whether a minus is a sign, and whether a name is the word `in`.
+/// The answer by the texts and the token before, if the kinds don't decide: whether a `!` would join `=`, a `:`
+/// another, a number a dot, or the opening of a sequence the `~` that closes it, whether a minus is a sign, and whether
+/// a name is the word `in`.
 #[inline(always)]
 fn asked_space(before: Option<Token<'_>>, subject: Token<'_>, after: Token<'_>) -> bool
     ensures { result ≡ asked_space (option_map lexeme before.entry) (lexeme subject.entry)
@@ -75,9 +76,9 @@ fn asked_space(before: Option<Token<'_>>, subject: Token<'_>, after: Token<'_>) 
     match subject.kind {
         // "Not" has no blank after it, unless the two would be read as `!=`
         Kind::Not => begins_with_equals(after.text),
-        // "All else": a `:` has none before what stands close, unless the two would be read as `::`
+        // "All else": a `:` has none before kinds without a blank before them, unless the two would be read as `::`
         Kind::Colon => begins_with_colon(after.text),
-        // "Minus" has none after it where it is a sign: where an expression begins
+        // "Minus" has none after it if it is a sign: at the start of an expression
         Kind::Minus => !is_opening(before),
         // "A number and a dot": after a dot the number is a step, and joins no other dot
         Kind::Number => !is_after_dot(before),
@@ -88,7 +89,7 @@ fn asked_space(before: Option<Token<'_>>, subject: Token<'_>, after: Token<'_>) 
     }
 }
 
-/// Whether a token is kept as it stands, whatever stands before it: "Heredocs" are, byte for byte.
+/// Whether a token is kept as it is, whatever is before it: "Heredocs" are, byte for byte.
 #[inline(always)]
 fn is_kept(after: Token<'_>) -> bool
     ensures inside { result ≡ after.entry.inside_heredoc }
@@ -98,7 +99,7 @@ fn is_kept(after: Token<'_>) -> bool
     after.inside_heredoc
 }
 
-/// What their kinds tell of two tokens, and else what has to be asked.
+/// The answer of two tokens' kinds, or the test that is needed.
 #[inline(always)]
 fn kinds_space(subject: Token<'_>, after: Token<'_>) -> Option<bool>
     ensures given { IfSome result (λ space. (before : Option Lexeme)
@@ -114,8 +115,8 @@ fn kinds_space(subject: Token<'_>, after: Token<'_>) -> Option<bool>
     pair_space(subject.kind, after.kind)
 }
 
-/// Whether one blank stands between the subject and the token after it, where their kinds tell that, whatever their
-/// texts are and whatever stands before them.
+/// Whether there is one blank between the subject and the token after it, if their kinds decide that, whatever their
+/// texts and the token before.
 #[inline(always)]
 pub fn space_by_kinds(subject: Token<'_>, after: Token<'_>) -> Option<bool>
     ensures told { IfSome result (λ space. (before : Option Lexeme)
@@ -125,8 +126,8 @@ pub fn space_by_kinds(subject: Token<'_>, after: Token<'_>) -> Option<bool>
     kinds_space(subject, after)
 }
 
-/// Whether one blank stands between the subject and the token after it on a line, or none. `before`
-/// is the token before the subject on that line, if there is one.
+/// Whether there is one blank between the subject and the token after it on a line, or none. `before` is the token
+/// before the subject on that line, if there is one.
 #[inline(always)]
 pub fn space_between(before: Option<Token<'_>>, subject: Token<'_>, after: Token<'_>) -> bool
     ensures { result ≡ has_blank (option_map lexeme before.entry) (lexeme subject.entry)

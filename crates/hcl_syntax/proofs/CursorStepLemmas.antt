@@ -28,7 +28,7 @@ pub run-row : (count : ℕ) (s : Symbol) (m : Newlines) (ss : List Marked) (t : 
 unfolding run
 run-row count s m ss t ts shown = ap (λ b. next (cond b (on count (s at m ∷ ss)) (row_effect count (row s m t) ss (effect count ss t) t)) (λ o rest. run o rest ts)) shown
 
--- a symbol that drops newlines passes over them
+-- a symbol that drops newlines skips them
 shown-by : (count : ℕ) (s : Symbol) (m : Newlines) (ss : List Marked) (t : Lookahead) (ts : List Lookahead) (b : Bool) → drops m t.class ≡ b →
     run count (s at m ∷ ss) ts ≡ run count (s at m ∷ ss) (shown m ts) →
     run count (s at m ∷ ss) (t ∷ ts) ≡ run count (s at m ∷ ss) (cond b (shown m ts) (t ∷ ts))
@@ -40,7 +40,7 @@ pub run-shown : (count : ℕ) (s : Symbol) (m : Newlines) (ss : List Marked) (ts
 run-shown count s m ss [] = refl
 run-shown count s m ss (t ∷ ts) = shown-by count s m ss t ts (drops m t.class) refl (run-shown count s m ss ts)
 
--- what stands first is not dropped
+-- the first symbol isn't dropped
 kept-by : (m : Newlines) (u : Lookahead) (us : List Lookahead) (t : Lookahead) (b : Bool) → drops m u.class ≡ b → (Some t ≡ first (shown m us) → drops m t.class ≡ false) → Some t ≡ first (cond b (shown m us) (u ∷ us)) → drops m t.class ≡ false
 kept-by m u us t true e h f = h f
 kept-by m u us t false e h f = let same : t ≡ u = cc in ap (λ x. drops m x.class) same ∙ e
@@ -106,16 +106,16 @@ pub onward : {A B : Type 0} {a : A} {count : ℕ} {xs ys zs : List Marked} {old 
     Advances count xs old (Ok a) ys mid → Advances count ys mid r zs new → Advances count xs old r zs new
 onward h k = record { same = λ after. h.same after ∙ k.same after }
 
--- The same with more after it.
+-- The two stretches with more after them.
 pub beside : {A : Type 0} {count : ℕ} {xs ys : List Marked} {old new : List Lookahead} {r : Result A Refusal} (zs : List Marked) →
     Advances count xs old r ys new → Advances count (xs ++ zs) old r (ys ++ zs) new
 beside {count = count} {xs = xs} {ys = ys} {old = old} {new = new} {r = r} zs h = record { same = λ after. ap (λ l. run count l old) (append_assoc xs zs after) ∙ h.same (zs ++ after) ∙ ap (λ l. outcome r (run count l new)) (sym (append_assoc ys zs after)) }
 
--- Newlines are passed over.
+-- Newlines are skipped.
 pub dropping : {A : Type 0} {a : A} {count : ℕ} {s : Symbol} {m : Newlines} {xs : List Marked} {old new : List Lookahead} → new ≡ shown m old → Advances count (s at m ∷ xs) old (Ok a) (s at m ∷ xs) new
 dropping {count = count} {s = s} {m = m} {xs = xs} shows = record { same = λ after. run-shown count s m (xs ++ after) _ ∙ ap (λ l. run count (s at m ∷ (xs ++ after)) l) (sym shows) }
 
--- What is left after a fault doesn't matter, nor what would have been returned.
+-- After a fault neither the remaining tokens nor the value that would have been returned matter.
 pub failed : {A B : Type 0} {count : ℕ} {xs ys zs : List Marked} {old mid new : List Lookahead} {f : Refusal} → Advances {A = A} count xs old (Err f) ys mid → Advances {A = B} count xs old (Err f) zs new
 failed h = record { same = h.same }
 
@@ -128,7 +128,7 @@ quits (Err e) q h = record { same = h.same }
 pub kept-refusal : {A : Type 0} {count : ℕ} {xs ys : List Marked} {old new : List Lookahead} {f g : Refusal} → g ≡ f → Advances {A = A} count xs old (Err f) ys new → Advances {A = A} count xs old (Err g) ys new
 kept-refusal e h = record { same = λ after. h.same after ∙ ap (λ x. Some x) (sym e) }
 
--- the same where no token is left
+-- the exit with a refusal, with no token left
 pub kept-refusal-end : {A : Type 0} {count : ℕ} {xs ys : List Marked} {old mid new : List Lookahead} {f g : Refusal} → g ≡ f → Advances {A = A} count xs old (Err f) ys mid → Advances {A = A} count xs old (Err g) ys new
 kept-refusal-end e h = record { same = λ after. h.same after ∙ ap (λ x. Some x) (sym e) }
 
@@ -183,7 +183,7 @@ pub begins : {A : Type 0} {count : ℕ} {s s' : Symbol} {m : Newlines} {ys zs : 
     ((t : Lookahead) → Some t ≡ first mid → row s m t ≡ (row s' m t then ys)) → mid ≡ shown m old → Advances count (s' at m ∷ ys) mid r zs new → Advances count (s at m ∷ []) old r zs new
 begins {count = count} {s = s} {s' = s'} {m = m} {ys = ys} {old = old} {mid = mid} e e' v f shows h = record { same = λ after. begins-at count s s' m ys after old mid e e' v f shows ∙ h.same after }
 
--- A symbol that another stands for.
+-- A symbol that is another name for one.
 alike-at : (count : ℕ) (s s' : Symbol) (m : Newlines) (after : List Marked) (old mid : List Lookahead) → ends s ≡ ends s' →
     ((t : Lookahead) → Some t ≡ first mid → row s m t ≡ row s' m t) → mid ≡ shown m old → run count (s at m ∷ after) old ≡ run count (s' at m ∷ after) mid
 unfolding run
@@ -277,7 +277,7 @@ end-quits (Err e) q h = record { same = h.same }
 pub end-kept-refusal : {A : Type 0} {count : ℕ} {xs : List Marked} {old new : List Lookahead} {f g : Refusal} → g ≡ f → Ends {A = A} count xs old (Err f) new → Ends {A = A} count xs old (Err g) new
 end-kept-refusal e h = record { same = λ after. h.same after ∙ ap (λ x. Some x) (sym e) }
 
--- the row by what the word does
+-- the row by the effect of the word
 by-turning : (e : Section) (m : Newlines) (p : ℕ) (k : Class) → section_directive_row e m p k ≡ turning_row (turning e k) e m p k
 by-turning InIf m p (Ident Else) = refl
 by-turning InIf m p (Ident Endif) = refl
@@ -397,7 +397,7 @@ pub group-plain : (m : Newlines) (c : Class) → fits Ellipses c ≡ false → g
 group-plain m Ellipsis h = cc
 group-plain m _ h = refl
 
--- Objects: a symbol that reads newlines and stays passes over them.
+-- Objects: a symbol that reads newlines and stays skips them.
 abbrev PassesNewlines : Symbol → Type 0
 PassesNewlines s = (t : Lookahead) → drops Dropped t.class ≡ true → row s Seen t ≡ reads (s at Seen ∷ [])
 
@@ -428,7 +428,7 @@ passes count s ss (t ∷ ts) p = passes-by count s ss t ts (drops Dropped t.clas
 pub passing : {A : Type 0} {a : A} {count : ℕ} {s : Symbol} {xs : List Marked} (old : List Lookahead) → PassesNewlines s → Advances count (s at Seen ∷ xs) old (Ok a) (s at Seen ∷ xs) (shown Dropped old)
 passing {count = count} {s = s} {xs = xs} old p = record { same = λ after. passes count s (xs ++ after) old p }
 
--- where all is seen, what is left is what was
+-- if everything is shown, the rest stays as it was
 seen-all : (l : List Lookahead) → shown Seen l ≡ l
 seen-all [] = refl
 seen-all (t ∷ ts) = refl

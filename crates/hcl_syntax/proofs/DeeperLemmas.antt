@@ -51,7 +51,7 @@ filter_short p (x ∷ xs) = by (p x) (filter_short p xs)
 pub body_short : (ts : List Numbered) → length (body ts) ≤ length ts
 body_short ts = omega (arith, filter_short (λ t. nat_lt (t.number + 1) (block_end ts)) (after_brace ts), after_short ts)
 
--- functions that agree on what is shorter than a piece give the same item of it
+-- functions that agree on everything shorter than a piece give the same item of it
 module _ (f g : List Numbered → List Item) (level : ℕ) where
   same_block : (kind : Numbered) (rest : List Numbered) → f (body rest) ≡ g (body rest) → block f level kind rest ≡ block g level kind rest
   same_block kind rest e = ap (λ inner. item.Block level kind.number (block_end rest) ∷ (labels rest ++ inner)) e

@@ -19,7 +19,7 @@ use Rattle.hcl_syntax.proofs.WordRangeLemmas.{words_none}
 abbrev pub taken : ℕ → ℕ → List Lexeme → List Numbered
 taken n k xs = without_comments (take k (numbered_from n xs))
 
--- the pieces after the first, which ends before so many tokens of so many
+-- the pieces after the first, which ends before this many of the tokens
 abbrev later : ℕ → ℕ → ℕ → List Lexeme → List (List Numbered)
 later m zero n xs = []
 later m (suc k) n [] = []
@@ -100,7 +100,7 @@ take_take (suc m) zero (x ∷ xs) = sym (ap (λ j. take j (x ∷ xs)) (min_zero 
     min_zero j = omega arith
 take_take (suc m) (suc k) (x ∷ xs) = let s : min (suc m) (suc k) ≡ suc (min m k) = omega arith in ap (λ r. x ∷ r) (take_take m k xs) ∙ ap (λ j. take j (x ∷ xs)) (sym s)
 
--- what a function that gives nothing of nothing makes of the later pieces
+-- the later pieces under a function that gives nothing for an empty list
 later_pieces : (f : List Numbered → List Item) → f [] ≡ [] → (m k n : ℕ) (xs : List Lexeme)
     → flat_map f (later m k n xs) ≡ flat_map f (pieces 0 (taken (n + m + 1) (k - m - 1) (drop (m + 1) xs)))
 later_pieces f none m zero n xs =

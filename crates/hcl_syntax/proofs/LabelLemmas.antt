@@ -18,7 +18,7 @@ comment_label n kind.LineComment rest e = refl
 comment_label n kind.InlineComment rest e = refl
 comment_label n _ rest e = absurd (true≢false (sym e))
 
--- what is put out, with the labels that are left, is all of them
+-- the labels so far, with the remaining ones, are all labels
 abbrev pub AreLabels : List Lexeme → ℕ → ℕ → List Item → List Item → ℕ → Type 0
 AreLabels ts from to old new n = new ++ labels (words ts n to) ≡ old ++ labels (words ts from to)
 

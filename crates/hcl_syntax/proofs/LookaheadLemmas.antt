@@ -14,7 +14,7 @@ pub length-lookaheads : (n : ℕ) (ts : List Lexeme) → length (lookaheads_from
 length-lookaheads n [] = omega arith
 length-lookaheads n (t ∷ ts) = elim (is_trivia (class_of t)) as (λ b. length (cond b (lookaheads_from (n + 1) ts) (record { class = class_of t; number = n } ∷ lookaheads_from (n + 1) ts)) ≤ length (t ∷ ts)) [ true ↦ omega (arith, length-lookaheads (n + 1) ts) | false ↦ omega (arith, length-lookaheads (n + 1) ts) ]
 
--- what stands at a number that is within the list
+-- the token at a number within the list
 pub at-number : (ts : List Lexeme) (n : ℕ) (t : Lexeme) (c : Class) → slice_get ts n ≡ Some t → c ≡ class_of t →
     lookaheads_from n (drop n ts) ≡ cond (is_trivia c) (lookaheads_from (n + 1) (drop (n + 1) ts)) (record { class = c; number = n } ∷ lookaheads_from (n + 1) (drop (n + 1) ts))
 at-number ts n t c e k =
@@ -40,9 +40,9 @@ shown-shown m (t ∷ ts) = shown-by m t ts (drops m t.class) refl (shown-shown m
 pub shown-again : (m : Newlines) (old new : List Lookahead) → new ≡ shown m old → new ≡ shown m new
 shown-again m old new e = e ∙ shown-shown m old ∙ ap (λ l. shown m l) (sym e)
 
--- ---- what follows the first token that is seen
+-- ---- the tokens after the first that is shown
 
--- a token stands at its number, and after it what is seen next
+-- a token at its number, and the next ones that are shown
 pub record Passes (all : List Lexeme) (t : Lookahead) (seen : List Lookahead) : Type 0 where
   pub within : t.number < length all
   pub after : lookaheads_from (t.number + 1) (drop (t.number + 1) all) ≡ after_first seen

@@ -14,7 +14,7 @@ use Rattle.hcl_syntax.proofs.WordRangeLemmas.{words_none}
 use Rattle.hcl_syntax.proofs.DeeperLemmas.{filter_short, items_more, items_at_pieces}
 use Rattle.hcl_syntax.proofs.FirstPieceLemmas.{first_piece}
 
--- what is put out, with the items of the pieces that are left, is all of them
+-- the items so far, with those of the remaining pieces, are all items
 pub record AreItems (ts : List Lexeme) (level from to : ℕ) (old new : List Item) (start : ℕ) : Type 0 where
   pub is : new ++ flat_map (item_of (items_at (level + 1)) level) (pieces 0 (words ts start to)) ≡ old ++ items_at level (words ts from to)
   pub from_on : from ≤ start

@@ -14,7 +14,7 @@ use Rattle.hcl_tokens.specs.declared.token.Nesting.TheVariants.{Opens, Closes, N
 use Rattle.hcl_syntax.specs.Inner.Pieces.{AreEnds, CanBegin, first_len, is_passed, leads, newline_from, AreNewlinesAhead}
 use Rattle.hcl_grammar.proofs.NumberedLemmas.{drop_at}
 
--- what a kind does to the depth
+-- the effect of a kind on the depth
 pub record Moves (k : Kind) (newline : Bool) (move : ℕ → ℕ) : Type 0 where
   pub newline_is : is kind.Newline k ≡ newline
   pub moves : (depth : ℕ) → deepen depth k ≡ move depth
@@ -60,11 +60,11 @@ at_other kind.BraceClose e = absurd (cc)
 at_other kind.SeqClose e = absurd (cc)
 at_other _ e = record { newline_is = refl; moves = flat }
 
--- what neither is a newline nor opens or closes anything is passed over
+-- a token that neither is a newline nor opens or closes anything is skipped
 pub passed_is : (k other : Kind) → k ≡ other → is kind.Newline k ≡ false → nesting k ≡ Neither → is_passed other ≡ true
 passed_is k other same plain neither = ap is_passed (sym same) ∙ rw (plain, neither) refl
 
--- what the two tests say of a kind
+-- the meaning of the two tests of a kind
 pub opens_is : (n : Nesting) → is_opens n ≡ true → n ≡ Opens
 opens_is Opens e = refl
 opens_is _ e = absurd (cc)
@@ -128,7 +128,7 @@ module _ (ts : List Lexeme) (n : ℕ) (t : Lexeme) (e : slice_get ts n ≡ Some 
       by zero = sym (from_newline m.newline_is)
       by (suc k) = popped k (length ts) ∙ h (suc k) ∙ sym (from_deeper k m.newline_is (m.moves (suc k)))
 
--- ---- the newlines ahead, of which the first is apart from the rest
+-- ---- the newlines ahead, with the first apart from the rest
 
 pub last_after : (rest : List ℕ) (top d c : ℕ) → get_or (reverse (rest ++ top ∷ [])) (suc d) c ≡ get_or (reverse rest) d c
 last_after rest top d c = ap (λ r. get_or r (suc d) c) (reverse-append rest (top ∷ []))
@@ -140,7 +140,7 @@ module _ (ts : List Lexeme) (n : ℕ) (t : Lexeme) (e : slice_get ts n ≡ Some 
   pub top_newline : is kind.Newline t.kind ≡ true → AreNewlinesAhead ts (rest ++ top ∷ []) (n + 1) → AreNewlinesAhead ts (rest ++ n ∷ []) n
   top_newline is = newline ts n t e (rest ++ top ∷ []) rest (rest ++ n ∷ []) is (λ d c. sym (last_after rest top d c)) refl
 
-  -- what neither opens nor closes anything
+  -- a token that neither opens nor closes anything
   pub top_flat : (next : ℕ) → nesting t.kind ≡ Neither → next ≡ cond (is kind.Newline t.kind) n top → AreNewlinesAhead ts (rest ++ top ∷ []) (n + 1) → AreNewlinesAhead ts (rest ++ next ∷ []) n
   top_flat next neither chosen h = by (is kind.Newline t.kind) refl
     where
@@ -190,7 +190,7 @@ starts_filled ts count ends is made = record {
     none zero = is
     none (suc d) = refl
 
--- after each the number is put into the table
+-- after each token its number is put into the table
 pub fills : (ts : List Lexeme) (old new before ahead : List ℕ) (last n x : ℕ) → last ≡ n + 1 → n < length ts → AreNewlinesAhead ts ahead n → x ≡ get_or (reverse before) 0 (length ts) → new ≡ set old (n + 1) x
     → IsFilled ts old before last → IsFilled ts new ahead n
 fills ts old new before ahead last n x at less next top is h = record {
@@ -208,7 +208,7 @@ fills ts old new before ahead last n x at less next top is h = record {
         ap (λ k. get_or (set old (n + 1) x) k 0) e ∙ get_or-set_same old (n + 1) x 0 here ∙ top ∙ h.newlines_ahead 0 ∙ ap (λ k. newline_from ts 0 k) (at ∙ sym e)
     by i from below begins (inr ne) = get_or-set_other old (n + 1) i x 0 ne ∙ h.each i (omega (arith, at, from, ne)) below begins
 
--- and at last for the first
+-- and finally for the first
 pub filled : (ts : List Lexeme) (old ends ahead : List ℕ) (n x : ℕ) → n ≤ 0 → x ≡ get_or (reverse ahead) 0 (length ts) → ends ≡ set old 0 x → IsFilled ts old ahead n → AreEnds ts ends
 filled ts old ends ahead n x none top is h = record {
   len = ap length is ∙ length-set old 0 x ∙ h.len;
@@ -262,7 +262,7 @@ brace_leads _ e = absurd (true≢false (sym e))
 pub first_begins : (ts : List Lexeme) → CanBegin ts 0
 first_begins ts = λ n t e _. absurd (omega (arith, e))
 
--- after the end of a piece, before that of the tokens that are looked at
+-- after the end of a piece, before that of the current tokens
 pub next_begins : (ts : List Lexeme) (start to end : ℕ) → end ≡ min (newline_from ts 0 start) to → end < to → CanBegin ts (end + 1)
 next_begins ts start to end is less = λ n t e here.
     let same : n ≡ start + first_len 0 (drop start ts) = omega (arith, is, less, e) in

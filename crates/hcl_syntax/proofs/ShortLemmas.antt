@@ -13,7 +13,7 @@ use Rattle.hcl_syntax.specs.Inner.Cursors.{shown, Looks}
 use Rattle.hcl_syntax.specs.Inner.ShortOperands.{ends_expression, is_short_operand, is_opening_quote, is_dot, is_identifier, is_quoted, ExpressionEnds, AreSteps, IsQuoted, IsOperand}
 use Rattle.hcl_syntax.proofs.CursorStepLemmas.{reading, vanishing, onward, beside, done}
 
--- what the rows say of a token that ends an expression
+-- the rows for a token that ends an expression
 record Ends (m : Newlines) (k : Class) : Type 0 where
   pub kept : drops m k ≡ false
   pub seen : is_trivia k ≡ false
@@ -44,11 +44,11 @@ ended Dropped Ellipsis h = record { kept = refl; seen = refl; after_ident = refl
 ended Seen _ h = absurd (cc)
 ended Dropped _ h = absurd (cc)
 
--- what the grammar sees where a number's token is no trivia
+-- what the grammar sees at a number's token that isn't trivia
 seen_there : (l rest : List Lookahead) (t : Lookahead) (b : Bool) → b ≡ false → l ≡ cond b rest (t ∷ rest) → l ≡ t ∷ rest
 seen_there l rest t b untold is = is ∙ ap (λ v. cond v rest (t ∷ rest)) untold
 
--- a token that is first, and is no newline that is dropped
+-- a first token that isn't a dropped newline
 looked : (m : Newlines) (old left : List Lookahead) (t : Lookahead) → old ≡ t ∷ left → drops m t.class ≡ false → Looks m old t left
 looked m old left t is shows = record { is = ap (shown m) is ∙ ap (λ v. cond v (shown m left) (t ∷ left)) shows; kept = shows }
 
@@ -68,9 +68,9 @@ no_steps l = record {
   shorter = omega arith;
 }
 
--- ---- tokens that stand one after another
+-- ---- adjacent tokens
 
--- no newline, and none of what is passed over
+-- no newline, and no token that is skipped
 abbrev is_plain : Class → Bool
 is_plain (Ident w) = true
 is_plain (Number d) = true
@@ -176,11 +176,11 @@ module _ (t u : Lookahead) (old rest left : List Lookahead) (first : SeenFrom t 
   pub quoted_rest : is_quoted t.class u.class ≡ true → IsQuoted old left
   quoted_rest h = quoted_by t.class u.class refl refl h
 
--- what holds of an answer, if there is one, by what is said of it
+-- a property of an answer, if there is one
 pub if_some : (r : Option ℕ) (P Q : ℕ → Type 0) → ((n : ℕ) → P n → Q n) → IfSome r P → IfSome r Q
 if_some None P Q h p = tt
 if_some (Some n) P Q h p = h n p
 
--- what ends an expression stands at a number
+-- the token that ends an expression has a number
 pub expression_ends : (m : Newlines) (u : Lookahead) (left more : List Lookahead) → SeenFrom u left more → ends_expression m u.class ≡ true → ExpressionEnds m left
 expression_ends m u left more seen ends = record { token = u; more = more; is = seen_there left more u _ (ended m u.class ends).seen seen; ends = ends }

@@ -1,4 +1,4 @@
--- What is looked for among tokens without comments, from both ends.
+-- Searches among tokens without comments, from both ends.
 use Rattle.std.proofs.Common.{◌≡◌, ◌∙◌, ap, sym, refl, true≢false, ℕ, ◌+◌, ◌<◌, ◌≤◌, Bool, true, false, cond, not, List, [], ◌∷◌, ◌++◌, arith, subst}
 use Rattle.std.specs.Prelude.{Some, slice_get, filter}
 use Rattle.std.proofs.lemmas.List.Elements.{filter-append}
@@ -53,12 +53,12 @@ end_of-last (x ∷ y ∷ xs) t = end_of-last (y ∷ xs) t
 abbrev closes : Numbered → Bool
 closes t = is kind.BraceClose t.kind
 
--- up to the end and no further: what is after has no closing brace
+-- up to the end and no further: the tokens after it have no closing brace
 pub record NoClose (ts : List Lexeme) (end to : ℕ) : Type 0 where
   pub none : filter closes (words ts end to) ≡ []
   pub within : end ≤ to
 
--- and no word
+-- and no word either
 pub record NoWord (ts : List Lexeme) (end to : ℕ) : Type 0 where
   pub none : words ts end to ≡ []
   pub within : end ≤ to

@@ -9,7 +9,7 @@ use crate::cursor::Cursor;
 use hcl_grammar::{Accepted, Refusal};
 use hcl_tokens::{Fault, FaultKind, Position, Tokens};
 
-/// Where the token of this number begins.
+/// The offset of the token of this number.
 fn position_of(tokens: &Tokens, number: usize) -> Position
     requires { number < length tokens.now.tokens }
     ensures { result ≡ place tokens.now.text (start_of tokens.now.tokens number) }
@@ -26,7 +26,7 @@ fn end_position(tokens: &Tokens) -> Position
     source.position(source.text().len())
 }
 
-/// What a refusal of the tokens is reported as.
+/// The fault for a refusal of the tokens.
 fn fault_at(tokens: &Tokens, refusal: Refusal) -> Fault
     requires { Names refusal (length tokens.now.tokens) }
     ensures { result ≡ fault_at tokens.now refusal }
@@ -47,9 +47,9 @@ fn fault_at(tokens: &Tokens, refusal: Refusal) -> Fault
     }
 }
 
-/// The tokens again, where they are a file, and else the one fault of the grammar: `UnexpectedToken` at the first token
-/// that can't come where it stands, `UnexpectedEnd` at the end of the text, or `TooDeep` at the `%{` of the first
-/// directive past as many open ones as may be. It takes no memory, and time linear in the tokens.
+/// The tokens, if they are a file, and otherwise the one fault of the grammar: `UnexpectedToken` at the first token
+/// that the grammar has no place for, `UnexpectedEnd` at the end of the text, or `TooDeep` at the `%{` of the first
+/// directive beyond the limit of open ones. It allocates nothing, and takes time linear in the tokens.
 #[inline(never)]
 pub fn accepts<'t, 's>(tokens: &'t Tokens<'s>) -> Result<Accepted<'t, 's>, Fault>
     ensures { result ≡ verdict tokens.now }

@@ -1,4 +1,4 @@
-//! What the grammar sees of a token, found.
+//! The lookahead of a token.
 
 ghost use Rattle.std.specs.Prelude.{◌≡◌, ◌<◌, ◌+◌, ◌∷◌, length, drop, if◌then◌else◌};
 ghost use Rattle.std.specs.Char.{is_ascii_digit};
@@ -29,7 +29,7 @@ fn is_digits(text: &str) -> bool
     text.as_bytes().iter().all(|b| b.is_ascii_digit())
 }
 
-/// What is not named here stands between two operands alone; the definition names it kind by kind.
+/// All other kinds are only between two operands; the definition names them kind by kind.
 #[inline(always)]
 fn class_at(kind: Kind, text: &str) -> Class
     ensures { result ≡ class_at kind text.now }
@@ -79,7 +79,7 @@ fn narrow(tokens: &Tokens, number: usize) -> u32
     number as u32
 }
 
-/// What the grammar sees of the token of this number.
+/// The lookahead of the token of this number.
 #[inline(always)]
 pub fn lookahead_at(tokens: &Tokens, number: usize) -> Lookahead
     requires { number < length tokens.now.tokens }

@@ -1,4 +1,4 @@
-//! A place in a token list, and the single tokens that are waited for there.
+//! A position in a token list, and the single tokens that are expected there.
 
 ghost use Rattle.std.specs.Prelude.{◌≡◌, ◌+◌, ◌<◌, ◌≤◌, ◌^◌, ℕ, [], ◌∷◌, ◌++◌, drop, length, Some, None, Ok, IsSome, OnOk, false};
 ghost use Rattle.std.specs.Bool.{OnTrue, OnFalse};
@@ -14,10 +14,10 @@ use hcl_grammar::{Class, Lookahead, Newlines, Refusal, Terminal, Word};
 use hcl_tokens::Tokens;
 use std::marker::Model;
 
-/// The tokens from some number on, as the grammar sees them, and the refusal that was met last. It is kept here and not
-/// handed on from call to call, so that a result is one byte, which comes back in a register. How many tokens there are is
-/// kept too, since the list's own length is read again after each step: a step might write over it, for all the compiler
-/// knows.
+/// The tokens from some number on, as the grammar sees them, and the last refusal. It is kept here and not passed from
+/// call to call, so that a result is one byte, which comes back in a register. The number of tokens is kept too, since
+/// otherwise the list's own length is read again after each step: for all the compiler knows, a step might overwrite
+/// it.
 #[derive(Drop)]
 pub struct Cursor<'t, 's> {
     tokens: &'t Tokens<'s>,
@@ -38,7 +38,7 @@ impl<'t, 's> Model for Cursor<'t, 's> {
     ghost invariant = { λ c. (c.next ≤ c.count) × (c.count ≡ length c.tokens.now.tokens) };
 }
 
-/// Whether the grammar sees a token of the class, where a Newline is seen or dropped.
+/// Whether the grammar sees a token of the class, given whether newlines are shown or dropped.
 #[inline(always)]
 fn is_shown(newlines: Newlines, class: Class) -> bool
     ensures { result ≡ is_shown newlines class }
@@ -50,7 +50,7 @@ fn is_shown(newlines: Newlines, class: Class) -> bool
     }
 }
 
-/// Whether a token of the class is what the terminal waits for.
+/// Whether a token of the class is the one that the terminal expects.
 #[inline(always)]
 fn fits(terminal: Terminal, class: Class) -> bool
     ensures { result ≡ fits terminal class }
@@ -76,7 +76,7 @@ fn fits(terminal: Terminal, class: Class) -> bool
     }
 }
 
-/// The number of the first token that is shown, from a number on, or how many tokens there are, and the token.
+/// The number of the first token that is shown, from a number on, and the token; or the number of tokens.
 #[inline(always)]
 fn find(
     tokens: &Tokens,
@@ -124,7 +124,7 @@ impl<'t, 's> Cursor<'t, 's> {
         Refused
     }
 
-    /// The refusal that was met last.
+    /// The last refusal.
     pub fn refusal(&self) -> Refusal
         ensures { result ≡ self.now.refusal }
     {
@@ -138,8 +138,8 @@ impl<'t, 's> Cursor<'t, 's> {
         let _count = self.tokens.len();
     }
 
-    /// The first token, past newlines where these are dropped. It is inlined, so that a caller that asks for no word
-    /// compares none.
+    /// The first token, past newlines if these are dropped. It is inlined, so that a caller that needs no word compares
+    /// none.
     #[inline(always)]
     pub fn look(&mut self, newlines: Newlines) -> Option<Lookahead>
         ensures left { self.new.left ≡ shown newlines self.old.left }
@@ -151,7 +151,7 @@ impl<'t, 's> Cursor<'t, 's> {
         token
     }
 
-    /// Passes over the first token, which was looked at. It is inlined, as `look` is.
+    /// Skips the first token, which was looked at. It is inlined, as `look` is.
     #[inline(always)]
     pub fn bump(&mut self, token: Lookahead)
         requires { first self.old.left ≡ Some token }
@@ -162,14 +162,15 @@ impl<'t, 's> Cursor<'t, 's> {
         self.next = token.number as usize + 1;
     }
 
-    /// Reads an expression that is one short operand, where the token after it tells that it ends there, as in most places:
+    /// Reads an expression that is one short operand, if the token after it shows that it ends there, as it mostly
+    /// does:
     ///
     /// ```text
     /// count = var.replicas
     ///         ~~~~~~~~~~~~ and after it a newline
     /// ```
     ///
-    /// False says only that these tokens don't tell it. No token is looked at here for more than two expressions.
+    /// False means only that these tokens don't show it. This looks at no token for more than two expressions.
     #[inline(always)]
     pub fn takes_short(&mut self, newlines: Newlines) -> bool
         ensures yes { OnTrue result ((count : ℕ)
@@ -191,7 +192,7 @@ impl<'t, 's> Cursor<'t, 's> {
         true
     }
 
-    /// Reads the next token, which has to be what the terminal waits for. It is inlined, as `look` is.
+    /// Reads the next token, which has to be the one that the terminal expects. It is inlined, as `look` is.
     #[inline(always)]
     pub fn expect(&mut self, newlines: Newlines, terminal: Terminal) -> Result<(), Refused>
         ensures parses { (count : ℕ) → Parses count (the terminal at newlines ∷ []) self.old.left
@@ -209,7 +210,7 @@ impl<'t, 's> Cursor<'t, 's> {
         }
     }
 
-    /// Reads the next token where it is what the terminal waits for. It is inlined, as `look` is.
+    /// Reads the next token if it is the one that the terminal expects. It is inlined, as `look` is.
     #[inline(always)]
     pub fn takes(&mut self, newlines: Newlines, terminal: Terminal) -> bool
         ensures yes { OnTrue result (TookTerminal newlines terminal self.old.left self.new.left) }

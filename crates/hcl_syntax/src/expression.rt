@@ -1,5 +1,5 @@
 //! Expressions. The functions of the cycle call each other only after an opener or in an open directive, so the depth
-//! of the recursion is bounded; all that can be chained without an opener is a loop with a count.
+//! of the recursion is bounded; everything that can be chained without an opener is a loop with a count.
 
 ghost use Rattle.std.specs.Prelude.{◌≡◌, ◌+◌, ◌<◌, ◌≤◌, ◌^◌, ℕ, List, [], ◌∷◌, ◌++◌, length, Some, None, Ok, OnOk, IfOk, IfSome, true, false};
 ghost use Rattle.std.specs.Bool.{OnTrue, OnFalse};
@@ -14,7 +14,7 @@ use crate::expected::{Follow, Refused};
 use hcl_grammar::{Class, Lookahead, Newlines, Refusal, Terminal};
 
 impl<'t, 's> Cursor<'t, 's> {
-    /// Passes over the signs before an operand, and looks at the token after them.
+    /// Skips the signs before an operand, and looks at the token after them.
     fn start(&mut self, newlines: Newlines) -> Option<Lookahead>
         ensures leads { (count : ℕ) → Advances count (expr at newlines ∷ []) self.old.left
             (Ok (tt {0})) (expr at newlines ∷ []) self.new.left }
@@ -79,7 +79,7 @@ impl<'t, 's> Cursor<'t, 's> {
         }
     }
 
-    /// What may follow an identifier.
+    /// The tokens that may follow an identifier.
     #[cycle(parser)]
     #[inline(always)]
     fn call(&mut self, newlines: Newlines, directives: usize) -> Result<(), Refused>
@@ -128,7 +128,7 @@ impl<'t, 's> Cursor<'t, 's> {
         }
     }
 
-    /// What follows an operand, up to where another operand has to stand.
+    /// The tokens after an operand, up to the next expected operand.
     #[cycle(parser)]
     #[inline(always)]
     fn follow(&mut self, newlines: Newlines, directives: usize) -> Result<Follow, Refused>
@@ -179,7 +179,7 @@ impl<'t, 's> Cursor<'t, 's> {
         self.expect(Newlines::Dropped, Terminal::EndBracket)
     }
 
-    /// An expression, with so many directives open. It is inlined, so that for a short operand nothing is called.
+    /// An expression, with a number of open directives. It is inlined, so that a short operand makes no call.
     #[cycle(parser)]
     #[inline(always)]
     pub fn expr(&mut self, newlines: Newlines, directives: usize) -> Result<(), Refused>
@@ -193,7 +193,7 @@ impl<'t, 's> Cursor<'t, 's> {
         self.whole_expr(newlines, directives)
     }
 
-    /// An expression of any length. How many `?` in it wait for their `:` is counted.
+    /// An expression of any length. It counts the `?` that still need their `:`.
     #[cycle(parser)]
     #[inline(never)]
     fn whole_expr(&mut self, newlines: Newlines, directives: usize) -> Result<(), Refused>
@@ -288,7 +288,7 @@ impl<'t, 's> Cursor<'t, 's> {
         }
     }
 
-    /// The names of a for-expression, what it goes over, and its first result.
+    /// The names of a for-expression, its collection, and its first result.
     #[cycle(parser)]
     fn generator(&mut self, directives: usize) -> Result<(), Refused>
         ensures parses { Parses directives
@@ -301,7 +301,7 @@ impl<'t, 's> Cursor<'t, 's> {
         self.expr(Newlines::Dropped, directives)
     }
 
-    /// The condition of a for-expression in brackets, where it has one, and the closing bracket.
+    /// The condition of a for-expression in brackets, if it has one, and the closing bracket.
     #[cycle(parser)]
     fn tuple_condition(&mut self, directives: usize) -> Result<(), Refused>
         ensures parses { Parses directives (tuple_if at Dropped ∷ []) self.old.left
@@ -380,7 +380,7 @@ impl<'t, 's> Cursor<'t, 's> {
         self.object_condition(directives)
     }
 
-    /// The `...` of a for-expression in braces, where it has one.
+    /// The `...` of a for-expression in braces, if it has one.
     fn grouping(&mut self)
         ensures leads { (count : ℕ) → Advances count (group at Dropped ∷ []) self.old.left
             (Ok (tt {0})) (object_if at Dropped ∷ []) self.new.left }
@@ -391,7 +391,7 @@ impl<'t, 's> Cursor<'t, 's> {
         }
     }
 
-    /// The condition of a for-expression in braces, where it has one, and the closing brace.
+    /// The condition of a for-expression in braces, if it has one, and the closing brace.
     #[cycle(parser)]
     fn object_condition(&mut self, directives: usize) -> Result<(), Refused>
         ensures parses { Parses directives (object_if at Dropped ∷ []) self.old.left
@@ -416,7 +416,7 @@ impl<'t, 's> Cursor<'t, 's> {
         self.more_names()
     }
 
-    /// What follows the first name of a `for`.
+    /// The tokens after the first name of a `for`.
     fn more_names(&mut self) -> Result<(), Refused>
         ensures parses { (count : ℕ) → Parses count (names at Dropped ∷ []) self.old.left
             (said result self.new.refusal) self.new.left }
@@ -430,7 +430,7 @@ impl<'t, 's> Cursor<'t, 's> {
         self.expect(Newlines::Dropped, Terminal::InWord)
     }
 
-    /// What follows a dot.
+    /// The token after a dot.
     #[inline(always)]
     pub fn step(&mut self, newlines: Newlines) -> Result<(), Refused>
         ensures parses { (count : ℕ) → Parses count (step at newlines ∷ []) self.old.left
@@ -455,7 +455,7 @@ impl<'t, 's> Cursor<'t, 's> {
         }
     }
 
-    /// What parts a key of an object from its value.
+    /// The separator between a key of an object and its value.
     pub fn separator(&mut self) -> Result<(), Refused>
         ensures parses { (count : ℕ) → Parses count (separator at Seen ∷ []) self.old.left
             (said result self.new.refusal) self.new.left }

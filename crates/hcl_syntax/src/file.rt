@@ -58,7 +58,7 @@ impl<'t, 's> Cursor<'t, 's> {
         }
     }
 
-    /// What follows a block's opening brace. The answer is whether its body goes on over lines.
+    /// The token after a block's opening brace. Returns whether its body continues over lines.
     fn block(&mut self) -> Result<bool, Refused>
         ensures leads { Advances 0 (start at Seen ∷ []) self.old.left (said result self.new.refusal)
             (after_item result) self.new.left }
@@ -114,7 +114,7 @@ impl<'t, 's> Cursor<'t, 's> {
         self.block()
     }
 
-    /// A file. Of the blocks that are open it keeps the number.
+    /// A file. It keeps the number of open blocks.
     pub fn file(&mut self) -> Result<(), Refused>
         ensures { run 0 (file at Seen ∷ []) self.old.left
             ≡ outcome (said result self.new.refusal) None }

@@ -1,7 +1,7 @@
 //! The second layer of the front end for HCL native syntax: which token lists are files, and what items they hold.
 //!
-//! [`accepts`] is a recursive descent that takes no memory. What it accepts, and what it refuses at which place, is what
-//! the grammar's table says, of which the module [`laws`] holds what is proved beside.
+//! [`accepts`] is a recursive descent that allocates nothing. It accepts and refuses, each at its place, as the
+//! grammar's table says; further laws of the table are in the module [`laws`].
 #![tactic(auto)]
 
 mod accepted;

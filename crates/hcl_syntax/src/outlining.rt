@@ -8,11 +8,12 @@ use crate::pieces::put_items;
 use hcl_grammar::{Accepted, Outline};
 use std::alloc::{AllocError, Global};
 
-/// How many tokens of a file there are for each item that the outline has room for at first. Most files have six to nine
-/// tokens an item, and where there are fewer the list grows.
+/// Tokens of a file per item for the first room of the outline. Most files have six to nine tokens per item; for those
+/// with fewer the list grows.
 const TOKENS_AN_ITEM: usize = 6;
 
-/// How many items the outline has room for at most at first. The room is in fours, since a list's own first room is for four.
+/// The most items for which the outline has room at first. The room is in fours, since a list's own first room is for
+/// four.
 const MOST_ROOM: usize = 1_024;
 
 /// The outline of a file, in time linear in its tokens.

@@ -1,4 +1,4 @@
-//! Where pieces end: for each place where one can begin, the first newline from there on outside all openers.
+//! The ends of pieces: for each place where one can begin, the first newline from there on outside all openers.
 //!
 //! ```text
 //! number    0  1   2   3   4   5   6   7   8   9  10
@@ -6,8 +6,8 @@
 //! ends     10      2   8               8       10      11
 //! ```
 //!
-//! A piece begins with the first token, or after a newline or an opening brace. The numbers of other tokens are never asked
-//! for.
+//! A piece begins with the first token, or after a newline or an opening brace. The numbers of other tokens are never
+//! used.
 
 ghost use Rattle.std.specs.Prelude.{◌≡◌, ◌≤◌, ◌+◌, ◌++◌, ◌∷◌, ◌||◌, [], ℕ, suc, List, length, get_or, reverse, slice_get, Some, IfOk, if◌then◌else◌};
 ghost use Rattle.hcl_source.specs.Load.{max_source};
@@ -27,8 +27,8 @@ fn is_newline(kind: Kind) -> bool
     matches!(kind, Kind::Newline)
 }
 
-/// The number of a newline, or else another. No processor can predict which tokens are newlines, so this is written as a
-/// choice of two values, which needs no branch.
+/// The number of a newline, or otherwise another number. No processor can predict which tokens are newlines, so this is
+/// written as a choice of two values, which needs no branch.
 #[inline(always)]
 fn newline_or(kind: Kind, number: u32, other: u32) -> u32
     ensures { result ≡ (if is Newline kind then number else other) }
@@ -39,7 +39,7 @@ fn newline_or(kind: Kind, number: u32, other: u32) -> u32
     other
 }
 
-/// Whether a token of this kind opens something or closes it. Few do.
+/// Whether a token of this kind opens or closes something. Few do.
 #[inline(always)]
 fn changes_depth(kind: Kind) -> bool
     ensures { result ≡ (is_opener kind || is_closer kind) }
@@ -54,7 +54,7 @@ fn is_opener(kind: Kind) -> bool
     matches!(kind.nesting(), Nesting::Opens)
 }
 
-/// How many tokens there are. Four bytes hold it, since there are no more tokens than bytes of the source.
+/// The number of tokens. Four bytes hold it, since there are no more tokens than bytes of the source.
 pub fn token_count(tokens: &Tokens<'_>) -> u32
     ensures is { result ≡ length tokens.now.tokens }
     ensures small { result ≤ max_source }
@@ -63,7 +63,7 @@ pub fn token_count(tokens: &Tokens<'_>) -> u32
     tokens.len() as u32
 }
 
-/// Takes the last number off the list, or another where there is none.
+/// Pops the last number of the list, or returns another if the list is empty.
 #[inline(always)]
 fn take_last(numbers: &mut Vec<u32>, other: u32) -> u32
     ensures taken { result ≡ get_or (reverse numbers.old.items) 0 other }
@@ -76,9 +76,9 @@ fn take_last(numbers: &mut Vec<u32>, other: u32) -> u32
     }
 }
 
-/// Goes over a token from right to left, where `top` is the first newline outside all openers, and `rest` has the first one
-/// where one opener is open last, before it the first one where two are, and so on; where it has no more, there is none.
-/// Gives the new `top`.
+/// Steps over a token from right to left. `top` is the first newline outside all openers; `rest` has last the first one
+/// with one opener open, before it the first one with two open, and so on; if it has no more, there is no newline.
+/// Returns the new `top`.
 #[inline(always)]
 fn pass(
     kind: Kind,
@@ -102,8 +102,8 @@ fn pass(
     Ok(top)
 }
 
-/// For each place where a piece can begin the number of the first newline from there on outside all openers, or how many
-/// tokens there are. At other places there may be any number: to leave them out would take a branch at each token.
+/// For each place where a piece can begin, the number of the first newline from there on outside all openers, or the
+/// number of tokens. Other places may have any number: to leave them out would take a branch per token.
 pub fn newlines(alloc: Global, tokens: &Tokens<'_>) -> Result<Vec<u32>, AllocError>
     ensures { IfOk result (λ ends. AreEnds tokens.now.tokens ends.items) }
 {

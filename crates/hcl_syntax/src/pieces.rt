@@ -1,4 +1,4 @@
-//! The items of tokens, put out piece by piece.
+//! The items of tokens, appended piece by piece.
 
 ghost use Rattle.std.specs.Prelude.{◌≡◌, ◌<◌, ◌≤◌, ◌+◌, ◌++◌, length, IfOk, OnOk};
 ghost use Rattle.hcl_source.specs.Load.{max_source};
@@ -11,14 +11,14 @@ use hcl_grammar::Outline;
 use hcl_tokens::{Kind, Tokens};
 use std::alloc::AllocError;
 
-/// The tokens between a block's braces, by the number of the first and one past that of the last; it may be empty.
+/// The tokens between a block's braces, by the number of the first and one past the last; it may be empty.
 #[derive(Clone, Copy)]
 struct Body {
     first: u32,
     end: u32,
 }
 
-/// Puts out the label that begins with a token: an identifier, or a quote.
+/// Appends the label that begins with a token: an identifier, or a quote.
 fn put_label(
     tokens: &Tokens<'_>,
     number: u32,
@@ -41,7 +41,7 @@ fn put_label(
     }
 }
 
-/// Puts out the labels that stand before the first opening brace, and gives one past the number of that brace, or the end.
+/// Appends the labels before the first opening brace, and returns one past the number of that brace, or the end.
 fn put_labels(
     tokens: &Tokens<'_>,
     from: u32,
@@ -64,7 +64,7 @@ fn put_labels(
     Ok(to)
 }
 
-/// Puts out a block and its labels. Its kind is the token of this number, and its piece ends before `to`.
+/// Appends a block and its labels. Its kind is the token of this number, and its piece ends before `to`.
 fn put_block(
     tokens: &Tokens<'_>,
     level: u32,
@@ -85,7 +85,7 @@ fn put_block(
     })
 }
 
-/// Puts out the item of a piece, up to the items of its body.
+/// Appends the item of a piece, except the items of its body.
 fn put_piece(
     tokens: &Tokens<'_>,
     level: u32,
@@ -111,8 +111,9 @@ fn put_piece(
     Ok(Body { first: to, end: to })
 }
 
-/// Puts out the items of the tokens from a number on to before another. `ends` has for each place where a piece can begin
-/// the first newline from there on outside all openers, so no token is looked at twice as the end of a piece is found.
+/// Appends the items of the tokens from one number to before another. `ends` has, for each place where a piece can
+/// begin, the first newline from there on outside all openers, so that finding the end of a piece looks at no token
+/// twice.
 pub fn put_items(
     tokens: &Tokens<'_>,
     ends: &[u32],
@@ -134,7 +135,7 @@ pub fn put_items(
         let end = ends[start as usize].min(to);
         let body = put_piece(tokens, level, start, end, items)?;
         start = end + 1;
-        // Attributes have no body, and no call is made for them.
+        // Attributes have no body, so they make no call.
         if body.first >= body.end {
             continue;
         }

@@ -1,4 +1,4 @@
-//! Short operands, told by a look at their tokens alone.
+//! Short operands, found by looking only at their tokens.
 
 ghost use Rattle.std.specs.Prelude.{◌≡◌, ◌+◌, ◌<◌, ◌≤◌, drop, length, IfSome};
 ghost use Rattle.hcl_grammar.specs.Classes.{lookaheads_from};
@@ -8,7 +8,7 @@ use crate::class::lookahead_at;
 use hcl_grammar::{Class, Newlines};
 use hcl_tokens::Tokens;
 
-/// Whether a token of the class goes on with no expression, and isn't passed over.
+/// Whether no expression continues with a token of the class, and it isn't skipped.
 #[inline(always)]
 pub fn ends_expression(newlines: Newlines, class: Class) -> bool
     ensures { result ≡ ends_expression newlines class }
@@ -28,7 +28,7 @@ pub fn ends_expression(newlines: Newlines, class: Class) -> bool
     }
 }
 
-/// Whether a token of the class is an operand by itself, but for what goes on after it.
+/// Whether a token of the class is an operand by itself, apart from its continuation.
 #[inline(always)]
 fn is_short_operand(class: Class) -> bool
     ensures { result ≡ is_short_operand class }
@@ -57,7 +57,7 @@ fn is_identifier(class: Class) -> bool
     matches!(class, Class::Ident(_))
 }
 
-/// Whether two tokens are what stands between quotes in which no sequence is, and the closing quote.
+/// Whether two tokens are the text between quotes without sequences and the closing quote.
 #[inline(always)]
 fn is_quoted(first: Class, second: Class) -> bool
     ensures { result ≡ is_quoted first second }
@@ -65,7 +65,7 @@ fn is_quoted(first: Class, second: Class) -> bool
     matches!((first, second), (Class::Lit, Class::QuoteClose))
 }
 
-/// Where the steps by name end that stand from a number on.
+/// The end of the steps by name that begin at a number.
 #[inline(always)]
 fn steps_end(tokens: &Tokens, count: usize, from: usize) -> usize
     requires within { from ≤ count }
@@ -90,7 +90,7 @@ fn steps_end(tokens: &Tokens, count: usize, from: usize) -> usize
     number
 }
 
-/// Where a text between quotes ends, after its opening quote, where no sequence is in it.
+/// The end of a text between quotes without sequences, after its opening quote.
 #[inline(always)]
 fn quoted_end(tokens: &Tokens, count: usize, from: usize) -> Option<usize>
     requires within { from ≤ count }
@@ -111,8 +111,8 @@ fn quoted_end(tokens: &Tokens, count: usize, from: usize) -> Option<usize>
     Some(from + 2)
 }
 
-/// Where the operand ends that begins at a number, where it is a name or a number with steps by name, or a text between
-/// quotes in which no sequence is.
+/// The end of the operand that begins at a number, if it is a name or a number with steps by name, or a text between
+/// quotes without sequences.
 #[inline(always)]
 pub fn operand_end(tokens: &Tokens, count: usize, from: usize) -> Option<usize>
     requires within { from ≤ count }

@@ -11,10 +11,10 @@ use crate::cursor::Cursor;
 use crate::expected::{Refused, Turning};
 use hcl_grammar::{Class, Newlines, Refusal, Section, Terminal, Word};
 
-/// How many directives may be open.
+/// The most directives that may be open.
 const MAX_DIRECTIVES: usize = 256;
 
-/// What a word does in a directive.
+/// The effect of a word in a directive.
 fn turning(section: Section, class: Class) -> Turning
     ensures { result ≡ turning section class }
 {

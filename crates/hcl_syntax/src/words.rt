@@ -1,4 +1,4 @@
-//! Tokens that are no comments, and what is looked for among them.
+//! Tokens other than comments, and searches among them.
 
 ghost use Rattle.std.specs.Prelude.{◌≡◌, ◌≤◌, [], filter, length, MatchOption};
 ghost use Rattle.hcl_tokens.specs.Kinds.{is};
@@ -9,7 +9,7 @@ ghost use Rattle.hcl_grammar.specs.Numbered.{end_of, is_comment};
 
 use hcl_tokens::{Kind, Tokens};
 
-/// A token that is no comment, and its number.
+/// A token other than a comment, and its number.
 #[derive(Clone, Copy)]
 pub struct NumberedKind {
     pub number: u32,
@@ -46,7 +46,7 @@ fn is_brace_close(kind: Kind) -> bool
     matches!(kind, Kind::BraceClose)
 }
 
-/// The first token from a number on to before another that is no comment.
+/// The first token other than a comment, from one number to before another.
 pub fn first_word(tokens: &Tokens<'_>, from: u32, to: u32) -> Option<NumberedKind>
     requires { to ≤ length tokens.now.tokens }
     ensures { MatchOption result (words tokens.now.tokens from to ≡ [])
@@ -94,7 +94,7 @@ pub fn block_end(tokens: &Tokens<'_>, from: u32, to: u32) -> u32
     0
 }
 
-/// One past the number of the last token that is no comment, or 0.
+/// One past the number of the last token other than a comment, or 0.
 pub fn words_end(tokens: &Tokens<'_>, from: u32, to: u32) -> u32
     requires within { to ≤ length tokens.now.tokens }
     requires ordered { from ≤ to }

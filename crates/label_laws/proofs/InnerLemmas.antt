@@ -1,5 +1,5 @@
--- The symbols of expressions and templates: the rows of such symbols give such symbols alone, and newlines are dropped,
--- and templates are read, only where a closer is owed.
+-- The symbols of expressions and templates: the rows of such symbols give only such symbols; and newlines are dropped,
+-- and templates are read, only if a closer is still to come.
 use Rattle.std.proofs.Common.{◌≡◌, ◌⊎◌, inl, inr, ℕ, ◌+◌, nat_lt, Bool, true, false, cond, List, [], ◌∷◌, ◌++◌, length, arith, refl, sym, ap, subst, ◌∙◌, append_assoc, true≢false}
 use Rattle.std.specs.Prelude.{◌||◌, ◌-◌, None, Some}
 use Rattle.hcl_tokens.specs.Lexemes.{Opener}
@@ -25,7 +25,7 @@ abbrev pub owing : List Opener → Bool
 owing [] = false
 owing (o ∷ os) = true
 
--- a closer is owed by these, or below them
+-- a closer is still to come from these, or from those below them
 abbrev pub owed : Bool → List Marked → Bool
 owed e [] = e
 owed e (s at m ∷ ss) = owing (owes s) || owed e ss
@@ -34,7 +34,7 @@ abbrev pub Gate : Newlines → Bool → Type 0
 Gate Seen e = Unit {0}
 Gate Dropped e = e ≡ true
 
--- a symbol of expressions or templates, where a closer is owed below it or not
+-- a symbol of expressions or templates, given whether a closer is still to come below it
 abbrev pub IsInner : Symbol → Newlines → Bool → Type 0
 IsInner file m e = ⊥
 IsInner rest m e = ⊥
@@ -250,7 +250,7 @@ inner_row (directive k) m n e c h = inner_directive m k e c h
 inner_row (inside s) m n e c h = inner_inside s m n e c h
 inner_row (section_directive s k) m n e c h = inner_section s m k e c h
 
--- ---- one token: these symbols give others, or they all go away and the token is for those below
+-- ---- one token: these symbols lead to others, or they all go away and the token is for those below
 
 abbrev pub Passes : ℕ → List Marked → List Marked → Lookahead → ℕ → List Marked → Type 0
 Passes count xs ds t later us =
@@ -309,9 +309,9 @@ inner_passes count (s at m ∷ xs) ds t later us h e = by (drops m t.class) e (�
     by false e more =
         pass_row count s m xs ds t later us (row s m t) refl (flat_row s m t.number t.class (moves-row (λ i. Unit {0}) s m t.number t.class tt (have_numbers s m))) (inner_row s m t.number (owed false xs) t.class h.0) h.1 more e
 
--- ---- a newline where no closer is owed
+-- ---- a newline with no closer to come
 
--- there such a symbol has no row, or goes away
+-- then such a symbol has no row, or goes away
 newline_row : (s : Symbol) (n : ℕ) → owes s ≡ [] → IsInner s Seen false → (row_of s Seen n Newline ≡ nothing) ⊎ (row_of s Seen n Newline ≡ none)
 newline_row (the t) n e h = inr (by t)
   where

@@ -24,7 +24,7 @@ abbrev pub begins_dot : List Numbered → Bool
 begins_dot [] = false
 begins_dot (t ∷ ts) = is kind.Dot t.kind
 
--- the last token that isn't passed over is a dot
+-- the last token that isn't skipped is a dot
 abbrev pub follows_dot : Bool → Kind → Bool
 follows_dot dot k = cond (is_passed_over k) dot (is kind.Dot k)
 
@@ -70,7 +70,7 @@ name_kind (labelled k b) t e = by t e
     by _ e = absurd (true≢false (sym e))
 name_kind _ t e = absurd (true≢false (sym e))
 
--- ---- after a name comes no dot
+-- ---- no dot follows a name
 
 abbrev pub follows : Kind → Bool
 follows t = not (is_passed_over t) && not (is kind.Dot t)

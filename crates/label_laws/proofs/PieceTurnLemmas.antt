@@ -1,4 +1,4 @@
--- The labels and names of items, where a reader goes through their tokens place by place.
+-- The labels and names of items, for a reader that goes through their tokens place by place.
 use Rattle.std.proofs.Common.{◌≡◌, ◌⊎◌, inl, inr, ℕ, zero, suc, ◌+◌, ◌-◌, ◌<◌, ◌≤◌, Bool, true, false, cond, List, [], ◌∷◌, ◌++◌, drop, take, arith, refl, sym, ap, subst, ◌∙◌, true≢false, append_assoc, lt-ltb, le-ltb}
 use Rattle.std.specs.Prelude.{◌&&◌, ◌||◌, ◌==◌, Some, None, filter, nat_lt}
 use Rattle.std.specs.List.{flat_map}
@@ -29,15 +29,15 @@ abbrev pub Begins : ℕ → List Numbered → Type 0
 Begins n [] = Unit {0}
 Begins n (u ∷ us) = u.number ≡ n
 
--- inside a label's quotes no token is passed over
+-- inside a label's quotes no token is skipped
 abbrev pub Adjoins : Place → ℕ → List Numbered → Type 0
 Adjoins p n ts = in_quotes p ≡ true → Begins (n + 1) ts
 
--- a token is the one of its number; where it names an item, it is beside no dot
+-- a token is the one of its number; if it names an item, no dot is beside it
 abbrev pub Stands : List Numbered → Place → Numbered → Type 0
 Stands all p t = (drop t.number all ≡ t ∷ drop (t.number + 1) all) × (is_name p t.kind ≡ true → IsApart all t.number)
 
--- the tokens lead from a place to another, and each place on the way is as it is asked
+-- the tokens lead from a place to another, and each place on the way meets the condition
 abbrev pub Leads : (all : List Numbered) → (Place → Type 0) → Place → List Numbered → Place → Type 0
 Leads all ok p [] end = p ≡ end
 Leads all ok p (t ∷ ts) end =
@@ -47,7 +47,7 @@ Leads all ok p (t ∷ ts) end =
 abbrev pub Within : ℕ → Place → Type 0
 Within k q = k ≤ level q
 
--- nor does a line begin there
+-- and no line begins there
 abbrev pub Inside : ℕ → Place → Type 0
 Inside k q = (k ≤ level q) × (is_line q ≡ true → k < level q)
 
@@ -63,7 +63,7 @@ module _ (all : List Numbered) where
   LinePieces k [] = Unit {0}
   LinePieces k (p ∷ ps) = Piece k (line k) p × LinePieces k ps
 
-  -- the first from a place on, the others from the begin of a line
+  -- the first from a place on, the others from the beginning of a line
   abbrev pub Pieces : ℕ → Place → List (List Numbered) → Type 0
   Pieces k p [] = ⊥
   Pieces k p (x ∷ xs) = Piece k p x × LinePieces k xs
@@ -73,13 +73,13 @@ module _ (all : List Numbered) where
 
   -- ---- the pieces of lines
 
-  -- what is in front of the first piece of the rest
+  -- the tokens before the first piece of the rest
   put_front : (k : ℕ) (p q : Place) (t : Numbered) (ts : List Numbered) (ps : List (List Numbered)) → turn p t.kind ≡ Some q → Inside k q → Stands all p t
       → ((x : List Numbered) → (xs : List (List Numbered)) → ps ≡ x ∷ xs → Adjoins q t.number x) → Pieces k q ps → Pieces k p (onto t ps)
   put_front k p q t ts [] turned ok here next h = absurd h
   put_front k p q t ts (x ∷ xs) turned ok here next h = ((h.0.0, (q, turned, ok, here, next x xs refl, h.0.1), h.0.2), h.1)
 
-  -- the first piece begins as the tokens do
+  -- the first piece begins like the tokens
   first_begins : (n d : ℕ) (ts x : List Numbered) (xs : List (List Numbered)) → Begins n ts → pieces d ts ≡ x ∷ xs → Begins n x
   first_begins n d [] x xs h e = let f : [] ≡ x = cc in subst (λ r. Begins n r) f tt
   first_begins n d (t ∷ ts) x xs h e = by (is kind.Newline t.kind && is_closed d) (pieces (deepen d t.kind) ts) e
@@ -178,7 +178,7 @@ module _ (all : List Numbered) where
     pub leads : Leads all (Within (suc k)) p inner end
     pub stops : Stops (suc k) end
 
-  -- at the end of a line nothing more comes in the piece
+  -- at the end of a line the piece has no more tokens
   last : (k : ℕ) (ts : List Numbered) (end : Place) → Leads all (Inside k) (ended k) ts end → ts ≡ []
   last k [] end leads = refl
   last k (t ∷ ts) end leads = absurd (by (turns (ended k) t.kind leads.0 leads.1))
@@ -257,7 +257,7 @@ module _ (all : List Numbered) where
   good_both [] js h k = k
   good_both (i ∷ is) js h k = (h.0, good_both is js h.1 k)
 
-  -- what leads on among labels
+  -- a place that continues among labels
   data LabelTurn (k : ℕ) (b : Bool) (t : Kind) (q : Place) : Type 0 where
     word : t ≡ kind.Ident → q ≡ labelled k false → LabelTurn k b t q
     quote : t ≡ kind.QuoteOpen → q ≡ at.quoted k → LabelTurn k b t q
@@ -295,7 +295,7 @@ module _ (all : List Numbered) where
   at_number : (u : Numbered) (n : ℕ) → u.number ≡ n + 1 → drop u.number all ≡ u ∷ drop (u.number + 1) all → drop (n + 1) all ≡ u ∷ drop (n + 2) all
   at_number u n e here = let more : u.number + 1 ≡ n + 2 = omega (arith, e) in ap (λ j. drop j all) (sym e) ∙ here ∙ ap (λ j. u ∷ drop j all) more
 
-  -- no `=` comes first
+  -- no `=` comes before
   abbrev pub NoSign : List Numbered → Type 0
   NoSign [] = Unit {0}
   NoSign (t ∷ ts) = is kind.Assign t.kind ≡ false
@@ -335,7 +335,7 @@ module _ (all : List Numbered) where
         by (inl h) = after us h.0 (leads.4 (ap in_quotes h.1)) (subst (λ x. Leads all (Inside k) x us end) h.1 leads.5)
         by (inr h) = closed_label n u us h.0 next leads.3.0
 
-    -- the labels are good, and after the first brace stands a body
+    -- the labels are good, and a body follows the first brace
     abbrev Labels : List Numbered → Type 0
     Labels ts = AllGood (labels ts) × ((after_brace ts ≡ []) ⊎ Leads all (Inside k) (started k) (after_brace ts) end)
 
@@ -388,7 +388,7 @@ module _ (all : List Numbered) where
         by (begun e) rest = two rest (quote_turn k t.kind q (from (at.quoted k) e))
         by (full e) rest = let h = literal_turn k t.kind q (from (at.written k) e) in passed t ts kind.QuoteClose h.0 refl tt (rest (among false h.1 (unsigned ts)))
 
-  -- ---- the body of a block is what its braces hold
+  -- ---- the body of a block is the contents of its braces
 
   front_of : (ts : List Numbered) → (front : List Numbered) × (ts ≡ front ++ after_brace ts)
   front_of [] = ([], refl)
@@ -410,7 +410,7 @@ module _ (all : List Numbered) where
   rises_back from to [] ys h = (from, h)
   rises_back from to (x ∷ xs) ys h = rises_back (x.number + 1) to xs ys h.1
 
-  -- those before the last are kept, and the last is not
+  -- the tokens before the last are kept, and the last isn't
   before_last : (from to e : ℕ) (xs : List Numbered) (t : Numbered) → Rises from (xs ++ t ∷ []) to → e ≡ t.number + 1 → (filter (λ u. nat_lt (u.number + 1) e) (xs ++ t ∷ []) ≡ xs) × (from ≤ t.number)
   before_last from to e [] t h is = (ap (λ b. cond b (t ∷ []) []) (not_less t.number e is), h.0)
     where
@@ -464,7 +464,7 @@ module _ (all : List Numbered) where
             let ps : Pieces (suc k) (started k) (pieces 0 b.inner) = subst (λ (n : ℕ). Pieces (suc k) (started k) (pieces n b.inner)) z (cut (suc k) (started k) b.inner b.end (omega arith) b.leads b.stops) in
             subst (λ r. AllGood (inner r)) (sym is.0) (good (suc k) (started k) is.1.0 to b.inner (inr (k, refl, refl)) (rises_front is.1.0 to b.inner b.close is.1.1) ps)
 
-    -- what follows the first token of a piece
+    -- the tokens after the first of a piece
     first_turn : (k : ℕ) (p q : Place) (t : Kind) → Begin k p → turn p t ≡ Some q → Inside k q → (q ≡ labelled k true) ⊎ ((j : ℕ) × (q ≡ named j))
     first_turn k p q t (inl e) turned ok = by k t q (subst (λ x. turn x t ≡ Some q) e turned) ok
       where

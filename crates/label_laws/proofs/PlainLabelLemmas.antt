@@ -1,4 +1,5 @@
--- Between the quotes of a label stands nothing, or one literal; and labels and the names of attributes stand beside no dot.
+-- Between the quotes of a label there is nothing, or one literal; and no dot is beside labels and the names of
+-- attributes.
 use Rattle.std.proofs.Common.{◌≡◌, ℕ, zero, suc, ◌+◌, ◌-◌, ◌<◌, List, [], ◌∷◌, length, arith, refl, subst, inl}
 use Rattle.std.specs.Prelude.{Some, None, slice_get, not}
 use Rattle.hcl_tokens.specs.Lexemes.{Lexeme}

@@ -30,7 +30,7 @@ use Rattle.label_laws.proofs.NamePlaceLemmas.{Follows, IsApart, apart, apart_on,
 use Rattle.label_laws.proofs.TurnLemmas.{Place, line, labelled, quoted, written, started, named, single, value, ended, turn}
 use Rattle.label_laws.proofs.PieceTurnLemmas.{Adjoins, Begins, Leads, Stands, Stops, Within, in_quotes}
 
--- ---- what the symbols say of the place
+-- ---- the place, by the symbols
 
 abbrev pub base : ℕ → List Marked
 base zero = file at Seen ∷ []
@@ -156,12 +156,12 @@ closer_opens_none kind.SeqClose e = (refl, refl)
 closer_opens_none kind.BraceClose e = (refl, refl)
 closer_opens_none _ e = absurd (true≢false (sym e))
 
--- a newline fits what is open
+-- a newline fits the open groups
 abbrev Newlined : List Marked → Kind → Type 0
 Newlined ss t = in_template (owes_all ss) ≡ true → is kind.Newline t ≡ false
 
 module _ (count n later : ℕ) (t : Kind) (text : List ℕ) (us xs ds : List Marked) (inner : AreInner false xs) (e : effect count (xs ++ ds) (look n t text) ≡ on later us) where
-  -- a newline with nothing open is for what stands below
+  -- a newline with nothing open is for the symbols below
   newline_below : Newlined (xs ++ ds) t → (is kind.Newline t ≡ true) → groups (owes_all xs) ≡ 0 → effect count ds (look n kind.Newline text) ≡ on later us
   newline_below fits nl flat = newline_passes count n xs ds later us inner none (subst (λ x. effect count (xs ++ ds) (look n x text) ≡ on later us) (newline_is t nl) e)
     where
@@ -172,7 +172,7 @@ module _ (count n later : ℕ) (t : Kind) (text : List ℕ) (us xs ds : List Mar
       none : owes_all xs ≡ []
       none = none_open (owes_all xs) (owes_all ds) flat (sym (ap in_template (owes_all-append xs ds)) ∙ outside (in_template (owes_all (xs ++ ds))) refl)
 
-  -- how much is open then
+  -- the number of open groups then
   more_open : (ys : List Marked) → us ≡ ys ++ ds → opening t + groups (owes_all xs) ≡ closing t + groups (owes_all ys)
   more_open ys is =
       let s = counted t text (owes_all (xs ++ ds)) (owes_all us) (shift count n later t text (xs ++ ds) us e) in
@@ -180,7 +180,7 @@ module _ (count n later : ℕ) (t : Kind) (text : List ℕ) (us xs ds : List Mar
       let b = ap (λ r. groups (owes_all r)) is ∙ ap groups (owes_all-append ys ds) ∙ groups_both (owes_all ys) (owes_all ds) in
       omega (arith, s, a, b)
 
-  -- a closer closes what is open in the value
+  -- a closer closes a group in the value
   no_closer : (h : ℕ) (ys : List Marked) → groups (owes_all xs) ≡ h → us ≡ ys ++ ds → (is_closer t && is_closed h) ≡ true → ⊥
   no_closer h ys g is c = let b = both_true (is_closer t) h c in let z = closer_opens_none t b.0 in omega (arith, z.0, z.1, b.1, g, more_open ys is)
 
@@ -258,7 +258,7 @@ move count n later t text (ended k) ss us fits a e =
     let l = line_end count n later text us k t (subst (λ r. effect count r (look n t text) ≡ on later us) a e) in
     (line k, ap (λ x. turn (ended k) x) l.0, l.1)
 
--- ---- what a scan reads where
+-- ---- which tokens a scan reads where
 
 pub record IsFitting (opens : List Opener) (t : Kind) : Type 0 where
   pub template : in_template opens ≡ true → in_expressions t ≡ false
@@ -302,7 +302,7 @@ heredoc_base : (k : ℕ) → in_heredoc (owes_all (base k)) ≡ false
 heredoc_base zero = refl
 heredoc_base (suc k) = heredoc_base k
 
--- blanks that are tokens stand in values
+-- blanks that are tokens are in values
 blank_turn : (p : Place) (ss : List Marked) → At p ss → in_heredoc (owes_all ss) ≡ true → turn p kind.Blank ≡ Some p
 blank_turn (line k) ss a h = absurd (true≢false (sym h ∙ ap (λ r. in_heredoc (owes_all r)) a ∙ heredoc_base k))
 blank_turn (labelled k true) ss a h = absurd (true≢false (sym h ∙ ap (λ r. in_heredoc (owes_all r)) a ∙ heredoc_base k))
@@ -348,7 +348,7 @@ base_ends : (k : ℕ) → ending (base k) ≡ None → k ≡ 0
 base_ends zero e = refl
 base_ends (suc k) e = absurd (cc)
 
--- where a file may end
+-- the places where a file may end
 stop_there : (p : Place) (ss : List Marked) → At p ss → ending ss ≡ None → Stops 0 p
 stop_there (line k) ss a e = (refl, omega (arith, base_ends k (ap ending (sym a) ∙ e)))
 stop_there (labelled k true) ss a e = absurd (let f = ap ending (sym a) ∙ e in cc)
@@ -388,7 +388,7 @@ blank_names : (p : Place) → is_name p kind.Blank ≡ false
 blank_names (line k) = refl
 blank_names _ = refl
 
--- no step is waited for where an item is named
+-- no step is expected where an item is named
 name_place : (p : Place) (t : Kind) (ss : List Marked) → is_name p t ≡ true → At p ss → steps ss ≡ false
 name_place (line zero) t ss e a = ap steps a
 name_place (line (suc k)) t ss e a = ap steps a

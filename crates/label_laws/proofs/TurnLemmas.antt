@@ -1,5 +1,5 @@
--- Items as a reader of kinds sees them: where it stands in the lines of a file, and which kinds lead where. The grammar
--- leads no other way.
+-- Items as a reader of kinds sees them: its place in the lines of a file, and which kinds lead where. The grammar leads
+-- no other way.
 use Rattle.std.proofs.Common.{◌≡◌, ◌⊎◌, inl, inr, ℕ, zero, suc, ◌+◌, ◌≤◌, Bool, true, false, cond, arith, refl, sym, subst, ◌∙◌, true≢false}
 use Rattle.std.specs.Prelude.{◌&&◌, Option, Some, None}
 use Rattle.hcl_tokens.specs.declared.token.Kind.{Kind}
@@ -8,9 +8,9 @@ use Rattle.hcl_tokens.specs.Balanced.{closing, is_closer}
 use Rattle.hcl_grammar.specs.Items.{deepen, is_closed}
 use Rattle.hcl_tokens.specs.Kinds.{is}
 
--- where a reader stands: at the begin of a line; among the labels, where an `=` may come yet or not; after a label's
--- quote, and after its literal; after a block's brace, and after the name there; in the value there, or of a line,
--- where so much is open; at the end of a line. The first number is how many bodies are open.
+-- the place of a reader: at the beginning of a line; among the labels, where an `=` may still come or not; after a
+-- label's quote, and after its literal; after a block's brace, and after the name there; in the value there, or of a
+-- line, with a number of groups open; at the end of a line. The first number counts the open bodies.
 pub data Place : Type 0 where
   line : ℕ → Place
   labelled : ℕ → Bool → Place
@@ -34,7 +34,7 @@ level (single k h) = suc k
 level (value k h) = k
 level (ended k) = k
 
--- how much is open in the value
+-- how many groups are open in the value
 abbrev pub inside : Place → ℕ
 inside (single k h) = h
 inside (value k h) = h
@@ -96,7 +96,7 @@ abbrev pub from_name : ℕ → Kind → Option Place
 from_name k kind.Assign = Some (single k 0)
 from_name k _ = None
 
--- after a token that is no newline outside all openers
+-- after a token other than a newline outside all openers
 abbrev pub goes : Place → Kind → Option Place
 goes (line k) t = from_line k t
 goes (labelled k b) t = from_labels k b t
@@ -115,7 +115,7 @@ ends_line p = cond (may_end p) (Some (line (level p))) None
 abbrev pub turn : Place → Kind → Option Place
 turn p t = cond (is kind.Newline t && is_closed (inside p)) (ends_line p) (goes p t)
 
--- ---- what comes of it
+-- ---- consequences
 
 -- a body is left
 pub record IsLeft (p : Place) (t : Kind) (q : Place) : Type 0 where

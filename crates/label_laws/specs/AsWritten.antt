@@ -1,4 +1,4 @@
--- What stands between the quotes of a label: what the law on labels says of it. Our own words.
+-- The contents of a label's quotes, for the law on labels. Our own words.
 use Rattle.std.specs.Prelude.{◌≡◌, ℕ, ◌+◌, ◌-◌, true, List, [], ◌∷◌, drop, take}
 use Rattle.hcl_tokens.specs.Kinds.{is}
 use Rattle.hcl_tokens.specs.declared.token.Kind.TheVariants as kind

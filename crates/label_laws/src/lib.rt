@@ -1,6 +1,7 @@
-//! The law on labels: what the grammar leaves between a label's quotes. No program calls it: its contract is the law.
+//! The law on labels: the tokens that the grammar allows between a label's quotes. No program calls it: its contract is
+//! the law.
 //!
-//! It stands apart from the grammar, so that no parser waits for its proof.
+//! It is separate from the grammar, so that no parser waits for its proof.
 #![tactic(auto)]
 
 ghost use Rattle.std.specs.Prelude.{◌≡◌, ◌<◌, ℕ, List, Some, slice_get};
@@ -14,7 +15,7 @@ ghost use Rattle.hcl_grammar.specs.declared.item.Item.TheVariants as item;
 ghost use Rattle.hcl_grammar.specs.declared.item.Label.{Label};
 ghost use Rattle.label_laws.specs.AsWritten.{IsAsWritten, between_quotes};
 
-/// Between the quotes of a label of a file stands nothing, or one literal, which is its text as written.
+/// Between the quotes of a label of a file there is nothing, or one literal, which is its text as written.
 pub fn one_literal()
     ensures { (text : List ℕ) (tokens : List Lexeme) → Scans text tokens → IsAccepted tokens
         → (i : ℕ) (l : Label) → slice_get (outline tokens) i ≡ Some (item.Label l)

@@ -1,4 +1,4 @@
--- A gap of the layout fits between its neighbours, as the scan asks it.
+-- A gap of the layout fits between its neighbours, as the scan requires.
 use Rattle.std.proofs.Common.{◌≡◌, ℕ, zero, suc, ◌&&◌, ◌||◌, ◌==◌, not, Bool, true, false, Option, Some, None, inl, inr, refl, sym, ap, subst, ◌∙◌, arith, cond}
 use Rattle.std.specs.Prelude.{if◌then◌else◌}
 use Rattle.std.proofs.lemmas.Bool.Decides.{nat_tests}
@@ -19,8 +19,7 @@ use Rattle.hcl_spacing.proofs.SpacingLemmas.{row_one}
 use Rattle.hcl_spacing.proofs.JoiningLemmas.{joined_apart}
 use Rattle.layout_laws.proofs.PrintGapLemmas.{is_cell, GapFor}
 
--- ---- one gap
--- the two tokens before on the line, and what the scan knows of them
+-- ---- one gap, the two tokens before it on the line, and the state of the scan there
 abbrev pub Coherent : Option Lexeme → Option Lexeme → Bool → Kind → Type 0
 Coherent before None dot k = k ≡ kind.Newline
 Coherent before (Some u) dot k = (k ≡ u.kind) × (dot ≡ false → stands_before (is kind.Dot) before ≡ false)
@@ -48,7 +47,7 @@ template_cell kind.QuoteClose n h = refl
 template_cell kind.HeredocClose n h = refl
 template_cell _ n h = absurd (cc)
 
--- no gap, where the spacing gives none and no cell begins
+-- no gap, if the spacing gives none and no cell begins
 zero_after : (before : Option Lexeme) (u t : Lexeme) (g : ℕ) → GapFor before (Some u) g t → has_blank before u t ≡ false → is_cell t ≡ false → g ≡ 0
 zero_after before u t g (inl e) h c = e ∙ no_blank before u t h
 zero_after before u t g (inr x) h c = absurd (let y = x.1 in cc)
@@ -99,7 +98,7 @@ module _ (before u : Option Lexeme) (dot : Bool) (k : Kind) (g : ℕ) (t : Lexem
       let n : t.kind ≡ kind.Newline = beside.comment e h in
       zero_after before u t g gap (row_one before u t (λ i. is kind.Newline (n i) || t.inside_heredoc)) (λ i. (is kind.Assign (n i) && not t.inside_heredoc) || (is kind.LineComment (n i) && not t.inside_heredoc))
 
-  -- where the neighbours would join
+  -- between neighbours that would join
   apart : (u : Option Lexeme) → Coherent before u dot k → GapFor before u g t → t.inside_heredoc ≡ false → regapped.is_template t.kind ≡ false → g ≡ 0 → neighbours.joins dot k t.kind t.text ≡ true → ⊥
   apart None c gap e h z j = let x : neighbours.joins dot kind.Newline t.kind t.text ≡ true = subst (λ (y : Kind). neighbours.joins dot y t.kind t.text ≡ true) c j in cc
   apart (Some u) c (inr x) e h z j = omega (arith, x.0, z)

@@ -1,4 +1,4 @@
--- The gaps of a list go by kinds, texts and heredocs alone: where its tokens stood plays no part.
+-- The gaps of a list depend on kinds, texts and heredocs alone: the places of its tokens make no difference.
 use Rattle.std.proofs.Common.{◌≡◌, ◌∙◌, ℕ, zero, suc, ◌+◌, ◌||◌, Bool, true, false, List, [], ◌∷◌, ◌++◌, length, drop, Option, Some, None, refl, sym, ap, ap₂}
 use Rattle.std.specs.Prelude.{if◌then◌else◌, map, option_map, slice_set, replicate}
 use Rattle.std.specs.List.{flat_map}
@@ -171,7 +171,7 @@ print_forgot ts = ap (λ gs. printed_text gs (forgot ts)) (gaps_forgot ts) ∙ p
 pub print_again : (ts : List Lexeme) → print (printed_tokens ts) ≡ print ts
 print_again ts = sym (print_forgot (printed_tokens ts)) ∙ ap print (same_tokens ts) ∙ print_forgot ts
 
--- ---- what the grammar sees
+-- ---- the lookaheads of the grammar
 seen_forgot : (n : ℕ) (ts : List Lexeme) → lookaheads_from n (forgot ts) ≡ lookaheads_from n ts
 seen_forgot n [] = refl
 seen_forgot n (t ∷ ts) = ap (λ (l : List Lookahead). if is_trivia (class_of t) then l else record { class = class_of t; number = n } ∷ l) (seen_forgot (n + 1) ts)

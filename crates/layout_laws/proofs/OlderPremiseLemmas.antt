@@ -1,5 +1,5 @@
--- What has no `::` was scanned by the tables before to the same tokens: a spelling then is one now, so the longest now is
--- the longest then.
+-- The earlier tables scan a text without `::` to the same tokens: a spelling of theirs is one now, so the longest now
+-- is the longest then.
 use Rattle.std.proofs.Common.{◌≢◌, ℕ, List, [], ◌∷◌, inl, inr}
 use Rattle.hcl_tokens.specs.Lexemes.{Lexeme}
 use Rattle.hcl_tokens.specs.Scans.{State, begin, Next, Run, Scans}

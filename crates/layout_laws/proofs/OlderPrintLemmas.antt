@@ -1,4 +1,4 @@
--- The print by the tables before is the print, where no token is a ColonColon and no colon follows another.
+-- The print by the earlier tables is the print, if no token is a ColonColon and no colon follows another.
 use Rattle.std.proofs.Common.{◌≡◌, ◌≢◌, ℕ, ◌&&◌, ◌||◌, ◌==◌, not, Bool, true, false, List, [], ◌∷◌, get_or, Option, Some, None, refl, sym, ap, ap₂, ◌∙◌, map}
 use Rattle.std.specs.Prelude.{if◌then◌else◌}
 use Rattle.std.specs.List.{flat_map}

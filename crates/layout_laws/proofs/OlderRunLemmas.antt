@@ -1,5 +1,5 @@
--- What the grammar accepted by the tables before it accepts, and in it no colon follows another: after each symbol
--- that reads one an expression is waited for, and no expression begins with one.
+-- The grammar accepts everything that it accepted by the earlier tables, and there no colon follows another: after each
+-- symbol that reads a colon an expression is expected, and no expression begins with one.
 use Rattle.std.proofs.Common.{◌≡◌, ◌≢◌, ℕ, suc, zero, ◌+◌, ◌&&◌, ◌||◌, not, Bool, true, false, cond, List, [], ◌∷◌, ◌++◌, length, get_or, Option, None, refl, sym, ap, subst, ◌∙◌, arith}
 use Rattle.std.specs.Prelude.{nat_lt}
 use Rattle.std.specs.List.{list_all}
@@ -65,7 +65,7 @@ accepted_too ts o was = sym (run_same 0 (file at Seen ∷ []) (lookaheads ts) (c
 pub accepted_before : (ts : List Lexeme) → Older ts → IsAccepted ts → WasAccepted ts
 accepted_before ts o is = run_same 0 (file at Seen ∷ []) (lookaheads ts) (classes_older 0 ts o) ∙ is
 
--- ---- what each class gives, all give
+-- ---- a property of each class holds for all
 abbrev classes : List Class
 classes = class.Trivia ∷ class.Newline ∷ class.Ident Plain ∷ class.Ident For ∷ class.Ident In ∷ class.Ident If ∷ class.Ident Else ∷ class.Ident Endif ∷ class.Ident Endfor ∷ class.Number true ∷ class.Number false ∷ class.HeredocOpen ∷ class.HeredocClose ∷ class.QuoteOpen ∷ class.QuoteClose ∷ class.Lit ∷ class.InterpOpen ∷ class.ControlOpen ∷ class.SeqClose ∷ class.ParenOpen ∷ class.ParenClose ∷ class.BracketOpen ∷ class.BracketClose ∷ class.BraceOpen ∷ class.BraceClose ∷ class.Dot ∷ class.Comma ∷ class.Ellipsis ∷ class.Question ∷ class.Colon ∷ class.ColonColon ∷ class.Assign ∷ class.Arrow ∷ class.Not ∷ class.Minus ∷ class.Star ∷ class.Binary ∷ []
 
@@ -119,7 +119,7 @@ each P h class.Minus = at_place P classes 34 h refl
 each P h class.Star = at_place P classes 35 h refl
 each P h class.Binary = at_place P classes 36 h refl
 
--- ---- the states: after each symbol that reads a colon stands one that reads an expression
+-- ---- the states: each symbol that reads a colon is followed by one that reads an expression
 abbrev waits_colon : Symbol → Bool
 waits_colon (the Separator) = true
 waits_colon separator = true
@@ -197,7 +197,7 @@ rows_paired (section_directive InIf k) m n c = each (λ c. row_paired (row_of (s
 rows_paired (section_directive InElse k) m n c = each (λ c. row_paired (row_of (section_directive InElse k) m n c)) refl c
 rows_paired (section_directive InFor k) m n c = each (λ c. row_paired (row_of (section_directive InFor k) m n c)) refl c
 
--- ---- who reads a colon
+-- ---- the symbols that read a colon
 abbrev is_read : Action → Bool
 is_read none = false
 is_read nothing = false
@@ -207,7 +207,7 @@ abbrev is_empty : Action → Bool
 is_empty (reads []) = true
 is_empty _ = false
 
--- the row for a colon reads nothing more, and is that of a symbol that waits for it
+-- the row for a colon reads nothing more, and is that of a symbol that expects it
 abbrev colon_test : Symbol → Action → Bool
 colon_test s r = not (is_read r) || (waits_colon s && is_empty r)
 
@@ -330,7 +330,7 @@ record Parted (ss : List Marked) (ts : List Lexeme) : Type 0 where
   parts_all : Apart ts
   front : begins_expr ss ≡ true → starts_colon ts ≡ false
 
--- one token more, where it holds of those after it
+-- one more token, if it holds for those after it
 module _ (n : ℕ) (t : Lexeme) (ts : List Lexeme) (count : ℕ) (ss : List Marked) (r : ComesTo count ss (lookaheads_from n (t ∷ ts)) None) (p : paired ss ≡ true)
     (more : (count : ℕ) (ss : List Marked) → ComesTo count ss (lookaheads_from (n + 1) ts) None → paired ss ≡ true → Parted ss ts) where
   abbrev seen : Lookahead

@@ -1,5 +1,5 @@
--- What was scanned by the tables before is scanned to the same tokens, where no colon follows another: at two
--- colons in the text, the older tables read one, and after it the other.
+-- A text scanned by the earlier tables is scanned to the same tokens, if no colon follows another: at two colons in the
+-- text, the earlier tables read one, and then the other.
 use Rattle.std.proofs.Common.{◌≡◌, ◌≢◌, ℕ, ◌<◌, ◌&&◌, ◌||◌, ◌==◌, not, Bool, true, false, cond, List, [], ◌∷◌, ◌++◌, length, drop, get_or, inl, inr, ⊎_elim, refl, sym, ap, subst, ◌∙◌, arith, append_assoc}
 use Rattle.std.specs.Char.{is_ascii_digit}
 use Rattle.std.specs.List.{list_all, prefix_len}
@@ -71,7 +71,7 @@ blank_byte (b ∷ text) some h = (and_true (is_blank b) (list_all is_blank text)
 no_digit : (text : List ℕ) → is_ascii_digit (get_or text 0 0) ≡ true → get_or text 0 0 ≡ 58 → ⊥
 no_digit text h f = let k : true ≡ false = sym h ∙ ap is_ascii_digit f in cc
 
--- a token of an expression that begins so is a Colon or a ColonColon
+-- a token of an expression that begins with `:` is a Colon or a ColonColon
 colon_ways : (opens : List Opener) (dot : Bool) (k : Kind) (text rest : List ℕ) → Ways opens dot k text rest → get_or text 0 0 ≡ 58 → is_coloned k ≡ true
 colon_ways opens dot k text rest (newline e (inl x)) f = absurd (differs text 10 (ap (λ l. get_or l 0 0) x) f refl)
 colon_ways opens dot k text rest (newline e (inr x)) f = absurd (differs text 13 (ap (λ l. get_or l 0 0) x) f refl)
@@ -103,7 +103,7 @@ long_there opens dot k text rest c is = by (side opens dot k text rest is)
     by (expression x y h) = some opens dot k text rest (ways opens dot k text rest h)
     by (template quoted x w) = absurd (not_both (context opens) quoted c x)
 
--- what was read there was a Colon
+-- the token that was read there was a Colon
 was_colon : (opens : List Opener) (dot : Bool) (k : Kind) (text rest tail : List ℕ) → context opens ≡ Expression → WasSpelling opens dot k text rest → text ++ rest ≡ 58 ∷ tail → k ≡ kind.Colon
 was_colon opens dot k text rest tail c was e = coloned_is k (by (side opens dot k text rest was.1)) was.0
   where
@@ -159,7 +159,7 @@ no_gap opens seen tail e = ap (λ l. drop (gap_in opens l) l) e ∙ by (has_gaps
     by false = refl
 
 module _ (s : State) (t : Lexeme) (next end : State) (ts : List Lexeme) (r : WasRead s t next) (run : WasRun next ts end) (done : IsComplete end) (apart : is kind.Colon t.kind ≡ true → starts_colon ts ≡ false) where
-  -- the older tables have read one colon, and the other is next
+  -- the earlier tables have read one colon, and the other is next
   not_two : (left : List ℕ) → ahead s ≡ 58 ∷ 58 ∷ left → context s.opens ≡ Expression → length t.text < 2 → ⊥
   not_two left e c few = by ts run apart
     where

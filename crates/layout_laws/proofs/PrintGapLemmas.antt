@@ -1,5 +1,5 @@
--- The gaps of a layout, one by one: after another token of the line what the spacing table says, or some blanks before a
--- cell, and at a line's start none before what stands in a heredoc.
+-- The gaps of a layout, one by one: after another token of the line the blank of the spacing table, or some blanks
+-- before a cell; and no gap at a line's start before a token in a heredoc.
 use Rattle.std.proofs.Common.{◌≡◌, ℕ, zero, suc, ◌+◌, ◌<◌, ◌||◌, Bool, true, false, List, [], ◌∷◌, ◌++◌, length, drop, Option, Some, None, ◌⊎◌, inl, inr, refl, sym, ap, subst, ◌∙◌, arith, ◌*◌}
 use Rattle.std.specs.Prelude.{if◌then◌else◌, slice_set, map}
 use Rattle.hcl_tokens.specs.Lexemes.{Lexeme}

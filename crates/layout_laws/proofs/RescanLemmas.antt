@@ -1,4 +1,4 @@
--- A print is scanned to the tokens of which it is made: there is one gap for each token, and each fits.
+-- A print is scanned to the tokens that make it: there is one gap for each token, and each fits.
 use Rattle.std.proofs.Common.{◌≡◌, ℕ, suc, ◌&&◌, not, Bool, true, false, List, [], ◌∷◌, ◌++◌, length, replicate, Option, Some, None, refl, sym, ap, subst, ◌∙◌, append_assoc}
 use Rattle.std.specs.Prelude.{if◌then◌else◌}
 use Rattle.std.specs.List.{flat_map}
@@ -54,7 +54,7 @@ newline_is _ v h = absurd (cc)
 abbrev Fits : List Lexeme → Type 0
 Fits ts = (before u : Option Lexeme) (dot : Bool) (k : Kind) (g : List ℕ) (gs : List (List ℕ)) → Coherent before u dot k → Spread before u g (first_line (lines ts)) → AllSpread gs (more_lines (lines ts)) → Besides k ts → AllFit dot k (with_gaps (g ++ all_gaps gs) ts)
 
--- a line goes on, or the next begins
+-- a line continues, or the next begins
 fits_cons : (t : Lexeme) (ts : List Lexeme) → Fits ts → (v : Bool) → ends_line t ≡ v → (ls : List Line) → ls ≡ (if v then (t ∷ []) ∷ lines ts else onto_line t (lines ts)) →
     (before u : Option Lexeme) (dot : Bool) (k : Kind) (g : List ℕ) (gs : List (List ℕ)) → Coherent before u dot k → Spread before u g (first_line ls) → AllSpread gs (more_lines ls) → Besides k (t ∷ ts) → AllFit dot k (with_gaps (g ++ all_gaps gs) (t ∷ ts))
 fits_cons t ts rec true e ls this before u dot k g gs c s more b = by g (subst (λ l. Spread before u g (first_line l)) this s)
@@ -125,7 +125,7 @@ text_is [] ts = refl
 text_is (g ∷ gs) [] = refl
 text_is (g ∷ gs) (t ∷ ts) = ap (λ l. replicate g 32 ++ (t.text ++ l)) (text_is gs ts) ∙ sym (append_assoc (replicate g 32) t.text (printed_text gs ts))
 
--- THE PRINT IS SCANNED to the tokens of which it is made
+-- THE PRINT IS SCANNED to the tokens that make it
 pub scans_again : (text : List ℕ) (ts : List Lexeme) → Scans text ts → Scans (print ts) (printed_tokens ts)
 scans_again text ts scanned =
     let again = other_gaps text (with_gaps (gaps ts) ts) (subst (λ l. Scans text l) (sym (tokens_are ts)) scanned) (all_fit text ts scanned) in

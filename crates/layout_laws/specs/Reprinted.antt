@@ -1,5 +1,5 @@
--- The tokens of a print: those of which it is made, each where it stands there. Our own words, for the laws that a print
--- is scanned back to them and printed again as it is.
+-- The tokens of a print: those that make it, each at its place there. Our own words, for the laws that a print is
+-- scanned back to them and printed again unchanged.
 use Rattle.std.specs.Prelude.{ℕ, List, [], ◌∷◌}
 use Rattle.hcl_tokens.specs.Lexemes.{Lexeme}
 use Rattle.hcl_tokens.specs.Regapped.{placed_tokens}

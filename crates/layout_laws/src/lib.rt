@@ -1,7 +1,7 @@
-//! What is proved of a print: that it is scanned to the same tokens, that printing twice changes nothing, and that files of
-//! the tables before are read and printed as before. No program calls these functions: their contracts are the laws.
+//! Laws of a print: it is scanned to the same tokens, printing twice changes nothing, and files of the earlier tables
+//! are read and printed as before. No program calls these functions: their contracts are the laws.
 //!
-//! They stand apart from the layout, since they need what is proved of a scan, and its code doesn't.
+//! They are separate from the layout, since they need the laws of a scan, and its code doesn't.
 #![tactic(auto)]
 
 ghost use Rattle.std.specs.Prelude.{◌≡◌, ◌≤◌, ℕ, List, length};
@@ -18,13 +18,13 @@ ghost use Rattle.hcl_grammar.specs.Verdict.{IsAccepted, start_of};
 ghost use Rattle.hcl_source.specs.Load.{IsText, max_source};
 ghost use Rattle.hcl_source.specs.Places.{line_of};
 
-/// A print is scanned to the tokens of which it is made: none join, split or change their kind.
+/// A print is scanned to the tokens that make it: none join, split or change their kind.
 pub fn rescan()
     ensures { (text : List ℕ) (ts : List Lexeme) → Scans text ts
         → Scans (print ts) (printed_tokens ts) }
 {}
 
-/// The tokens of a print print it again, and the grammar sees them as it saw the first.
+/// The tokens of a print print it again, and the grammar sees them as it saw the first tokens.
 pub fn print_kept()
     ensures again { (ts : List Lexeme) → print (printed_tokens ts) ≡ print ts }
     ensures seen { (ts : List Lexeme) → lookaheads (printed_tokens ts) ≡ lookaheads ts }
@@ -54,8 +54,8 @@ pub fn older_files()
         → Scans text ts × IsAccepted ts × (was_print ts ≡ print ts) }
 {}
 
-/// What has no `::` was scanned to the same tokens before there were names with `::`, and accepted where it is accepted
-/// now: so [`older_files`] speaks of all such files.
+/// Before names with `::` existed, a text without `::` was scanned to the same tokens, and accepted if it is accepted
+/// now: so [`older_files`] covers all such files.
 pub fn older_without_paths()
     ensures scanned { (text : List ℕ) (ts : List Lexeme) → Scans text ts → HasNoPath ts
         → WasScanned text ts }

@@ -51,15 +51,15 @@ one_answer_by (Err usage.OutOfMemory) input row other x y = absurd x
 pub one_answer : (words : List (List ℕ)) (input : List ℕ) (row other : Row) → IsAnswer words input row → IsAnswer words input other → row ≡ other
 one_answer words = one_answer_by (options_of words)
 
--- ---- from the bytes that were taken to the input
+-- ---- from the bytes taken to the input
 
--- what was taken up to the end is the input
+-- the bytes taken up to the end are the input
 pub whole_input : (left left' : Option (List ℕ)) (bytes : List ℕ) (P : List ℕ → Type 0) → Consumes left left' bytes → IsAtEnd left' → P bytes → OfInput left P
 whole_input None left' bytes P taken done p = (bytes, p)
 whole_input (Some xs) None bytes P taken done p = absurd taken
 whole_input (Some xs) (Some ys) bytes P taken done p = subst P (sym (taken ∙ ap (λ l. bytes ++ l) done ∙ append-nil bytes)) p
 
--- a fault of what was taken is that of the input
+-- a fault of the bytes taken is that of the input
 pub fault_of_input : (options : FmtOptions) (left left' : Option (List ℕ)) (bytes : List ℕ) (fault : Fault) → Consumes left left' bytes → (length bytes ≤ max_source → IsAtEnd left') → IsLoadFault bytes fault
     → OfInput left (λ input. IsFileAnswer options input (refusal_row fault))
 fault_of_input options None left' bytes fault taken done x = (bytes, inl (fault, x, refl))
@@ -72,7 +72,7 @@ fault_of_input options (Some xs) (Some ys) bytes fault taken done x =
     below : (a b : ℕ) → (a ≤ b) ⊎ (b < a)
     below a b = grind arith
 
--- ---- a run in which nothing failed and memory was there
+-- ---- a run in which nothing failed and memory sufficed
 
 module _ (answer : List ℕ → Row → Type 0) (end : End) where
   abbrev Answered : Option (List ℕ) → Type 0
@@ -91,7 +91,7 @@ module _ (answer : List ℕ → Row → Type 0) (end : End) where
       → r ≡ false → end.out.failed ≡ false → end.err.failed ≡ false → (end.status ≡ 4 → ⊥) → Answered left
   answered left r w p q s four = or_memory left w.0 (subst (λ b. IsRow answer b left w.0) p w.1) w.2 (ap (λ b. b || end.err.failed) q ∙ s) four
 
--- ---- the row of what was read
+-- ---- the row of the bytes read
 
 module _ (options : FmtOptions) where
   row_at : (failed : Bool) (left : Option (List ℕ)) (row : Row) → failed ≡ false → OrOutOfMemory formatter (λ r. OfInput left (λ input. IsFileAnswer options input r)) row → IsRow (IsFileAnswer options) failed left row

@@ -1,4 +1,4 @@
--- What a run printed is printed again, and found formatted by a check.
+-- A print of a run is printed again unchanged, and found formatted by a check.
 use Rattle.std.proofs.Common.{◌≡◌, ◌∙◌, ℕ, ◌≤◌, ◌&&◌, ◌==◌, Bool, true, false, List, [], ◌∷◌, Option, Some, None, refl, sym, ap, subst, inl, inr, length, arith}
 use Rattle.std.specs.Prelude.{Result, Ok, nat_lt, if◌then◌else◌}
 use Rattle.std.specs.Str.{bytes_eq}
@@ -62,13 +62,13 @@ module _ (options : FmtOptions) (plain : options.check ≡ false) (later : FmtOp
   by_verdict None e h = small_row (nat_lt max_source (length (print ts))) refl e h
   by_verdict (Some r) e h = absurd (refused_not _ row h good)
 
--- the file that was printed, as the options of later words have it
+-- the printed file, by the options of later words
 twice : (options later : FmtOptions) (input : List ℕ) (row : Row) → options.check ≡ false → IsFileAnswer options input row → row.status ≡ 0 → IsFileAnswer later row.out (again later row.out)
 twice options later input row plain (inl x) good = absurd (refused_not x.0 row x.2 good)
 twice options later input row plain (inr (is, inl x)) good = absurd (refused_not _ row x.3 good)
 twice options later input row plain (inr (is, inr x)) good = by_verdict options plain later input is x.0 x.1 row good (refusal_of (lookaheads x.0)) refl x.2
 
--- the same by the words
+-- the printed file, by the words
 twice_by : (words later : List (List ℕ)) (input : List ℕ) (row : Row) (options : FmtOptions) → AskForPrint words → options_of later ≡ Ok options → IsAnswer words input row → row.status ≡ 0 → IsAnswer later row.out (again options row.out)
 twice_by words later input row options asks asks' answer good =
     subst (λ (r : Result FmtOptions Usage). IsAnswerBy r row.out (again options row.out)) (sym asks') (twice (record { check = false }) options input row refl (subst (λ (r : Result FmtOptions Usage). IsAnswerBy r input row) asks answer) good)

@@ -1,5 +1,5 @@
--- What `tffmt` answers to a line of words and an input. Its texts, its statuses and the order in which faults are looked for
--- are our own choice.
+-- The answer of `tffmt` to a line of words and an input. Its texts, its statuses and the order of faults are our own
+-- choice.
 use Rattle.std.specs.Prelude.{◌≡◌, ◌⊎◌, ℕ, List, [], Result, Ok, Err, codes, length, nat_lt, if◌then◌else◌}
 use Rattle.std.specs.Str.{bytes_eq}
 use Rattle.hcl_source.specs.Places.{place}
@@ -23,7 +23,7 @@ use Rattle.tffmt_command.specs.declared.options.Usage.TheVariants as usage
 abbrev pub fault_line : Fault → List ℕ
 fault_line fault = error formatter (fault_words fault)
 
--- the row of a refused file: nothing but its one fault line
+-- the row of a refused file: only its one fault line
 abbrev pub refusal_row : Fault → Row
 refusal_row fault = record { out = []; err = fault_line fault; status = 2 }
 

@@ -1,5 +1,5 @@
--- What the words of a `tffmt` line ask for, as clap reads a simple command: its own definitions of the matches and
--- the faults of a line decide.
+-- The request of a `tffmt` line, as clap reads a simple command: its own definitions of the matches and the faults of a
+-- line decide.
 use Rattle.std.specs.Prelude.{List, Result, Ok, codes}
 use Rattle.command_line.specs.Arguments.{flag_rule, unless_fault, usage_by}
 use Rattle.command_line.specs.Flags.{is_set}
@@ -12,7 +12,7 @@ use Rattle.tffmt_command.specs.declared.options.Usage.TheVariants.{Help, BadLine
 abbrev pub tffmt : App
 tffmt = with_rule (new_app (codes "tffmt")) (flag_rule (codes "check"))
 
--- what a line gives in which clap finds no fault
+-- the options of a line in which clap finds no fault
 abbrev pub options_in : List Row → Result FmtOptions Usage
 options_in rows = Ok (record { check = is_set (codes "check") rows })
 

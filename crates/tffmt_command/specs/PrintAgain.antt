@@ -1,14 +1,14 @@
--- What is said of a print that is given as input again: words that ask for a print, words that ask for a check, and the
--- rows that these then have. Our own words, for the law `printed_twice`.
+-- A print that is given as input again: words that ask for a print, words that ask for a check, and their rows. Our own
+-- words, for the law `printed_twice`.
 use Rattle.std.specs.Prelude.{◌≡◌, ℕ, true, false, List, [], Ok}
 use Rattle.command_line.specs.Rows.{Row}
 use Rattle.tffmt_command.specs.Line.{options_of}
 
--- the words are taken, and ask for no help and no check
+-- the words are accepted, and ask for no help and no check
 abbrev pub AskForPrint : List (List ℕ) → Type 0
 AskForPrint words = options_of words ≡ Ok (record { check = false })
 
--- the words are taken, and ask for a check
+-- the words are accepted, and ask for a check
 abbrev pub AskForCheck : List (List ℕ) → Type 0
 AskForCheck words = options_of words ≡ Ok (record { check = true })
 

@@ -1,4 +1,4 @@
--- The rows of `tffmt` whose devices failed or whose memory ran out, beside those of its answers: our own choice.
+-- The rows of `tffmt` whose devices failed or whose memory ran out, besides those of its answers: our own choice.
 use Rattle.std.specs.Prelude.{◌≡◌, ℕ, Bool, true, false, List, Option, Some, None, codes}
 use Rattle.command_line.specs.Rows.{Program, Row, OrOutOfMemory, fails_with}
 
@@ -8,7 +8,7 @@ formatter = record { name = codes "tffmt"; failure = 4 }
 abbrev pub read_failed : Row
 read_failed = fails_with formatter (codes "read failed")
 
--- some input has the property, and where the reader tells what it has left, that is the input
+-- some input has the property, and if the reader tells its remaining bytes, these are the input
 abbrev pub OfInput : Option (List ℕ) → (List ℕ → Type 0) → Type 0
 OfInput None P = (input : List ℕ) × P input
 OfInput (Some input) P = P input

@@ -1,5 +1,4 @@
-//! What is proved of the definitions alone. No program calls these functions: their contracts are
-//! the laws.
+//! Laws of the definitions alone. No program calls these functions: their contracts are the laws.
 
 ghost use Rattle.std.specs.Prelude.{◌≡◌, ℕ, List, map};
 ghost use Rattle.command_line.specs.Rows.{Row};
@@ -8,8 +7,8 @@ ghost use Rattle.tffmt_command.specs.PrintAgain.{AskForCheck, AskForPrint, row_o
 
 use hcl_scan::laws::{list_or_fault, text_or_fault};
 
-/// A line of words and an input have an answer. The body shows it for those that are there: it
-/// loads and scans, and keeps nothing.
+/// A line of words and an input have an answer. The body shows it: it takes both as values, loads and scans, and keeps
+/// nothing.
 pub fn an_answer(words: &[&str], input: &[u8])
     ensures { (row : Row) × IsAnswer (map (λ word. word.now) words.now) input.now row }
 {
@@ -26,8 +25,8 @@ pub fn one_answer()
         → IsAnswer words input other → row ≡ other }
 {}
 
-/// A print that a run gave with status 0, and that is no help, gives itself when it is the input of a later run, with an
-/// empty standard error and status 0. A check of it gives nothing and status 0.
+/// A print that a run gave with status 0, other than help, gives itself as the input of a later run, with an empty
+/// standard error and status 0. A check of it gives nothing and status 0.
 pub fn printed_twice()
     ensures printed { (words later : List (List ℕ)) (input : List ℕ) (row : Row) → AskForPrint words
         → AskForPrint later → IsAnswer words input row

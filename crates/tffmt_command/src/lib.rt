@@ -1,5 +1,5 @@
-//! What the program `tffmt` does, over any devices: it reads the words of its command line and the file that it is given,
-//! and shows what they give.
+//! The program `tffmt` over any devices: it reads the words of its command line and its input file, and shows the
+//! result.
 #![tactic(auto)]
 
 pub mod laws;

@@ -9,10 +9,10 @@ use clap::Command;
 use command_line::{flag_named, is_flag_set, usage_for};
 use std::alloc::{AllocError, Global};
 
-/// What the words ask for.
+/// The request in the words.
 #[derive(Clone, Copy, Debug, PartialEq, Eq)]
 pub struct FmtOptions {
-    /// To say by the status whether the input is formatted, in place of printing it.
+    /// Report by the status whether the input is formatted, instead of printing it.
     pub check: bool,
 }
 
@@ -34,8 +34,8 @@ fn command<'a>(alloc: Global) -> Result<Command<'a>, AllocError>
     Command::new(alloc, "tffmt").arg(flag_named(alloc, "check"))
 }
 
-/// The options that the words give, the program's name first, or the usage that they have. Where
-/// memory runs out it answers `OutOfMemory`.
+/// The options in the words, with the program's name first, or their usage. If memory runs out it returns
+/// `OutOfMemory`.
 pub fn options(alloc: Global, words: &[&str]) -> Result<FmtOptions, Usage>
     ensures { (result ≡ Err OutOfMemory)
         ⊎ (result ≡ options_of (map (λ word. word.now) words.now)) }

@@ -23,7 +23,7 @@ static USAGE: &str = "usage: tffmt [--check] [--help]\n";
 
 static READ_FAILED: &str = "tffmt: error: read failed\n";
 
-/// This program as its messages have it.
+/// This program in its messages.
 fn formatter() -> Program
     ensures { result ≡ formatter }
 {
@@ -45,7 +45,7 @@ fn fault_line(alloc: Global, fault: &Fault) -> Result<String, AllocError>
     format!(in alloc; "tffmt: error: {line}:{column}: {text}\n")
 }
 
-/// Says what a file is refused for.
+/// Reports why a file is refused.
 fn refuse<O: ByteSink, E: ByteSink>(alloc: Global, out: &mut O, err: &mut E, fault: &Fault) -> u8
     requires out { O.failed out.old ≡ false }
     requires err { E.failed err.old ≡ false }
@@ -91,7 +91,7 @@ fn text_of<'s>(accepted: &Accepted<'_, 's>) -> &'s str
     accepted.tokens().source().text()
 }
 
-/// Shows what a file gives that is its own print, and so is no larger than a source.
+/// Shows the result for a file that is its own print, and so is no larger than a source.
 fn show_formatted<O: ByteSink, E: ByteSink>(
     options: &FmtOptions,
     accepted: &Accepted<'_, '_>,
@@ -112,7 +112,7 @@ fn show_formatted<O: ByteSink, E: ByteSink>(
     }
 }
 
-/// Shows what a file gives that isn't its own print, or isn't known to be where that makes no difference.
+/// Shows the result for a file that isn't its own print, or isn't known to be if that makes no difference.
 fn show_changed<O: ByteSink, E: ByteSink>(
     alloc: Global,
     options: &FmtOptions,
@@ -140,8 +140,8 @@ fn show_changed<O: ByteSink, E: ByteSink>(
     }
 }
 
-/// Whether a file is known to be its own print. Unless that is what is asked for, it is only looked for where it is found at
-/// once: the others are printed anew, and their runs needn't be read ahead twice.
+/// Whether a file is known to be its own print. Unless the words ask for that, only the quick test is made: other files
+/// are printed anew, and their runs needn't be read ahead twice.
 fn is_known_formatted(options: &FmtOptions, accepted: &Accepted<'_, '_>) -> bool
     ensures formatted { IsTrue result → print accepted.now.tokens ≡ accepted.now.text }
     ensures check { options.now.check ≡ true → print accepted.now.tokens ≡ accepted.now.text
@@ -153,8 +153,7 @@ fn is_known_formatted(options: &FmtOptions, accepted: &Accepted<'_, '_>) -> bool
     is_found_formatted(accepted)
 }
 
-/// Shows what an accepted file gives. A formatted file, which most are, is walked once and not
-/// printed anew.
+/// Shows the result for an accepted file. A formatted file, which most are, is walked once and not printed anew.
 fn format<O: ByteSink, E: ByteSink>(
     alloc: Global,
     options: &FmtOptions,
@@ -174,7 +173,7 @@ fn format<O: ByteSink, E: ByteSink>(
     }
 }
 
-/// Shows what a source gives.
+/// Shows the result for a source.
 fn answer<O: ByteSink, E: ByteSink>(
     alloc: Global,
     options: &FmtOptions,
@@ -197,9 +196,9 @@ fn answer<O: ByteSink, E: ByteSink>(
     }
 }
 
-/// Reads the input to its end and formats it: writes its print to standard output, or why it is
-/// refused to standard error, and gives the exit status. With `check` it prints nothing and says
-/// by the status whether the input is formatted.
+/// Reads the input to its end and formats it: writes its print to standard output, or the reason for refusing it to
+/// standard error, and returns the exit status. With `check` it prints nothing and says by the status whether the input
+/// is formatted.
 pub fn run<R: ByteSource, O: ByteSink, E: ByteSink>(
     alloc: Global,
     options: &FmtOptions,
@@ -222,7 +221,7 @@ pub fn run<R: ByteSource, O: ByteSink, E: ByteSink>(
     }
 }
 
-/// Says what the lines of this program are. It reads nothing.
+/// Prints the usage line. It reads nothing.
 pub fn bad_line<O: ByteSink, E: ByteSink>(out: &mut O, err: &mut E) -> u8
     requires out { O.failed out.old ≡ false }
     requires err { E.failed err.old ≡ false }
@@ -232,8 +231,8 @@ pub fn bad_line<O: ByteSink, E: ByteSink>(out: &mut O, err: &mut E) -> u8
     formatter().tell(out, err, USAGE, 2)
 }
 
-/// The whole program over any devices: reads the words, the program's name first, and then the
-/// input, shows what they give, and answers the exit status.
+/// The whole program over any devices: reads the words, with the program's name first, and then the input, shows the
+/// result, and returns the exit status.
 pub fn program<R: ByteSource, O: ByteSink, E: ByteSink>(
     alloc: Global,
     words: &[&str],
@@ -248,14 +247,14 @@ pub fn program<R: ByteSource, O: ByteSink, E: ByteSink>(
     ensures row { ShowsOne formatter
         (IsRow (IsAnswer (map (λ word. word.now) words.now)) (R.failed input.new)
         (R.left input.old)) (end_of O.ByteSink out.old out.new E.ByteSink err.old err.new result) }
-    // Where nothing failed and memory was there, it shows the row of its words and its input.
+    // If nothing failed and memory sufficed, it shows the row of its words and its input.
     ensures answer { R.failed input.new ≡ false → O.failed out.new ≡ false
         → E.failed err.new ≡ false → result ≢ 4
         → OfInput (R.left input.old) (λ bytes. (row : Row)
         × IsAnswer (map (λ word. word.now) words.now) bytes row
         × Shows formatter row (end_of O.ByteSink out.old out.new E.ByteSink err.old err.new
         result)) }
-    // Where the words give no options, nothing is read.
+    // If the words give no options, nothing is read.
     ensures unread { IfErr (options_of (map (λ word. word.now) words.now))
         (λ _. (R.failed input.new ≡ false) × (R.left input.new ≡ R.left input.old)) }
 {

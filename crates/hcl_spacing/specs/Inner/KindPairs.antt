@@ -1,5 +1,5 @@
--- The table of spacing by pairs of kinds: own words of the code, which need no trust. That they agree with the
--- table is proved by trying all pairs of kinds (proofs/KindPairLemmas).
+-- The table of spacing by pairs of kinds: definitions of the code, which need no trust. Trying all pairs of kinds
+-- proves that they agree with the table (proofs/KindPairLemmas).
 use Rattle.std.specs.Prelude.{◌&&◌, ◌||◌, ◌==◌, ℕ, Bool, true, false, not, Option, Some, None, if◌then◌else◌, codes}
 use Rattle.std.specs.Str.{bytes_eq}
 use Rattle.hcl_tokens.specs.Lexemes.{Lexeme}
@@ -10,7 +10,7 @@ use Rattle.hcl_spacing.specs.declared.rows.Row.{Row}
 use Rattle.std.specs.Int.{bit_at}
 use Rattle.hcl_spacing.specs.Spacing.{begins_with_colon, begins_with_equals, closes_group, is_opening, opens_sequence, stands_before}
 
--- what stands close after whatever it doesn't join
+-- kinds with no blank before them, unless they would join
 abbrev pub stands_close : Kind → Bool
 stands_close kind.Newline = true
 stands_close kind.Dot = true
@@ -21,7 +21,7 @@ stands_close kind.Lit = true
 stands_close kind.QuoteClose = true
 stands_close _ = false
 
--- after what an index may follow
+-- after the kinds that an index may follow
 abbrev pub space_after_operand : Kind → Bool
 space_after_operand r = not (stands_close r || closes_group r || is kind.BracketOpen r)
 
@@ -45,11 +45,11 @@ space_in_sequence r = if is kind.SeqClose r then None else Some (is kind.BraceOp
 abbrev pub space_after_colon : Kind → Option Bool
 space_after_colon r = if is kind.Newline r then Some false else if stands_close r || closes_group r then None else Some true
 
--- not told, but at the end of a line
+-- decided only at the end of a line
 abbrev pub unless_line_ends : Kind → Option Bool
 unless_line_ends r = if is kind.Newline r then Some false else None
 
--- the answer, where the two kinds give it, outside heredocs
+-- the answer, if the two kinds give it, outside heredocs
 abbrev pub pair_space : Kind → Kind → Option Bool
 pair_space kind.Not r = unless_line_ends r
 pair_space kind.Minus r = if stands_close r then Some false else None
@@ -73,7 +73,7 @@ pair_space kind.ParenClose r = Some (space_after_operand r)
 pair_space kind.BracketClose r = Some (space_after_operand r)
 pair_space _ r = Some (not (stands_close r || closes_group r))
 
--- the answer where the kinds don't give it, by what the table asks after this kind of the texts or of what stands before
+-- the answer if the kinds don't give it, by the table's tests after this kind of the texts or of the token before
 abbrev pub asked_after : Kind → Option Lexeme → Lexeme → Lexeme → Bool
 asked_after kind.Not before subject after = begins_with_equals after.text
 asked_after kind.Colon before subject after = begins_with_colon after.text
@@ -133,6 +133,6 @@ number kind.HeredocClose = 41
 abbrev pub has : ℕ → Kind → Bool
 has kinds kind = bit_at kinds (number kind) == 1
 
--- what a row tells of a kind
+-- the answer of a row for a kind
 abbrev pub told : Row → Kind → Option Bool
 told row r = if has row.asked r then None else Some (has row.blank r)

@@ -1,4 +1,5 @@
--- What a part of a recursive descent does, in terms of the predictor: our own words for the contracts of the parser.
+-- The effect of a part of a recursive descent, in terms of the predictor: our own words for the contracts of the
+-- parser.
 use Rattle.std.specs.Prelude.{◌≡◌, ◌<◌, ℕ, zero, suc, ◌+◌, Bool, true, false, List, [], ◌∷◌, ◌++◌, Option, Some, Result, Ok, Err}
 use Rattle.hcl_grammar.specs.declared.class.Lookahead.{Lookahead}
 use Rattle.hcl_grammar.specs.declared.class.Class.{Class}
@@ -21,7 +22,7 @@ use Rattle.hcl_syntax.specs.Inner.Cursors.{shown, first, Looks}
 use Rattle.hcl_grammar.specs.Grammar.{Marked, Action, ◌at◌, ◌then◌, reads, closes, inside, directive_row, the, file, body, eol, expr, fits}
 use Rattle.hcl_grammar.specs.Predictor.{run}
 
--- the refusal that was met, or else what comes of the rest
+-- the refusal, or otherwise the answer for the rest
 abbrev pub outcome : {A : Type 0} → Result A Refusal → Option Refusal → Option Refusal
 outcome (Ok _) o = o
 outcome (Err f) o = Some f
@@ -36,11 +37,11 @@ said (Err e) f = Err f
 pub record Advances {A : Type 0} (count : ℕ) (xs : List Marked) (old : List Lookahead) (result : Result A Refusal) (ys : List Marked) (new : List Lookahead) : Type 0 where
   pub same : (after : List Marked) → run count (xs ++ after) old ≡ outcome result (run count (ys ++ after) new)
 
--- The same with the symbols gone and one directive fewer open.
+-- With the symbols xs first and then gone, and one directive fewer open.
 pub record Ends {A : Type 0} (count : ℕ) (xs : List Marked) (old : List Lookahead) (result : Result A Refusal) (new : List Lookahead) : Type 0 where
   pub same : (after : List Marked) → run (count + 1) (xs ++ after) old ≡ outcome result (run count after new)
 
--- The same with the symbols gone.
+-- With the symbols xs first and then gone.
 abbrev pub Parses : ℕ → List Marked → List Lookahead → Result (Unit {0}) Refusal → List Lookahead → Type 0
 Parses count xs old result new = Advances count xs old result [] new
 
@@ -49,13 +50,13 @@ abbrev pub waits : Newlines → ℕ → List Marked → List Marked
 waits m zero ss = ss
 waits m (suc n) ss = the Separator at m ∷ expr at m ∷ waits m n ss
 
--- what has to stand where an operand ended
+-- the symbols expected after an operand
 abbrev pub follow_symbols : Newlines → Follow → List Marked
 follow_symbols m Operator = expr at m ∷ []
 follow_symbols m Choice = expr at m ∷ the Separator at m ∷ expr at m ∷ []
 follow_symbols m Other = []
 
--- whether another operand has to stand there
+-- whether another operand is expected
 abbrev pub goes_on : Follow → Bool
 goes_on Operator = true
 goes_on Choice = true
@@ -65,13 +66,13 @@ abbrev pub after_follow : Newlines → Result Follow Refused → List Marked
 after_follow m (Ok f) = follow_symbols m f
 after_follow m (Err e) = []
 
--- The first token was what the terminal waits for, and was read.
+-- The first token was the one that the terminal expects, and was read.
 pub record TookTerminal (m : Newlines) (e : Terminal) (old new : List Lookahead) : Type 0 where
   pub token : Lookahead
   pub looks : Looks m old token new
   pub fits : fits e token.class ≡ true
 
--- The first token, if there is one, is not what the terminal waits for.
+-- The first token, if there is one, is not the one that the terminal expects.
 pub record LacksTerminal (m : Newlines) (e : Terminal) (old new : List Lookahead) : Type 0 where
   pub shows : new ≡ shown m old
   pub unfit : (t : Lookahead) → Some t ≡ first new → fits e t.class ≡ false
@@ -82,7 +83,7 @@ is_prefix Minus = true
 is_prefix Not = true
 is_prefix _ = false
 
--- what follows a body's items
+-- the symbols after a body's items
 abbrev pub body_symbols : Bool → List Marked
 body_symbols true = body at Seen ∷ the EndBrace at Seen ∷ eol at Seen ∷ []
 body_symbols false = []
@@ -91,18 +92,18 @@ abbrev pub after_item : Result Bool Refused → List Marked
 after_item (Ok opened) = body_symbols opened
 after_item (Err e) = []
 
--- the state in a file, or in so many blocks of it
+-- the state in a file, or in a number of blocks of it
 abbrev pub bodies : ℕ → List Marked
 bodies zero = file at Seen ∷ []
 bodies (suc n) = body at Seen ∷ the EndBrace at Seen ∷ eol at Seen ∷ bodies n
 
--- a refusal names one of so many tokens, or the end
+-- a refusal names a token of the list, or the end
 abbrev pub Names : Refusal → ℕ → Type 0
 Names (UnexpectedToken n) count = n < count
 Names UnexpectedEnd count = Unit {0}
 Names (TooDeep n) count = n < count
 
--- what a word does in a directive
+-- the effect of a word in a directive
 abbrev pub turning : Section → Class → Turning
 turning InIf (Ident Else) = Onward
 turning InIf (Ident Endif) = Closing
@@ -110,7 +111,7 @@ turning InElse (Ident Endif) = Closing
 turning InFor (Ident Endfor) = Closing
 turning _ _ = Inner
 
--- the row of a directive in a section, by what its word does
+-- the row of a directive in a section, by the effect of its word
 abbrev pub turning_row : Turning → Section → Newlines → ℕ → Class → Action
 turning_row Onward e m n c = reads (the EndSequence at m ∷ inside InElse at m ∷ [])
 turning_row Closing e m n c = closes (the EndSequence at m ∷ [])

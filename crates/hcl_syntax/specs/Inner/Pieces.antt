@@ -14,29 +14,29 @@ use Rattle.hcl_syntax.specs.declared.words.NumberedKind.{NumberedKind}
 abbrev pub between : List Lexeme → ℕ → ℕ → List Numbered
 between tokens from to = take (to - from) (numbered_from from (drop from tokens))
 
--- the same without comments
+-- those tokens without comments
 abbrev pub words : List Lexeme → ℕ → ℕ → List Numbered
 words tokens from to = without_comments (between tokens from to)
 
--- the token is the first of these
+-- the token is the first of them
 pub record IsFirst (tokens : List Lexeme) (from to : ℕ) (word : NumberedKind) : Type 0 where
   pub text : List ℕ
   pub first : words tokens from to ≡ record { number = word.number; kind = word.kind; text = text } ∷ words tokens (word.number + 1) to
   pub from_on : from ≤ word.number
   pub within : word.number < to
 
--- tokens of the kind mean nothing to the search for newlines
+-- tokens of the kind make no difference to the search for newlines
 abbrev pub is_passed : Kind → Bool
 is_passed k = not (is kind.Newline k || is_opener k || is_closer k)
 
--- how many tokens stand before the first newline outside all openers, where so many are open
+-- the number of tokens before the first newline outside all openers, with this many open
 abbrev pub first_len : ℕ → List Lexeme → ℕ
 first_len depth [] = 0
 first_len depth (t ∷ ts) =
     let rest = first_len (deepen depth t.kind) ts in
     if is kind.Newline t.kind && is_closed depth then 0 else rest + 1
 
--- the number of the first newline, from a number on, outside all openers, where so many are open; or how many tokens there are
+-- the number of the first newline, from a number on, outside all openers, with this many open; or the number of tokens
 abbrev pub newline_from : List Lexeme → ℕ → ℕ → ℕ
 newline_from tokens depth n = n + first_len depth (drop n tokens)
 
@@ -44,7 +44,7 @@ newline_from tokens depth n = n + first_len depth (drop n tokens)
 abbrev pub leads : Kind → Bool
 leads k = is kind.Newline k || is kind.BraceOpen k
 
--- a piece can begin at the token of this number: it is the first, or one that leads stands before it
+-- a piece can begin at the token of this number: it is the first, or one that leads is before it
 abbrev pub CanBegin : List Lexeme → ℕ → Type 0
 CanBegin tokens i = (n : ℕ) (t : Lexeme) → i ≡ n + 1 → slice_get tokens n ≡ Some t → leads t.kind ≡ true
 
@@ -57,7 +57,7 @@ pub record AreEnds (tokens : List Lexeme) (ends : List ℕ) : Type 0 where
 abbrev pub items_at : ℕ → List Numbered → List Item
 items_at level ts = items (length ts) level ts
 
--- the first newline outside all openers is last, before it the first one where one opener is open, and so on; where there
--- is no more, there is none
+-- the stack: last is the first newline outside all openers, before it the first one with one opener open, and so on; if
+-- there is no more, there is no newline
 abbrev pub AreNewlinesAhead : List Lexeme → List ℕ → ℕ → Type 0
 AreNewlinesAhead tokens ahead n = (depth : ℕ) → get_or (reverse ahead) depth (length tokens) ≡ newline_from tokens depth n

@@ -1,4 +1,4 @@
--- Operands of a few tokens, and what ends an expression after one.
+-- Operands of a few tokens, and the tokens that end an expression after one.
 use Rattle.std.specs.Prelude.{◌≡◌, ◌<◌, ◌≤◌, ℕ, Bool, true, false, List, [], ◌∷◌, length, Ok}
 use Rattle.hcl_grammar.specs.declared.class.Lookahead.{Lookahead}
 use Rattle.hcl_grammar.specs.declared.class.Class.{Class}
@@ -9,7 +9,7 @@ use Rattle.hcl_grammar.specs.declared.expected.Terminal.TheVariants.{EndQuote}
 use Rattle.hcl_grammar.specs.Grammar.{◌at◌, the, expr, after, after_ident, parts}
 use Rattle.hcl_syntax.specs.Inner.Parsing.{Parses}
 
--- no expression goes on with the token, and it isn't passed over
+-- no expression continues with the token, and it isn't skipped
 abbrev pub ends_expression : Newlines → Class → Bool
 ends_expression Seen Newline = true
 ends_expression m Comma = true
@@ -23,7 +23,7 @@ ends_expression m Colon = true
 ends_expression m Ellipsis = true
 ends_expression m _ = false
 
--- an operand by itself, but for what goes on after it
+-- an operand by itself, apart from its continuation
 abbrev pub is_short_operand : Class → Bool
 is_short_operand (Ident w) = true
 is_short_operand (Number d) = true
@@ -41,7 +41,7 @@ abbrev pub is_identifier : Class → Bool
 is_identifier (Ident w) = true
 is_identifier _ = false
 
--- what stands between quotes, without sequences, and the closing quote
+-- the text between quotes without sequences, and the closing quote
 abbrev pub is_quoted : Class → Class → Bool
 is_quoted Lit QuoteClose = true
 is_quoted _ _ = false
@@ -53,19 +53,19 @@ pub record ExpressionEnds (m : Newlines) (left : List Lookahead) : Type 0 where
   pub is : left ≡ token ∷ more
   pub ends : ends_expression m token.class ≡ true
 
--- The old tokens down to the ones that are left are steps after an operand, or none: where an expression ends in front of
--- what is left, there is nothing else.
+-- The old tokens down to the remaining ones are steps after an operand, or none: if an expression ends before the
+-- remaining ones, there is nothing else.
 pub record AreSteps (old left : List Lookahead) : Type 0 where
   pub after_ident : (m : Newlines) (count : ℕ) → ExpressionEnds m left → Parses count (after_ident at m ∷ []) old (Ok (tt {0})) left
   pub after : (m : Newlines) (count : ℕ) → ExpressionEnds m left → Parses count (after at m ∷ []) old (Ok (tt {0})) left
   pub shorter : length left ≤ length old
 
--- the same of the rest of a text between quotes, after its opening quote
+-- such steps for the rest of a text between quotes, after its opening quote
 pub record IsQuoted (old left : List Lookahead) : Type 0 where
   pub parts : (m : Newlines) (count : ℕ) → ExpressionEnds m left → Parses count (parts at m ∷ the EndQuote at m ∷ after at m ∷ []) old (Ok (tt {0})) left
   pub shorter : length left ≤ length old
 
--- the same of a whole operand
+-- such steps for a whole operand
 pub record IsOperand (old left : List Lookahead) : Type 0 where
   pub reads : (m : Newlines) (count : ℕ) → ExpressionEnds m left → Parses count (expr at m ∷ []) old (Ok (tt {0})) left
   pub shorter : length left < length old

@@ -1,5 +1,6 @@
--- The print before names with `::`: the table of spacing had no row for that kind, and no colons that would join. All else
--- was as it is now, so only what goes by the table is written once more (`Spacing`, `Gaps` and `Print`).
+-- The print before names with `::`: the table of spacing had no row for that kind, and no colons that would join.
+-- Everything else was as it is now, so only the definitions that depend on the table are repeated (`Spacing`, `Gaps`
+-- and `Print`).
 use Rattle.std.specs.Prelude.{◌&&◌, ◌||◌, ℕ, Bool, true, false, not, List, [], ◌∷◌, map, Option, Some, None, if◌then◌else◌, codes}
 use Rattle.std.specs.List.{flat_map}
 use Rattle.std.specs.Str.{bytes_eq}

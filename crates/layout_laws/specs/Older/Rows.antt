@@ -1,5 +1,5 @@
--- The grammar before names with `::`: no row read that class, so no `path` was ever waited for. All else was as it is now,
--- so only what goes by the rows is written once more (`Predictor` of `hcl_syntax`).
+-- The grammar before names with `::`: no row read that class, so no `path` was ever expected. Everything else was as it
+-- is now, so only the definitions that depend on the rows are repeated (`Predictor` of `hcl_syntax`).
 use Rattle.std.specs.Prelude.{◌≡◌, ℕ, Bool, true, false, List, [], ◌∷◌, Option, None, if◌then◌else◌}
 use Rattle.hcl_tokens.specs.Lexemes.{Lexeme}
 use Rattle.hcl_grammar.specs.declared.class.Class.{Class}

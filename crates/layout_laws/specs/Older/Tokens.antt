@@ -1,6 +1,6 @@
--- Tokens by the table before names with `::`, to state that older files are read as before: no kind was ColonColon. All
--- else was as it is now, so only what goes by the spelling of a kind is written once more (`Spelling` and `Scans` of
--- `hcl_tokens`).
+-- Tokens by the table before names with `::`, to state that older files are read as before: no kind was ColonColon.
+-- Everything else was as it is now, so only the definitions that depend on the spelling of a kind are repeated
+-- (`Spelling` and `Scans` of `hcl_tokens`).
 use Rattle.std.specs.Prelude.{◌≡◌, ◌≢◌, ◌+◌, ◌<◌, ◌≤◌, ℕ, Bool, List, [], ◌∷◌, ◌++◌, length, ◌⊎◌}
 use Rattle.hcl_tokens.specs.Lexemes.{Lexeme, Opener, in_heredoc, open_after, max_open}
 use Rattle.hcl_tokens.specs.Spelling.{IsSpelling}

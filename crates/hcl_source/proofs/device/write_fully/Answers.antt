@@ -3,7 +3,7 @@ use Rattle.std.proofs.Math.Seq.{take-add}
 use Rattle.std.specs.Io.KnownBytes.{Appends}
 use Rattle.hcl_source.proofs.device.write_fully.Goals as goal
 
--- what two writes in a row append
+-- two writes in a row append both texts
 both_append : (a b c : Option (List ℕ)) (bytes rest : List ℕ) (d n : ℕ) → Appends a b (take d bytes) → rest ≡ drop d bytes → Appends b c (take n rest) → Appends a c (take (d + n) bytes)
 both_append None b c bytes rest d n first is second = tt
 both_append (Some xs) None c bytes rest d n first is second = absurd first

@@ -4,7 +4,7 @@ use Rattle.std.proofs.lemmas.List.Sums.{suffix_len_is}
 use Rattle.std.proofs.lemmas.Bool.Decides.{nat_tests}
 use Rattle.hcl_source.proofs.source.line_start.Goals as goal
 
--- what no LF is in, after an LF or at the start, is what stands after the last LF
+-- a text without LF, after an LF or at the start, is the text after the last LF
 drop_is : (xs : List ℕ) (n : ℕ) → n ≤ length xs → ((k : ℕ) → n ≤ k → k < length xs → get_or xs k 0 ≡ 10 → ⊥) → (0 < n → get_or xs (n - 1) 0 ≡ 10) → drop n xs ≡ after_last (λ b. b == 10) xs
 drop_is xs n within no_lf after_lf =
     let test : (b : ℕ) → (b ≡ 10 → ⊥) → not (b == 10) ≡ true = λ b h. grind (arith, nat_tests) in
