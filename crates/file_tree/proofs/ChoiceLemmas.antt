@@ -1,4 +1,4 @@
--- Paths that are excluded.
+-- Excluded paths.
 use Rattle.std.proofs.Common.{◌≡◌, ◌∙◌, ◌<◌, ◌+◌, ◌∷◌, [], ℕ, Bool, true, false, Bor, Global, List, Vec, ap, get_or, length, map, refl, sym, take}
 use Rattle.std.specs.Prelude.{◌||◌, ◌++◌}
 use Rattle.std.specs.List.{list_any}
@@ -8,12 +8,12 @@ use Rattle.file_tree.specs.Choices.{has_part, is_at}
 use Rattle.file_tree.specs.Files.{Name}
 use Rattle.file_tree.specs.Paths.{top}
 
--- a test of what elements stand for
+-- a test of the values of elements
 pub any_map : {X Y : Type 0} (f : Y → Bool) (g : X → Y) (xs : List X) → list_any (λ x. f (g x)) xs ≡ list_any f (map g xs)
 any_map f g [] = refl
 any_map f g (x ∷ xs) = ap (λ v. f (g x) || v) (any_map f g xs)
 
--- one folder more
+-- another folder
 pub folders_more : (paths : List (Bor (List ℕ))) (i : ℕ) (d : Bor (List ℕ)) (old new : List (Vec ℕ Global)) (folder : Vec ℕ Global) → i < length paths → new ≡ old ++ folder ∷ []
     → map (λ f. f.items) old ≡ map top (map (λ p. p.now) (take i paths)) → folder.items ≡ top (get_or paths i d).now
     → map (λ f. f.items) new ≡ map top (map (λ p. p.now) (take (i + 1) paths))
@@ -21,7 +21,7 @@ folders_more paths i d old new folder within is so one =
     ap (map (λ (f : Vec ℕ Global). f.items)) is ∙ map-append (λ (f : Vec ℕ Global). f.items) old (folder ∷ []) ∙ (λ j. so j ++ one j ∷ [])
     ∙ sym (ap (map top) (map_more (λ (p : Bor (List ℕ)). p.now) paths i d within) ∙ map-append top (map (λ (p : Bor (List ℕ)). p.now) (take i paths)) ((get_or paths i d).now ∷ []))
 
--- one part more
+-- another part
 pub any_more : (p : List ℕ → Bool) (all : List (List ℕ)) (n m : ℕ) (d : List ℕ) (has one new : Bool) → n < length all → d ≡ get_or all n d → m ≡ n + 1 → has ≡ list_any p (take n all) → one ≡ p d → new ≡ (has || one)
     → new ≡ list_any p (take m all)
 any_more p all n m d has one new within is more so that then =

@@ -15,7 +15,7 @@ still_untold bytes false = refl
 put_silent : (name : Name) (bytes : List ℕ) → silent ≡ put silent name bytes
 put_silent name bytes = λ i. record silent { told = λ other. still_untold bytes (bytes_eq other name) i }
 
--- it tells the same of files that were replaced
+-- it also tells nothing of files after a replacement
 pub silent_replace : {X Y : Type 0} (r : Result X Y) (name : Name) (bytes : List ℕ) → OnOk r (silent ≡ put silent name bytes)
 silent_replace (Ok x) name bytes = put_silent name bytes
 silent_replace (Err y) name bytes = tt
@@ -25,7 +25,7 @@ pub silent_noted : (fault : Option TreeFault) → None ≡ with_fault None fault
 silent_noted None = refl
 silent_noted (Some fault) = refl
 
--- ---- the faults of calls, one after the other
+-- ---- the faults of calls in turn
 
 abbrev pub list_of : Option TreeFault → List TreeFault
 list_of None = []

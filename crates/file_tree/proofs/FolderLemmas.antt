@@ -1,4 +1,4 @@
--- What stands in one folder.
+-- The files of one folder.
 use Rattle.std.proofs.Common.{◌≡◌, ◌⊎◌, ◌++◌, ◌∷◌, [], ℕ, suc, Bool, true, false, List, Option, Some, None, Contains, arith, inl, inr, refl, subst, sym}
 use Rattle.std.proofs.lemmas.List.Elements.{Contains-push_cases}
 use Rattle.file_tree.specs.Below.{IsEntry, IsFileFor, IsSpecial, Says, listed}
@@ -106,7 +106,7 @@ module _ (files : Files) (folder : Name) where
       turn last (inr (inl h)) = inr (o.named (folder ++ last) (h.0, h.1, h.2))
       turn last (inr (inr h)) = inr (o.named (folder ++ last) (h.0, h.1, h.2))
 
--- the same where what judges has this choice
+-- for any judge with this choice
 pub finds_whole : (files : Files) (told : Chosen) (folder : Name) (old new : Reached) (ordered : List Found) → told ≡ whole → TakesFolder files told folder old new → old.found ≡ [] → Orders new.found ordered
     → FindsIn files folder ordered
 finds_whole files told folder old new ordered is takes nothing o = finds_in files folder old new ordered (subst (λ (c : Chosen). TakesFolder files c folder old new) is takes) nothing o

@@ -1,4 +1,4 @@
--- What the device's calls answered, step by step.
+-- The answers of the device's calls, step by step.
 use Rattle.std.proofs.Common.{◌≡◌, ◌≢◌, ◌∙◌, ◌<◌, ◌+◌, ◌⊎◌, ◌++◌, ◌∷◌, [], ℕ, Bool, Bor, true, false, List, Option, Some, None, Result, Ok, Err, OnOk, Contains, ap, append_assoc, append-nil, arith, get_or, inl, inr, length, map, refl, subst, sym, take}
 use Rattle.std.proofs.lemmas.List.{map-append, map_more}
 use Rattle.file_tree.specs.Below.{IsOther}
@@ -22,7 +22,7 @@ use Rattle.file_tree.proofs.OrderLemmas.{cons_cases, none_in}
 
 -- ---- lists of calls that failed
 
--- a name that is reported with this fault
+-- a name reported with this fault
 abbrev pub failure : Name → TreeFault → Failure
 failure name fault = record { name = name; fault = fault }
 
@@ -92,9 +92,9 @@ hears_linked specials (File identity) path old new before after adds still = hea
 hears_linked specials Link path old new before after same still = hears_none old.found new.found before after (ap (λ (r : Reached). r.found) same) still
 hears_linked specials Other path old new before after takes still = hears_special specials path old new before after takes still
 
--- ---- names that are given
+-- ---- given names
 
--- what was heard is real
+-- the reports are real
 hears_real : (files : Files) (chosen : Chosen) (path : Name) (old new : List Found) (before after : Faults) → Hears old new before after → HearsGiven files chosen path old new before after
 hears_real files chosen path old new before after h = record {
   more = h.more;
@@ -190,7 +190,7 @@ other_more files chosen paths more name fault h = (h.0, Contains-append_left pat
 other_last : (files : Files) (chosen : Chosen) (paths : List Name) (path name : Name) (fault : TreeFault) → IsOtherIn files chosen (path ∷ []) name fault → IsOtherIn files chosen (paths ++ path ∷ []) name fault
 other_last files chosen paths path name fault h = (h.0, Contains-append_right paths (path ∷ []) h.0 h.1, h.2)
 
--- one path more was taken
+-- another path was taken
 pub real_more : (files : Files) (chosen : Chosen) (paths : List Name) (path : Name) (old new : List Found) (before mid after : Faults) → AreReal files chosen paths before mid old → HearsGiven files chosen path old new mid after
     → AreReal files chosen (paths ++ path ∷ []) before after new
 real_more files chosen paths path old new before mid after one two = record {
@@ -247,7 +247,7 @@ heard_real files chosen paths first found some before mid after one two only = r
     by f fault e (inl d) = first_of f fault (one.real f fault d e)
     by f fault e (inr d) = inl (Contains-append_right one.noted (failures_in two.more) (failure f.name.items fault) (reported_in two.more f fault d e))
 
--- the same where what judges has this choice
+-- for any judge with this choice
 pub real_chosen : (files : Files) (told chosen : Chosen) (paths : List Name) (first found ordered : List Found) (before mid after : Faults) → told ≡ chosen → AreReal files told paths before mid first
     → Hears first found mid after → Orders found ordered → AreReal files chosen paths before after ordered
 real_chosen files told chosen paths first found ordered before mid after is one two o =

@@ -54,7 +54,7 @@ unfolding IsStrictlySortedBy
 rises_push [] x h lower = (tt, tt)
 rises_push (k ∷ ks) x h lower = (all_push (Before k) ks x h.0 (lower k (0, omega arith, refl)), rises_push ks x h.1 (λ j c. lower j (later k j ks c)))
 
--- ---- names that are links, and names that aren't
+-- ---- names that are links, and other names
 
 some_file : (a b : FoundFile) → Some a ≡ Some b → a ≡ b
 some_file a b e = cc
@@ -136,7 +136,7 @@ module _ (own : Identity → Bool) (f : Found) (met kept : List Found) (had has 
       here (inl d) = old (k.stays g d)
       here (inr e) = inl (subst (λ (x : Found). Contains (kept ++ f ∷ []) x) e here_kept)
 
-  -- one that is no link
+  -- a name that is no link
   pub keeps_other : ((identity : Identity) → IsLinkTo identity f → ⊥) → has ≡ had → Keeps own (met ++ f ∷ []) (kept ++ f ∷ []) has
   keeps_other never same = subst (λ (p : Identity → Bool). Keeps own (met ++ f ∷ []) (kept ++ f ∷ []) p) (sym same) (record {
     rises = rises_kept;
@@ -203,7 +203,7 @@ module _ (own : Identity → Bool) (f : Found) (met kept : List Found) (had has 
       once g h i one other (inr e) (inl d) = absurd (never h g i other one d e)
       once g h i one other (inr e) (inr d) = ap (λ (x : Found). x.name.items) (sym e ∙ d)
 
-  -- a link to one that was
+  -- a link to a file that was noted
   pub passes_link : (identity : Identity) → IsLinkTo identity f → NotesIdentity had has identity false → Keeps own (met ++ f ∷ []) kept has
   passes_link identity link n = record {
     rises = k.rises;
@@ -236,7 +236,7 @@ module _ (own : Identity → Bool) (f : Found) (met kept : List Found) (had has 
       known i (inl e) = k.known i (subst (λ (x : Identity). had x ≡ true) (sym e) was)
       known i (inr e) = k.known i e
 
-  -- whatever it is
+  -- whatever the name is
   by_link : (kept' : List Found) (identity : Identity) → IsLinkTo identity f → MeetsLink identity f had has kept kept' → Keeps own (met ++ f ∷ []) kept' has
   by_link kept' identity link m = turn m.0 m.1 m.2
     where
@@ -299,7 +299,7 @@ module _ (found kept : List Found) (own has : Identity → Bool) (owns : Owns fo
       once f g c d i link (inl plain) = true≢false (sym (owns.all f i (k.only f c) plain) ∙ k.apart g i d link)
       once f g c d i link (inr h) = before_itself f g (k.once f g i c d h.0 link) h.1
 
--- when all were met
+-- after all names
 pub kept_once : {E : Type 0} (r : Result (Vec Found Global) E) (found : List Found) (own : Identity → Bool) → Owns found own → IfOk r (λ kept. Rises found → AreKept own found kept.items)
     → IfOk r (λ kept. Rises found → KeepsOnce found kept.items)
 kept_once (Ok kept) found own owns so = λ up. let k = so up in keeps_once found kept.items own k.0 owns k.1

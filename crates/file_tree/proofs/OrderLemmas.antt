@@ -1,4 +1,4 @@
--- What was found, sorted, and each name once.
+-- The found names, sorted and each once.
 use Rattle.std.proofs.Common.{◌≡◌, ◌∙◌, ◌<◌, ◌+◌, ◌⊎◌, ℕ, zero, suc, Bool, false, List, [], ◌∷◌, Option, Some, None, Ordering, Less, Equal, Greater, IsPermutation, IsSorted, Contains, ap, arith, bytes_eq, get_or, inl, inr, is_lt, length, nat_cmp, refl, subst, sym, true≢false}
 use Rattle.std.specs.Option.{option_cmp}
 use Rattle.std.specs.Ordering.{ordering_then}
@@ -21,11 +21,11 @@ same_name f g = bytes_eq f.name.items g.name.items
 abbrev pub by_name : Found → Found → Ordering
 by_name f g = slice_cmp nat_cmp f.name.items g.name.items
 
--- of one name the first has no fault where the second has none
+-- of two with one name, the first has no fault if the second has none
 abbrev pub Low : Found → Found → Type 0
 Low f g = f.name.items ≡ g.name.items → g.fault ≡ None → f.fault ≡ None
 
--- each is low before the next, after this one
+-- in this one and the list after it, each is low before the next
 abbrev Chain : Found → List Found → Type 0
 Chain p [] = Unit {0}
 Chain p (x ∷ xs) = Low p x × Chain x xs
@@ -43,7 +43,7 @@ none_in x c = omega (arith, c.1)
 found_later : (k : Found) (xs : List Found) (name : Name) → IsFound xs name → IsFound (k ∷ xs) name
 found_later k xs name h = let within : h.1.0 < length xs = h.1.1 in (h.0, (suc h.1.0, omega arith, h.1.2), h.2, h.3)
 
--- this one is kept under the name, and without a fault; or it is still to come
+-- this one has the name, and no fault; or the found one is still to come
 abbrev Comes : Found → List Found → Found → Type 0
 Comes k xs z = ((k.name.items ≡ z.name.items) × (k.fault ≡ None)) ⊎ Contains xs z
 
@@ -91,7 +91,7 @@ kept_all (x ∷ xs) z low c none = kept_from xs x x z (chain_from x xs low) refl
     chain_from p [] low = tt
     chain_from p (x ∷ xs) low = (low 0 p (omega arith), chain_from x xs (next p (x ∷ xs) low))
 
--- ---- sorted by names, and of one name by the fault: without one first
+-- ---- sorted by name, and then by fault: without one first
 
 lt_first : (o p : Ordering) → is_lt (ordering_then o p) ≡ false → is_lt o ≡ false
 lt_first Less p h = h

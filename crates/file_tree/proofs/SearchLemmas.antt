@@ -1,4 +1,4 @@
--- A walk over folders, each of which is looked into by itself.
+-- A walk over folders that lists each by itself.
 use Rattle.std.proofs.Common.{◌≡◌, ◌∙◌, ◌⊎◌, ◌++◌, ◌∷◌, [], ℕ, Bool, true, false, Global, List, Option, Some, None, Vec, Contains, ap, append_assoc, append-nil, flat_map, inl, inr, map, refl, subst, sym}
 use Rattle.std.specs.Prelude.{◌&&◌}
 use Rattle.std.proofs.lemmas.Grind.{flat_map-append}
@@ -28,7 +28,7 @@ use Rattle.file_tree.proofs.HearLemmas.{heard_real, hears_none, hears_then}
 use Rattle.file_tree.proofs.OrderLemmas.{cons_cases, none_in}
 use Rattle.file_tree.proofs.TreeWalkLemmas.{finds_from, walked_popped}
 
--- ---- what a folder adds, it adds after what was found before
+-- ---- a folder's entries are appended to those found before
 
 module _ (found : List Found) (folders : List Name) where
   abbrev after : Reached → Reached
@@ -88,7 +88,7 @@ module _ (found : List Found) (folders : List Name) where
   after_folder files chosen folder old new (inl h) = inl (h.0, after_adds (place folder) (Some h.0) None old new h.1)
   after_folder files chosen folder old new (inr h) = inr (h.0, h.1, after_all files chosen folder (listed h.0) old new h.2)
 
--- ---- one folder more
+-- ---- another folder
 
 module _ (folder : Name) (here : Reached) (old new : Search) (k : Keeps folder here old new) where
   found_more : (searched new).found ≡ (searched old).found ++ here.found
@@ -123,12 +123,12 @@ looks_more files chosen folder was is old new h before = λ l c. by l (Contains-
     by l (inl c) = before l c
     by l (inr e) = subst (λ (l : Looked). IsLook files chosen l) e (h.here, subst (λ d. TakesFolder files chosen d nothing h.here) (sym h.keeps.folder_is) h.takes, h.keeps.found_is)
 
--- ---- folders, one after another
+-- ---- folders in turn
 
 pub searches_none : (files : Files) (chosen : Chosen) (was is : Faults) (s : Search) → is ≡ was → Searches files chosen was is s s
 searches_none files chosen was is s still = record { walked = λ paths w. w; hears = hears_none (searched s).found (searched s).found was is refl still; named = refl; looks = λ l. l }
 
--- one more, which was the last of those that were to be looked into
+-- one more, the last of those to be listed
 pub searches_more : (files later : Files) (chosen : Chosen) (was mid is : Faults) (first old between new : Search) (rest : List (Vec ℕ Global)) (folder : Vec ℕ Global) → later ≡ files
     → Searches files chosen was mid first old → old.walk.folders.items ≡ rest ++ folder ∷ [] → between ≡ record { walk = record { found = old.walk.found; folders = between.walk.folders }; looked = old.looked } → between.walk.folders.items ≡ rest
     → LooksInto later chosen folder.items mid is between new → Searches files chosen was is first new
@@ -163,7 +163,7 @@ sees_all files later chosen paths was mid is walk first last same begins none wa
 
 -- ---- in order
 
--- what stands in a folder is the same for each choice by which nothing is excluded
+-- the files of a folder are the same for each choice without exclusions
 whole_all : (files : Files) (folder : Name) (names : List Name) (old new : Reached) → TakesAll files any folder names old new → TakesAll files whole folder names old new
 whole_all files folder [] old new h = h
 whole_all files folder (name ∷ names) old new h = (h.0, h.1, whole_all files folder names h.0 new h.2)

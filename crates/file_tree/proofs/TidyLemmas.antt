@@ -1,4 +1,4 @@
--- Paths that are put together part by part.
+-- Paths that are joined part by part.
 use Rattle.std.proofs.Common.{◌≡◌, ◌∙◌, ◌<◌, ◌+◌, ◌++◌, ◌∷◌, [], ℕ, Bool, true, false, List, Result, Ok, Err, is_err, is_ok, ap, append_assoc, append-nil, cond, filter, get_or, length, refl, sym, take}
 use Rattle.std.specs.Prelude.{◌||◌, if◌then◌else◌}
 use Rattle.std.specs.List.{join_with_byte}
@@ -7,7 +7,7 @@ use Rattle.file_tree.specs.Files.{Name}
 use Rattle.file_tree.specs.Paths.{is_step}
 use Rattle.file_tree.specs.Inner.Steps.{Joined, added, gap, has_any}
 
--- what a push leaves that didn't fail
+-- the text after a push that didn't fail
 pub pushed : {X Y E : Type 0} (r : Result Y E) (v : Bool) (old new : List X) (x : X) → new ≡ (if is_ok r then old ++ x ∷ [] else old) → v ≡ is_err r → v ≡ false → new ≡ old ++ x ∷ []
 pushed (Ok y) v old new x is said good = is
 pushed (Err e) v old new x is said good = absurd (no (sym said ∙ good))
@@ -32,7 +32,7 @@ pub has_now : (has v : Bool) → v ≡ true → true ≡ (has || v)
 has_now true v e = refl
 has_now false v e = sym e
 
--- ---- the parts, one after the other
+-- ---- the parts in turn
 
 join_more : (p : Name) (ps : List Name) (part : Name) → join_with_byte 47 (p ∷ (ps ++ part ∷ [])) ≡ join_with_byte 47 (p ∷ ps) ++ (47 ∷ part)
 join_more p [] part = refl

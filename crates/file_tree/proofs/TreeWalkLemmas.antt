@@ -21,7 +21,7 @@ use Rattle.file_tree.specs.declared.walk.Found.{Found}
 use Rattle.file_tree.specs.declared.walk.FoundFile.{FoundFile}
 use Rattle.file_tree.proofs.OrderLemmas.{cons_cases, none_in}
 
--- ---- nothing is taken away
+-- ---- nothing is removed
 
 abbrev Grows : Reached → Reached → Type 0
 Grows old new = (found : List Found) × (folders : List Name) × (new.found ≡ old.found ++ found) × (new.folders ≡ old.folders ++ folders)
@@ -133,7 +133,7 @@ covers_at : (r : Reached) (folder : Name) (parts : List Name) (last : Name) → 
 covers_at r folder [] last c = inl c
 covers_at r folder (part ∷ parts) last c = inl c
 
--- ---- what a step adds
+-- ---- the effect of a step
 
 fault_added : (name : Name) (fault : TreeFault) (old new : Reached) → Adds name (Some fault) None old new → IsFault new.found name
 fault_added name fault old new h = (h.f, subst (λ l. Contains l h.f) (sym h.found) (Contains-push old.found h.f), h.name_is, λ none. some_none (sym h.fault_is ∙ none))
@@ -147,7 +147,7 @@ found_added name file old new h = (h.f, subst (λ l. Contains l h.f) (sym h.foun
 folder_added : (folder : Name) (old new : Reached) → Enters folder old new → Contains new.folders folder
 folder_added folder old new h = subst (λ l. Contains l folder) (sym h.folders) (Contains-push old.folders folder)
 
--- what is told of a name
+-- what the device tells of a name
 told_some : {X : Type 0} (told : Option X) (x y : X) → told ≡ Some x → Tells told y → x ≡ y
 told_some told x y e h = subst (λ o. Tells o y) e h
 
@@ -200,7 +200,7 @@ met_file files chosen folder name old new (inr (_, inr h)) met (inl (inr (is, le
     link_met files (is_taken name) chosen.specials (folder ++ name) leads.0 old new taken leads.1
     (subst (λ kind. TakesKind chosen.specials kind files (folder ++ name) name old new) (sym (told_some (files.entry (folder ++ name)) Link h.0 is h.1)) h.2)
 
--- ---- nor is one of several
+-- ---- nor is any of several
 
 either : {A B C D : Type 0} → (A → C) → (B → D) → A ⊎ B → C ⊎ D
 either f g (inl a) = inl (f a)
@@ -235,7 +235,7 @@ all_file files chosen folder (first ∷ names) name old new h c met is taken =
         (met_file files chosen folder name old h.0 (subst (λ n. TakesEntry files chosen folder n old h.0) e h.1) met is taken)
     here (inr d) later = later d
 
--- ---- a folder is taken off the stack, and looked into
+-- ---- a folder is popped and listed
 
 abbrev and_folder : Reached → Name → Reached
 and_folder r folder = record { found = r.found; folders = r.folders ++ folder ∷ [] }
@@ -329,7 +329,7 @@ taken_both : (a b : Bool) → true ≡ b → a ≡ (a && b)
 taken_both true b e = e
 taken_both false b e = refl
 
--- an entry of a folder that is given, or of one below
+-- an entry of a given folder, or of one below
 module _ (files : Files) (chosen : Chosen) (paths : List Name) (path : Name) (c : Contains paths path) (allowed : is_excluded chosen (tidied path) ≡ false) (parts : List Name) (is : Says false (files.kind path) Folder) (leads : Leads false files chosen (top path) parts) where
   sound_found : (name : Name) (file : Option FoundFile) (old new : Reached) → true ≡ is_taken name → IsEntry false files chosen (within (top path) parts) name
       → IsFileFor false files chosen (within (top path) parts ++ name) → IsEntryBy files chosen (within (top path) parts ++ name) file
@@ -349,7 +349,7 @@ module _ (files : Files) (chosen : Chosen) (paths : List Name) (path : Name) (c 
   sound_special name true false old new all e entry is h sound = absurd (true≢false e)
   sound_special name false specials old new all e entry is h sound = sound_same files chosen paths old new h sound
 
-  -- a link is told of by its kind, and where it leads by that of what it leads to
+  -- the device tells the kind of a link, and that of its target
   sound_linked : (kind : Kind) (name : Name) (old new : Reached) → true ≡ is_taken name → IsEntry false files chosen (within (top path) parts) name
       → Says false (files.entry (within (top path) parts ++ name)) Link → Says false (files.kind (within (top path) parts ++ name)) kind
       → TakesLinked chosen.specials kind (within (top path) parts ++ name) old new → Sound files chosen paths old → Sound files chosen paths new
@@ -404,7 +404,7 @@ sound_folder : (files : Files) (chosen : Chosen) (paths : List Name) (folder : N
 sound_folder files chosen paths folder old new deep takes sound =
     sound_within files chosen paths deep.0 deep.1 deep.2.4 deep.2.0 deep.2.1 deep.2.2 old new (subst (λ d. TakesFolder files chosen d old new) deep.2.3 takes) sound
 
--- ---- one entry more
+-- ---- another entry
 
 pub takes_more : (files : Files) (chosen : Chosen) (folder : Name) (names : List Name) (name : Name) (old between new : Reached) → TakesAll files chosen folder names old between → TakesEntry files chosen folder name between new
     → TakesAll files chosen folder (names ++ name ∷ []) old new
@@ -432,7 +432,7 @@ walked_folder files chosen paths folder old new walked takes = record {
     sound : Sound files chosen paths new
     sound = sound_folder files chosen paths folder old new (walked.deeper folder (Contains-push old.folders folder)) takes before
 
--- ---- one path more that was given
+-- ---- another given path
 
 deep_more : (files : Files) (chosen : Chosen) (paths : List Name) (path folder : Name) → Deep files chosen paths folder → Deep files chosen (paths ++ path ∷ []) folder
 deep_more files chosen paths path folder h = (h.0, Contains-append_left paths (path ∷ []) h.0 h.1, h.2)
@@ -440,7 +440,7 @@ deep_more files chosen paths path folder h = (h.0, Contains-append_left paths (p
 of_more : (files : Files) (chosen : Chosen) (paths : List Name) (path : Name) (f : Found) → IsOf files chosen paths f → IsOf files chosen (paths ++ path ∷ []) f
 of_more files chosen paths path f h = (h.0, Contains-append_left paths (path ∷ []) h.0 h.1, h.2)
 
--- a file that is named, and taken
+-- a named file that is taken
 module _ (files : Files) (chosen : Chosen) (paths : List Name) (path : Name) (c : Contains paths path) (allowed : is_excluded chosen (tidied path) ≡ false) where
   sound_file : (identity : Identity) (old new : Reached) → Says false (files.kind path) (File identity) → is_wanted chosen (tidied path) ≡ true → TakesNamedFile files identity path old new
       → Sound files chosen paths old → Sound files chosen paths new
@@ -476,7 +476,7 @@ sound_given files chosen paths path c old new (inl h) sound = sound_same files c
 sound_given files chosen paths path c old new (inr (allowed, inl h)) sound = sound_adds files chosen paths path (reported path) (Some h.0) None old new h.1 c (inl (inl (refl, allowed)), refl) sound
 sound_given files chosen paths path c old new (inr (allowed, inr h)) sound = sound_kind_given files chosen paths path c allowed h.0 old new h.1 h.2 sound
 
--- what a path that isn't excluded adds
+-- the effect of a path that isn't excluded
 asked_given : (files : Files) (chosen : Chosen) (path : Name) (old new : Reached) → TakesGiven files chosen path old new → is_excluded chosen (tidied path) ≡ false → TakesAsked files chosen path old new
 asked_given files chosen path old new (inl h) allowed = absurd (true≢false (sym h.0 ∙ allowed))
 asked_given files chosen path old new (inr h) allowed = h.1
@@ -598,7 +598,7 @@ pub on_ok_more : {A E : Type 0} (r : Result A E) (P Q : Type 0) → OnOk r P →
 on_ok_more (Ok a) P Q h f = f h
 on_ok_more (Err e) P Q h f = tt
 
--- what a path adds that is given and no folder, by whether it is to be looked at
+-- the effect of a given path that is no folder, depending on whether it is to be looked at
 pub named_given : {X E : Type 0} (r : Result X E) (v : Bool) (files : Files) (chosen : Chosen) (kind : Kind) (path : Name) (old new : Reached) → (kind ≡ Folder → ⊥) → is_wanted chosen (tidied path) ≡ v
     → OnOk r (TakesNamed v kind files path old new) → OnOk r (TakesKindGiven files chosen kind path old new)
 named_given (Err e) v files chosen kind path old new other is h = tt
@@ -607,7 +607,7 @@ named_given (Ok x) v files chosen (File identity) path old new other is h = subs
 named_given (Ok x) v files chosen Link path old new other is h = subst (λ w. TakesNamed w Link files path old new) (sym is) h
 named_given (Ok x) v files chosen Other path old new other is h = subst (λ w. TakesNamed w Other files path old new) (sym is) h
 
--- the same where the names are those of the code
+-- that effect, for the names of the code
 pub wanted_as : {X E : Type 0} (r : Result X E) (kind : Kind) (path name : Name) (old new : Reached) → OnOk r (Adds name None None old new) → name ≡ tidied path → OnOk r (Adds (tidied path) None None old new)
 wanted_as r kind path name old new h same = subst (λ n. OnOk r (Adds n None None old new)) same h
 
@@ -645,7 +645,7 @@ finds_found files later chosen paths r found ordered same before all o =
     finds_from files chosen paths found ordered
     (subst (λ f. Walked f chosen paths (record { found = found; folders = [] })) same (all paths (subst (λ f. Walked f chosen paths r) (sym same) before))) o
 
--- the same where what judges has this choice
+-- for any judge with this choice
 pub finds_chosen : (files later : Files) (told chosen : Chosen) (paths : List Name) (r : Reached) (found ordered : List Found) → later ≡ files → told ≡ chosen → Walked files told paths r
     → ((given : List Name) → Walked later told given r → Walked later told given (record { found = found; folders = [] })) → Orders found ordered → Finds files chosen paths ordered
 finds_chosen files later told chosen paths r found ordered same is before all o =

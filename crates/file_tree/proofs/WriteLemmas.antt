@@ -1,4 +1,4 @@
--- A name that is written as it is shown, text by text.
+-- Writing a name as it is shown, text by text.
 use Rattle.std.proofs.Common.{◌≡◌, ◌∙◌, ◌<◌, ◌+◌, ◌++◌, ◌∷◌, [], ℕ, Bool, true, List, Option, ap, drop, get_or, length, refl, subst, sym}
 use Rattle.std.specs.Prelude.{flat_map, if◌then◌else◌}
 use Rattle.std.specs.Io.KnownBytes.{Appends}
@@ -15,15 +15,15 @@ pub byte_here : (name : Name) (i d b : ℕ) → i < length name → b ≡ get_or
 byte_here name i d b lt is =
     ap (λ l. flat_map shown_byte l) (from_here name i (get_or name i d) lt (get_or_default name i d (get_or name i d) lt)) ∙ ap (λ x. shown_byte x ++ flat_map shown_byte (drop (i + 1) name)) (sym is)
 
--- a text was taken, and then another one, or a part of it
+-- a text was taken, and then another one, or a part of another
 then_took : (a b c : Option (List ℕ)) (f : Bool) (s t : List ℕ) → Appends a b s → TookBy f b c t → TookBy f a c (s ++ t)
 then_took a b c f s t first rest = goes_on a a b s t (s ++ t) (s ++ t) refl first (λ after g h. h) c f rest
 
--- what is to be written of a name that is quoted
+-- the bytes to write for a quoted name
 pub quoted_odd : (name : Name) → list_any is_odd name ≡ true → quoted name ≡ 34 ∷ (flat_map shown_byte name ++ 34 ∷ [])
 quoted_odd name e = ap (λ (v : Bool). if v then 34 ∷ (flat_map shown_byte name ++ 34 ∷ []) else name) e
 
--- the quote and the bytes, of which the last ones failed
+-- the quote and the bytes, with a failure within these
 pub cut_in : (a b c : Option (List ℕ)) (f : Bool) (name : Name) → list_any is_odd name ≡ true → Appends a b (34 ∷ []) → f ≡ true → TookBy f b c (flat_map shown_byte name) → TookBy f a c (quoted name)
 cut_in a b c f name odd first failed then' =
     subst (TookBy f a c) (sym (quoted_odd name odd)) (then_took a b c f (34 ∷ []) (flat_map shown_byte name ++ 34 ∷ []) first (took_front b c f (flat_map shown_byte name) (34 ∷ []) failed then'))

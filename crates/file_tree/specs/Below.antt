@@ -10,7 +10,7 @@ use Rattle.file_tree.specs.declared.kind.Identity.{Identity}
 use Rattle.file_tree.specs.declared.kind.Kind.{Kind}
 use Rattle.file_tree.specs.declared.kind.Kind.TheVariants.{File, Folder, Link, Other}
 
--- the device says that it is this; where it needn't be sure, it may also say nothing
+-- the device says that it is this; if that needn't be sure, it may also say nothing
 abbrev pub Says : {X : Type 0} → Bool → Option X → X → Type 0
 Says true told x = told ≡ Some x
 Says false told x = Tells told x
@@ -19,11 +19,11 @@ Says false told x = Tells told x
 abbrev pub listed : List ℕ → List Name
 listed listing = slice_split (λ b. b == 0) listing
 
--- a name that is looked at where it is met in a folder
+-- a name that is looked at if the walk meets it in a folder
 abbrev pub is_met : Chosen → Name → Name → Bool
 is_met chosen folder name = not (length name == 0) && not (is_passed_over name) && not (is_excluded chosen (folder ++ name))
 
--- a folder has this name, and it is one to be looked at
+-- a folder has this name, and the name is one to be looked at
 abbrev pub IsEntry : Bool → Files → Chosen → Name → Name → Type 0
 IsEntry sure files chosen folder name = (listing : List ℕ) × Says sure (files.listing (place folder)) listing × Contains (listed listing) name × (is_met chosen folder name ≡ true)
 
@@ -35,11 +35,11 @@ HasFolder sure files chosen folder name = IsEntry sure files chosen folder name 
 abbrev pub IsGiven : Bool → Files → Name → Type 0
 IsGiven sure files path = (kind : Kind) × Says sure (files.kind path) kind × (kind ≢ Folder)
 
--- A FILE THAT IS NAMED, and taken
+-- A NAMED FILE that is taken
 abbrev pub IsNamed : Bool → Files → Chosen → Name → Type 0
 IsNamed sure files chosen path = IsGiven sure files path × (is_wanted chosen (tidied path) ≡ true) × (is_excluded chosen (tidied path) ≡ false)
 
--- one whose name isn't of a kind that is taken
+-- a named file whose name isn't of a kind that is taken
 abbrev pub IsOther : Bool → Files → Chosen → Name → Type 0
 IsOther sure files chosen path = IsGiven sure files path × (is_wanted chosen (tidied path) ≡ false) × (is_excluded chosen (tidied path) ≡ false)
 
@@ -52,7 +52,7 @@ IsFile sure files name =
 abbrev pub IsSpecial : Bool → Files → Name → Type 0
 IsSpecial sure files name = Says sure (files.entry name) Other ⊎ (Says sure (files.entry name) Link × Says sure (files.kind name) Other)
 
--- an entry is a file; or one of these, where they are taken
+-- an entry is a file; or a pipe, a socket or a device, if these are taken
 abbrev pub IsFileFor : Bool → Files → Chosen → Name → Type 0
 IsFileFor sure files chosen name = IsFile sure files name ⊎ ((chosen.specials ≡ true) × IsSpecial sure files name)
 
@@ -60,12 +60,12 @@ IsFileFor sure files chosen name = IsFile sure files name ⊎ ((chosen.specials 
 abbrev pub HasFile : Bool → Files → Chosen → Name → Name → Type 0
 HasFile sure files chosen folder name = IsEntry sure files chosen folder name × IsFileFor sure files chosen (folder ++ name) × (is_taken name ≡ true)
 
--- these parts of a name lead from a folder down, each a folder in the one before
+-- these parts of a name lead down from a folder, each a folder in the one before
 abbrev pub Leads : Bool → Files → Chosen → Name → List Name → Type 0
 Leads sure files chosen folder [] = Unit {0}
 Leads sure files chosen folder (part ∷ parts) = HasFolder sure files chosen folder part × Leads sure files chosen (inside folder part) parts
 
--- A FILE BELOW a folder that is given: these parts lead down to where it is, and this is the last part of its name
+-- A FILE BELOW a given folder: these parts lead down to its folder, and this is the last part of its name
 abbrev pub IsBelow : Bool → Files → Chosen → Name → List Name → Name → Type 0
 IsBelow sure files chosen path parts last =
     Says sure (files.kind path) Folder × Leads sure files chosen (top path) parts × HasFile sure files chosen (within (top path) parts) last × (is_excluded chosen (tidied path) ≡ false)

@@ -1,4 +1,4 @@
--- Which files are taken, and what is passed over since it is excluded. A path is compared as it is shown. Our own choice.
+-- Which files are taken, and which paths are excluded. A path is compared as it is shown. Our own choice.
 use Rattle.std.specs.Prelude.{◌-◌, ◌==◌, ◌&&◌, ◌||◌, Bool, true, false, List, [], codes, length, map, nat_lt, take, if◌then◌else◌}
 use Rattle.std.specs.List.{list_any, slice_split}
 use Rattle.std.specs.Str.{bytes_eq}
@@ -7,19 +7,19 @@ use Rattle.file_tree.specs.Names.{begins, ends, is_taken}
 use Rattle.file_tree.specs.Paths.{is_step, top}
 use Rattle.file_tree.specs.declared.choice.Choice.{Choice}
 
--- whether a file that is named is taken whatever it is called, and whether pipes, sockets and devices are taken that are met; and what
--- is excluded, by names and by paths of folders
+-- whether a named file is taken whatever its name, and whether pipes, sockets and devices are taken if the walk meets
+-- them; and the exclusions, by names and by paths of folders
 pub record Chosen : Type 0 where
   pub any_name : Bool
   pub specials : Bool
   pub names : List Name
   pub folders : List Name
 
--- WHAT IS CHOSEN by exclusions, each of which is a name or a path
+-- THE CHOICE by exclusions, each of which is a name or a path
 abbrev pub chosen_by : Bool → List Name → Chosen
 chosen_by any_name excluded = record { any_name = any_name; specials = false; names = excluded; folders = map top excluded }
 
--- with what is no file
+-- with pipes, sockets and devices
 abbrev pub with_specials : Bool → Chosen → Chosen
 with_specials specials chosen = record chosen { specials = specials }
 
@@ -27,14 +27,14 @@ with_specials specials chosen = record chosen { specials = specials }
 abbrev pub whole : Chosen
 whole = with_specials true (chosen_by false [])
 
--- nor is any name that is given
+-- nor is any given name
 abbrev pub any : Chosen
 any = with_specials true (chosen_by true [])
 
 abbrev pub chosen : Choice → Chosen
 chosen choice = with_specials choice.specials (chosen_by choice.any_name (map (λ name. name.now) choice.excluded.now))
 
--- ---- what is excluded
+-- ---- exclusions
 
 -- a name without a `/` at its end
 abbrev pub plain : Name → Name
@@ -44,16 +44,16 @@ plain name = if ends (codes "/") name then take (length name - 1) name else name
 abbrev pub has_part : Name → Name → Bool
 has_part name path = list_any (λ part. is_step part && bytes_eq part (plain name)) (slice_split (λ b. b == 47) path)
 
--- a path is that of a folder, or leads below it; the current folder isn't excluded
+-- a path is that of a folder, or is below it; the current folder isn't excluded
 abbrev pub is_at : Name → Name → Bool
 is_at folder path = nat_lt 0 (length folder) && (bytes_eq path (plain folder) || begins folder path)
 
--- EXCLUDED is what has one of the names or one of the paths, and all that is below it
+-- EXCLUDED is a path with one of the names, one of the paths, and everything below
 abbrev pub is_excluded : Chosen → Name → Bool
 is_excluded chosen path = list_any (λ name. has_part name path) chosen.names || list_any (λ folder. is_at folder path) chosen.folders
 
--- ---- what is named
+-- ---- named files
 
--- A FILE THAT IS NAMED is taken if the walk takes such names, or if its name ends with `.hcl`
+-- A NAMED FILE is taken if the walk takes such names, or if its name ends with `.hcl`
 abbrev pub is_wanted : Chosen → Name → Bool
 is_wanted chosen name = chosen.any_name || (is_taken name || ends (codes ".hcl") name)

@@ -1,4 +1,4 @@
--- Names at work, by computation: paths tidied, and what a small tree has.
+-- Names at work, by computation: tidied paths, and the contents of a small tree.
 use Rattle.std.specs.Prelude.{◌≡◌, ℕ, refl, true, false, List, [], ◌∷◌, ◌++◌, Option, Some, None, codes, if◌then◌else◌}
 use Rattle.std.specs.Str.{bytes_eq}
 use Rattle.std.proofs.Common.{inl, inr, lit<}
@@ -28,7 +28,7 @@ this = refl
 root : tidied (codes "/") ≡ codes "/"
 root = refl
 
--- a folder that is given, as it is looked into
+-- a given folder, as it is listed
 folder : top (codes "./a//b") ≡ codes "a/b/"
 folder = refl
 
@@ -38,7 +38,7 @@ this_folder = refl
 root_folder : top (codes "/") ≡ codes "/"
 root_folder = refl
 
--- by which name a path is reported
+-- the name under which a path is reported
 as_a_folder : reported (codes "./a/b/") ≡ codes "a/b/"
 as_a_folder = refl
 
@@ -95,7 +95,7 @@ listing_of name =
 abbrev small : Files
 small = record { kind = kind_of; entry = kind_of; listing = listing_of; real = λ name. name; told = λ name. None; path = λ name. None }
 
--- its file is below what was given
+-- its file is below the given path
 net : HasFolder true small all (codes "modules/") (codes "net")
 net = ((codes ".git" ++ (0 ∷ codes "net" ++ 0 ∷ []), refl, (1, lit< tt, refl), refl), refl)
 
@@ -105,7 +105,7 @@ main = ((codes "notes.txt" ++ (0 ∷ codes "main.tf" ++ (0 ∷ codes "pipe.tf" +
 below : IsBelow true small all (codes "modules") (codes "net" ∷ []) (codes "main.tf")
 below = (refl, (net, tt), main, refl)
 
--- and so is the pipe, where such are taken
+-- and so is the pipe, if such are taken
 pipe : HasFile true small whole (codes "modules/net/") (codes "pipe.tf")
 pipe = ((codes "notes.txt" ++ (0 ∷ codes "main.tf" ++ (0 ∷ codes "pipe.tf" ++ 0 ∷ [])), refl, (2, lit< tt, refl), refl), inr (refl, inl refl), refl)
 
@@ -116,9 +116,9 @@ notes = refl
 git : is_met all (codes "modules/") (codes ".git") ≡ false
 git = refl
 
--- ---- what is excluded, and what is named
+-- ---- exclusions, and named files
 
--- a name, with or without a slash, wherever it stands; but not a part of one
+-- a name, with or without a slash, anywhere; but not a part of a name
 abbrev vendor : Chosen
 vendor = chosen_by false (codes "vendor/" ∷ [])
 
@@ -131,7 +131,7 @@ itself = refl
 no_part : is_excluded vendor (codes "modules/vendors/main.tf") ≡ false
 no_part = refl
 
--- a path, with all that is below it, and nothing of its name elsewhere
+-- a path, with everything below, and nothing of its name elsewhere
 abbrev here : Chosen
 here = chosen_by true (codes "./modules//net" ∷ [])
 
@@ -147,11 +147,11 @@ elsewhere = refl
 beside : is_excluded here (codes "modules/nets") ≡ false
 beside = refl
 
--- the current folder, and nothing, aren't excluded
+-- the current folder, and an empty name, aren't excluded
 not_here : is_excluded (chosen_by false (codes "." ∷ [] ∷ [])) (codes "a.tf") ≡ false
 not_here = refl
 
--- files that are named
+-- named files
 script : is_wanted vendor (codes "bin/env.sh") ≡ false
 script = refl
 

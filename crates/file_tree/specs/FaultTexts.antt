@@ -1,4 +1,4 @@
--- The words that are said of each fault, after the name and a colon: our own choice.
+-- The message of each fault, after the name and a colon: our own choice.
 use Rattle.std.specs.Prelude.{ℕ, List, codes}
 use Rattle.file_tree.specs.declared.fault.TreeFault.{TreeFault}
 use Rattle.file_tree.specs.declared.fault.TreeFault.TheVariants.{NotUtf8, OtherKind, Missing, NoInput, DeadLink, NotAFile, Unreadable, UnreadableFolder, EndlessLink, LinkNotUtf8, NoFullPath, NotWritable, NoneBeside, OwnerNotKept, NotWritten, Changed, NotReplaced, WrittenInPart, NotSynced, ReadFailed, OutOfMemory}

@@ -11,7 +11,7 @@ use Rattle.file_tree.specs.declared.fault.TreeFault.TheVariants.{ReadFailed}
 abbrev pub Name : Type 0
 Name = List ℕ
 
--- what tells a file from others
+-- the identity of a file
 abbrev pub identity_of : Kind → Option Identity
 identity_of (File identity) = Some identity
 identity_of Folder = None
@@ -33,23 +33,23 @@ pub record Files : Type 0 where
   pub told : Name → Option (List ℕ)  -- the bytes of the file of a real name
   pub path : Name → Option Name  -- the full path of a folder, links followed, with a `/` at its end
 
--- what a device tells that tells nothing, as the system does
+-- a device that tells nothing, as the system's does
 abbrev pub silent : Files
 silent = record { kind = λ name. None; entry = λ name. None; listing = λ name. None; real = λ name. name; told = λ name. None; path = λ name. None }
 
--- the same files, but that the one of this real name has these bytes, where the device tells its bytes
+-- the files with these bytes for the one of this real name, if the device tells its bytes
 abbrev pub put : Files → Name → List ℕ → Files
 put files name bytes = record files { told = λ other. if bytes_eq other name then option_map (λ _. bytes) (files.told other) else files.told other }
 
--- the faults that calls of the device had so far, where it tells them
+-- the faults of the device's calls so far, if it tells them
 abbrev pub Faults : Type 0
 Faults = Option (List TreeFault)
 
--- these, and then those of some calls more
+-- these faults, and then those of more calls
 abbrev pub with_faults : Faults → List TreeFault → Faults
 with_faults faults more = option_map (λ all. all ++ more) faults
 
--- these, and then that of one call more, where it failed
+-- these faults, and then that of one more call, if it failed
 abbrev pub with_fault : Faults → Option TreeFault → Faults
 with_fault faults None = faults
 with_fault faults (Some fault) = with_faults faults (fault ∷ [])
@@ -59,7 +59,7 @@ abbrev pub fault_of : {X : Type 0} → Result X TreeFault → Option TreeFault
 fault_of (Ok x) = None
 fault_of (Err fault) = Some fault
 
--- the same of a reader that is given back, which failed or didn't
+-- the fault of a reader that is returned, if it failed
 abbrev pub fault_of_reader : Bool → Option TreeFault
 fault_of_reader false = None
 fault_of_reader true = Some ReadFailed

@@ -1,4 +1,4 @@
--- The answer of a walk: the names that are to be looked at, and those of which it is reported that they can't be.
+-- The answer of a walk: the names to be looked at, and the names reported because they can't be.
 use Rattle.std.specs.Prelude.{◌≡◌, ◌⊎◌, Bool, true, false, List, [], ◌∷◌, ◌++◌, Option, Some, None, map}
 use Rattle.std.specs.List.{Contains}
 use Rattle.file_tree.specs.Below.{IsBelow, IsEntry, IsNamed, IsOther, IsSpecial, Leads, Says}
@@ -16,23 +16,23 @@ use Rattle.file_tree.specs.declared.walk.FoundFile.{FoundFile}
 
 -- ---- nothing else
 
--- a folder that is given, or one below it
+-- a given folder, or one below it
 abbrev pub IsFolderOf : Files → Chosen → Name → Name → Type 0
 IsFolderOf files chosen path folder =
     (parts : List Name) × Says false (files.kind path) Folder × Leads false files chosen (top path) parts × (folder ≡ within (top path) parts) × (is_excluded chosen (tidied path) ≡ false)
 
--- the file of a path that is given, by what its name has: it may be a link to the file. None where it is no file
+-- the file of a given path, by the kind of its name: the name may be a link to the file. None if it is no file
 abbrev pub IsNamedBy : Files → Name → Option FoundFile → Type 0
 IsNamedBy files path (Some file) =
     Says false (files.kind path) (File file.identity) × ((entry : Kind) × Says false (files.entry (tidied path)) entry × (file.is_link ≡ is_link entry))
 IsNamedBy files path None = (kind : Kind) × Says false (files.kind path) kind × (identity_of kind ≡ None)
 
--- the file of an entry, which is a link to it or isn't
+-- the file of an entry, and whether the entry is a link to it
 abbrev pub IsEntryIf : Bool → Files → Name → Identity → Type 0
 IsEntryIf true files name identity = Says false (files.entry name) Link × Says false (files.kind name) (File identity)
 IsEntryIf false files name identity = Says false (files.entry name) (File identity)
 
--- what an entry is that is taken: one that is no file has none
+-- the file of an entry that is taken; a pipe, a socket or a device has none
 abbrev pub IsEntryBy : Files → Chosen → Name → Option FoundFile → Type 0
 IsEntryBy files chosen name (Some file) = IsEntryIf file.is_link files name file.identity
 IsEntryBy files chosen name None = (chosen.specials ≡ true) × IsSpecial false files name
@@ -43,13 +43,13 @@ IsFileOf files chosen path name file =
     (IsNamed false files chosen path × (name ≡ tidied path) × IsNamedBy files path file)
     ⊎ ((parts : List Name) × (last : Name) × IsBelow false files chosen path parts last × (name ≡ within (top path) parts ++ last) × IsEntryBy files chosen name file)
 
--- a name that is reported: that of the path, of its folder or of one below, or of an entry there
+-- a reported name: that of the path, of its folder or of one below, or of an entry there
 abbrev pub IsReportOf : Files → Chosen → Name → Name → Type 0
 IsReportOf files chosen path name =
     ((name ≡ reported path) × (is_excluded chosen (tidied path) ≡ false))
     ⊎ ((folder : Name) × IsFolderOf files chosen path folder × ((name ≡ place folder) ⊎ ((last : Name) × IsEntry false files chosen folder last × (name ≡ folder ++ last))))
 
--- a file that is reported since its name isn't of a kind that is taken: that of the path
+-- a file reported because its name isn't of a kind that is taken: that of the path
 abbrev pub IsOtherOf : Files → Chosen → Name → Name → TreeFault → Type 0
 IsOtherOf files chosen path name fault = IsOther false files chosen path × (name ≡ tidied path) × (fault ≡ OtherKind)
 
@@ -57,7 +57,7 @@ abbrev pub IsOfBy : Files → Chosen → Name → Name → Option TreeFault → 
 IsOfBy files chosen path name None file = IsFileOf files chosen path name file
 IsOfBy files chosen path name (Some fault) file = (IsReportOf files chosen path name ⊎ IsOtherOf files chosen path name fault) × (file ≡ None)
 
--- what was found is of one of the paths
+-- the found name comes from one of the paths
 abbrev pub IsOf : Files → Chosen → List Name → Found → Type 0
 IsOf files chosen paths f = (path : Name) × Contains paths path × IsOfBy files chosen path f.name.items f.fault f.file
 
@@ -66,13 +66,13 @@ IsOtherIn files chosen paths name fault = (path : Name) × Contains paths path �
 
 -- ---- none passed over
 
--- a name below a folder is told, or one above it is: what is in it was found, or reported
+-- a name below a folder is in the answer, or a name above it is: the folder's entries were found, or it was reported
 abbrev pub Accounts : (Name → Type 0) → Name → List Name → Name → Type 0
 Accounts told folder [] last = told (place folder) ⊎ told (folder ++ last)
 Accounts told folder (part ∷ parts) last = told (place folder) ⊎ (told (folder ++ part) ⊎ Accounts told (inside folder part) parts last)
 
--- THE FILES THAT PATHS STAND FOR, by what the device tells: their names in order, each once, nothing else, and none passed
--- over but what is excluded. A file that is named is told, whatever it is called
+-- THE FILES THAT PATHS STAND FOR, by what the device tells: their names in order, each once, nothing else, and none
+-- passed over unless it is excluded. A named file is in the answer whatever its name
 pub record Finds (files : Files) (chosen : Chosen) (paths : List Name) (found : List Found) : Type 0 where
   pub rises : Rises found
   pub real : (f : Found) → Contains found f → IsOf files chosen paths f
@@ -81,9 +81,9 @@ pub record Finds (files : Files) (chosen : Chosen) (paths : List Name) (found : 
   pub below : (path : Name) (parts : List Name) (last : Name) → Contains paths path → IsBelow true files chosen path parts last
       → HasName found (reported path) ⊎ Accounts (HasName found) (top path) parts last
 
--- ---- reported only where a call failed, or for its name
+-- ---- reported only after a failed call, or for its name
 
--- a call that failed: under which name that is reported, and why
+-- a failed call: the name under which it is reported, and the reason
 pub record Failure : Type 0 where
   pub name : Name
   pub fault : TreeFault
@@ -92,9 +92,9 @@ pub record Failure : Type 0 where
 abbrev pub with_failures : Faults → List Failure → Faults
 with_failures faults noted = with_faults faults (map (λ failure. failure.fault) noted)
 
--- EACH REPORT IS REAL: where the device tells the faults of its calls, each name that is reported has that of a call of its
--- own that failed, or it is one that was named and isn't of a kind that is taken. So there are no more reports than calls
--- that failed, and none where no call failed.
+-- EACH REPORT IS REAL: if the device tells the faults of its calls, each reported name has that of a failed call of its
+-- own, or it is a named file that isn't of a kind that is taken. So there are no more reports than failed calls, and
+-- none if no call failed.
 pub record AreReal (files : Files) (chosen : Chosen) (paths : List Name) (before after : Faults) (found : List Found) : Type 0 where
   pub noted : List Failure  -- the walk's calls that failed
   pub is : after ≡ with_failures before noted

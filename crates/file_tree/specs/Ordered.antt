@@ -1,4 +1,4 @@
--- What was found, in the order of its names.
+-- The found names in order.
 use Rattle.std.specs.Prelude.{◌≡◌, List, None}
 use Rattle.std.specs.Cmp.Lexicographic.{slice_cmp}
 use Rattle.std.specs.List.{Contains}
@@ -15,11 +15,11 @@ Rises found = IsStrictlySortedBy (λ f g. slice_cmp nat_cmp f.name.items g.name.
 abbrev pub IsFound : List Found → Name → Type 0
 IsFound found name = (f : Found) × Contains found f × (f.name.items ≡ name) × (f.fault ≡ None)
 
--- a name was found, or is reported
+-- a name was found, or reported
 abbrev pub HasName : List Found → Name → Type 0
 HasName found name = (f : Found) × Contains found f × (f.name.items ≡ name)
 
--- THE SAME IN THE ORDER OF THE NAMES, each once: where one was found with a fault and without, without
+-- THE FOUND NAMES IN ORDER, each once: one that was found both with a fault and without has none
 pub record Orders (found ordered : List Found) : Type 0 where
   pub rises : Rises ordered
   pub only : (f : Found) → Contains ordered f → Contains found f

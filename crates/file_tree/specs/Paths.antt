@@ -1,11 +1,11 @@
--- Names put together. The name of a folder that is looked into ends with `/`; that of the current one is empty. Our own choice.
+-- Joined names. The name of a folder that is listed ends with `/`; that of the current one is empty. Our own choice.
 use Rattle.std.specs.Prelude.{◌==◌, ◌&&◌, ◌||◌, not, Bool, List, [], ◌∷◌, ◌++◌, codes, filter, length, if◌then◌else◌}
 use Rattle.std.specs.Str.{bytes_eq}
 use Rattle.std.specs.List.{join_with_byte, slice_split}
 use Rattle.file_tree.specs.Files.{Name}
 use Rattle.file_tree.specs.Names.{begins, ends}
 
--- ---- what is given
+-- ---- given paths
 
 -- a part of a path that leads somewhere: `.` and an empty one don't
 abbrev pub is_step : Name → Bool
@@ -22,18 +22,18 @@ root path = if begins (codes "/") path then codes "/" else []
 abbrev pub tidied : Name → Name
 tidied path = root path ++ join_with_byte 47 (steps path)
 
--- A FOLDER THAT IS GIVEN, as it is looked into: `./a//b` is `a/b/`
+-- A GIVEN FOLDER, as it is listed: `./a//b` is `a/b/`
 abbrev pub top : Name → Name
 top path = if length (tidied path) == 0 || bytes_eq (tidied path) (codes "/") then tidied path else tidied path ++ codes "/"
 
--- by which name it is reported that a path can't be looked at: tidied, unless nothing is left of it. A `/` at its end stays:
--- `file/` isn't `file`
+-- the name under which a path is reported that can't be looked at: tidied, unless nothing is left of it. A `/` at its
+-- end stays: `file/` isn't `file`
 abbrev pub reported : Name → Name
 reported path = if length (tidied path) == 0 then path else tidied path ++ (if ends (codes "/") path then codes "/" else [])
 
--- ---- what is below
+-- ---- folders below
 
--- by which name a folder is listed
+-- the name under which a folder is listed
 abbrev pub place : Name → Name
 place folder = if length folder == 0 then codes "./" else folder
 

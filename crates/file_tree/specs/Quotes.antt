@@ -1,4 +1,4 @@
--- How a name is shown, in diffs and reports: as GNU diff and git show it.
+-- Names as diffs and reports show them: like GNU diff and git.
 use Rattle.std.specs.Prelude.{ℕ, ◌==◌, ◌||◌, ◌&&◌, ◌+◌, ◌-◌, ◌/◌, ◌%◌, not, Bool, List, [], ◌∷◌, ◌++◌, codes, flat_map, get_or, nat_le, nat_lt, if◌then◌else◌}
 use Rattle.std.specs.List.{list_any}
 use Rattle.file_tree.specs.Files.{Name}
@@ -29,7 +29,7 @@ shown_byte b = if is_odd b then escape b else b ∷ []
 abbrev pub in_quotes : List ℕ → List ℕ
 in_quotes text = 34 ∷ (flat_map shown_byte text ++ 34 ∷ [])
 
--- A NAME AS IT IS SHOWN: itself, or between double quotes where it has an odd byte
+-- A NAME AS IT IS SHOWN: itself, or between double quotes if it has an odd byte
 abbrev pub quoted : Name → List ℕ
 quoted name = if list_any is_odd name then in_quotes name else name
 
@@ -37,7 +37,7 @@ quoted name = if list_any is_odd name then in_quotes name else name
 abbrev pub has_plain_blank : Name → Bool
 has_plain_blank name = not (list_any is_odd name) && list_any (λ b. b == 32) name
 
--- A NAME IN THE HEAD OF A DIFF: as it is shown, and with a tab after it where it has a blank and isn't quoted, by which
+-- A NAME IN THE HEAD OF A DIFF: as it is shown, with a tab after it if it has a blank and isn't quoted, by which
 -- `patch` takes it whole
 abbrev pub shown_head : Name → List ℕ
 shown_head name = quoted name ++ (if has_plain_blank name then 9 ∷ [] else [])

@@ -1,4 +1,4 @@
--- What names stand for, and what stands in each folder that was looked into for them.
+-- The entries that names stand for, and those of each folder that was listed for them.
 use Rattle.std.specs.Prelude.{List, ◌++◌, flat_map}
 use Rattle.std.specs.List.{Contains}
 use Rattle.file_tree.specs.Choices.{any}
@@ -9,12 +9,12 @@ use Rattle.file_tree.specs.Ordered.{Orders}
 use Rattle.file_tree.specs.declared.walk.Found.{Found}
 use Rattle.file_tree.specs.declared.walk.Looked.{Looked}
 
--- what was found of names themselves, and then in folders
+-- the entries found for the names themselves, and then in folders
 abbrev pub all_found : List Found → List Looked → List Found
 all_found named looked = named ++ flat_map (λ l. l.found.items) looked
 
--- WHAT PATHS STAND FOR, by what the device tells, and by the faults that it had before and after: in order, these are the files
--- that they stand for, each report is real, and of each folder that was looked into they are the files that stand in it
+-- WHAT PATHS STAND FOR, by what the device tells, and by its faults before and after: in order, these are the files
+-- that they stand for, each report is real, and in each folder that was listed they are its files
 pub record Sees (files : Files) (paths : List Name) (was is : Faults) (named : List Found) (looked : List Looked) : Type 0 where
   pub finds : (found : List Found) → Orders (all_found named looked) found → Finds files any paths found
   pub real : AreReal files any paths was is (all_found named looked)

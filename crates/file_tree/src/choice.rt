@@ -1,4 +1,4 @@
-//! Which files that are named are taken, and what is passed over since it is excluded.
+//! Which named files are taken, and which paths are excluded.
 
 ghost use Rattle.std.specs.Prelude.{◌≡◌, ◌==◌, ◌&&◌, ◌||◌, IfOk, map};
 ghost use Rattle.std.specs.List.{list_any, slice_split};
@@ -11,14 +11,14 @@ use crate::names::is_taken;
 use crate::path::{is_step, top};
 use std::alloc::{AllocError, Global};
 
-/// Which files are taken, and what is passed over.
+/// Which files are taken, and which are passed over.
 #[derive(Clone, Copy, Debug)]
 pub struct Choice<'a> {
-    /// A file that is named is taken whatever it is called.
+    /// A named file is taken whatever its name.
     pub any_name: bool,
-    /// Pipes, sockets and devices are taken that are met in a folder under the name of a file that is taken, and links to them.
+    /// Pipes, sockets and devices in a folder are taken under the name of a file that is taken, and links to them.
     pub specials: bool,
-    /// Names of files and folders, and their paths, that are passed over with all that is below them.
+    /// Names and paths of files and folders that are passed over, with everything below them.
     pub excluded: &'a [&'a [u8]],
 }
 
@@ -34,7 +34,7 @@ impl<'a> Choice<'a> {
         }
     }
 
-    /// The same, and a file that is named is taken whatever it is called.
+    /// This choice, but a named file is taken whatever its name.
     pub fn any() -> Choice<'a>
         ensures { chosen result ≡ any }
     {
@@ -45,7 +45,7 @@ impl<'a> Choice<'a> {
     }
 }
 
-/// A choice by which paths are judged.
+/// A choice in the form by which paths are judged.
 #[derive(Drop)]
 pub(crate) struct Chooser<'a> {
     any_name: bool,
@@ -135,7 +135,7 @@ fn folders_of(alloc: Global, paths: &[&[u8]]) -> Result<Vec<Vec<u8>>, AllocError
 }
 
 impl<'a> Chooser<'a> {
-    /// What judges by this choice.
+    /// The judge by this choice.
     pub(crate) fn new(alloc: Global, choice: Choice<'a>) -> Result<Chooser<'a>, AllocError>
         ensures { IfOk result (λ chooser. told chooser ≡ chosen choice.entry) }
     {
@@ -158,14 +158,14 @@ impl<'a> Chooser<'a> {
         )
     }
 
-    /// Whether what is no file is taken.
+    /// Whether pipes, sockets and devices are taken.
     pub(crate) fn takes_specials(&self) -> bool
         ensures { result ≡ (told self.now).specials }
     {
         self.specials
     }
 
-    /// Whether a file is taken that is named so.
+    /// Whether a file with this name is taken if it is named.
     pub(crate) fn is_wanted(&self, name: &[u8]) -> bool
         ensures { result ≡ is_wanted (told self.now) name.now }
     {

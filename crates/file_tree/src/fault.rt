@@ -1,12 +1,12 @@
-//! Why something can't be done with a file or a folder.
+//! Why a call on a file or a folder failed.
 
 ghost use Rattle.std.specs.Prelude.{◌≡◌};
 ghost use Rattle.file_tree.specs.FaultTexts.{tree_fault_text};
 
-/// Why something can't be done with a file or a folder.
+/// Why a call on a file or a folder failed.
 #[derive(Clone, Copy, Debug, PartialEq, Eq, PartialOrd, Ord)]
 pub enum TreeFault {
-    /// The name isn't UTF-8, which the device can't take.
+    /// The name isn't UTF-8, so the device can't take it.
     NotUtf8,
     /// It was named, and its name isn't that of a file that is taken.
     OtherKind,
@@ -41,7 +41,7 @@ pub enum TreeFault {
 }
 
 impl TreeFault {
-    /// What is said of it, after the name and a colon.
+    /// Its message, after the name and a colon.
     pub fn text(self) -> &'static str
         ensures { result.now ≡ tree_fault_text self }
     {

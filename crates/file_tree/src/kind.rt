@@ -3,7 +3,7 @@
 ghost use Rattle.std.specs.Prelude.{◌≡◌};
 ghost use Rattle.file_tree.specs.Files.{is_link};
 
-/// What tells a file from others; of a file of several names, what tells this one from the others.
+/// The identity of a file; for a file with several names, the identity of this name.
 #[derive(Clone, Copy, Debug, PartialEq, Eq, PartialOrd, Ord)]
 pub struct Identity {
     pub device: u64,

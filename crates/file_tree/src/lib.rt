@@ -1,4 +1,4 @@
-//! Folders and files by their names, on any device, and the files that names stand for.
+//! Folders and files by name, on any device, and the files that names stand for.
 #![tactic(auto)]
 
 pub mod choice;

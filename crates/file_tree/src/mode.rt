@@ -1,9 +1,9 @@
-//! The rights that a new file gets.
+//! The mode of a new file.
 
 ghost use Rattle.std.specs.Prelude.{◌≡◌, ◌<◌, if◌then◌else◌};
 ghost use Rattle.file_tree.specs.Modes.{GivesNoMore, both, new_mode};
 
-/// What both digits of a mode allow.
+/// The rights that both digits of a mode allow.
 fn both(one: u32, other: u32) -> u32
     requires one { one < 8 }
     requires other { other < 8 }
@@ -14,7 +14,7 @@ fn both(one: u32, other: u32) -> u32
         + ((one / 2 % 2) * (other / 2 % 2) * 2 + (one % 2) * (other % 2))
 }
 
-/// A number, if this is so, or another one.
+/// One number or another, by a condition.
 fn either(is_so: bool, one: u32, other: u32) -> u32
     requires one { one < 8 }
     requires other { other < 8 }
@@ -24,15 +24,15 @@ fn either(is_so: bool, one: u32, other: u32) -> u32
     if is_so { one } else { other }
 }
 
-/// The mode of a new file in place of one of this mode, of which owner and group are kept, or aren't. Nobody but the owner gets
-/// a right that he hadn't, whichever groups he is in.
+/// The mode of a new file in place of one with this mode, given whether owner and group are kept. Nobody but the owner
+/// gets a right that he hadn't, whichever groups he is in.
 pub fn new_mode(old: u32, has_owner: bool, has_group: bool) -> u32
     ensures mode { result ≡ new_mode old has_owner has_group }
     ensures no_more { GivesNoMore has_group old result }
 {
     let group = old / 8 % 8;
     let others = old % 8;
-    // A member of the old group is one of the others by now, and the other way round.
+    // A member of the old group is now one of the others, and the other way round.
     let common = both(group, others);
     let special = either(has_owner && has_group, old / 512 % 8, 0);
     let group = either(has_group, group, common);

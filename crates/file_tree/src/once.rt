@@ -11,7 +11,7 @@ use crate::walk::{Found, FoundFile};
 use std::alloc::{AllocError, Global};
 use std::collections::BTreeSet;
 
-/// Notes an identity. Answers whether it wasn't noted before.
+/// Notes an identity. Returns whether it is new.
 fn note(met: &mut BTreeSet<Identity>, identity: Identity) -> Result<bool, AllocError>
     ensures { IfOk result (NotesIdentity (contains ⟦<Identity as Ord>⟧.cmp met.old)
         (contains ⟦<Identity as Ord>⟧.cmp met.new) identity) }
@@ -22,7 +22,7 @@ fn note(met: &mut BTreeSet<Identity>, identity: Identity) -> Result<bool, AllocE
     }
 }
 
-/// Notes a file that was found under a name that is no link.
+/// Notes the file of a name that is no link.
 fn note_plain(met: &mut BTreeSet<Identity>, file: Option<FoundFile>) -> Result<(), AllocError>
     ensures { OnOk result (NotesPlain file (contains ⟦<Identity as Ord>⟧.cmp met.old)
         (contains ⟦<Identity as Ord>⟧.cmp met.new)) }
@@ -37,7 +37,7 @@ fn note_plain(met: &mut BTreeSet<Identity>, file: Option<FoundFile>) -> Result<(
     Ok(())
 }
 
-/// The files that were found under names that are no links.
+/// The files of the names that are no links.
 fn plain_files(alloc: Global, found: &[Found]) -> Result<BTreeSet<Identity>, AllocError>
     ensures { IfOk result (λ met. Owns found.now (contains ⟦<Identity as Ord>⟧.cmp met)) }
 {
@@ -57,7 +57,7 @@ fn keep(kept: &mut Vec<Found>, found: Found) -> Result<(), AllocError>
     }
 }
 
-/// Keeps a link, unless the file that it leads to was met.
+/// Keeps a link, unless its file was met.
 fn keep_link(
     met: &mut BTreeSet<Identity>,
     kept: &mut Vec<Found>,
@@ -73,7 +73,7 @@ fn keep_link(
     keep(kept, found)
 }
 
-/// Keeps what was found, unless it is a link to a file that was met.
+/// Keeps a found name, unless it is a link to a file that was met.
 fn keep_once(
     met: &mut BTreeSet<Identity>,
     kept: &mut Vec<Found>,
@@ -88,7 +88,7 @@ fn keep_once(
     }
 }
 
-/// Keeps of names in their order those that aren't links to files which were met, or come under an earlier link.
+/// Keeps of the names, in order, those that aren't links to files that were met or that come under an earlier link.
 fn keep_all(
     alloc: Global,
     mut met: BTreeSet<Identity>,
@@ -104,8 +104,8 @@ fn keep_all(
     Ok(kept)
 }
 
-/// What was found in the order of the names, without the links to files that were found under another name as well: under one
-/// that is no link, or under that of an earlier link.
+/// The found names in order, without the links to files that were found under another name as well: under one that is
+/// no link, or under an earlier link.
 pub fn each_file_once(alloc: Global, found: Vec<Found>) -> Result<Vec<Found>, AllocError>
     ensures { IfOk result (λ kept. Rises found.items → KeepsOnce found.items kept.items) }
 {

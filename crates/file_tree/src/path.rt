@@ -1,4 +1,4 @@
-//! Names put together.
+//! Joining names.
 
 ghost use Rattle.std.specs.Prelude.{◌≡◌, ◌&&◌, ◌==◌, ◌++◌, ◌||◌, IfOk, length, map};
 ghost use Rattle.std.specs.Str.{bytes_eq};
@@ -12,7 +12,7 @@ static SLASH: &[u8] = b"/";
 
 static NOTHING: &[u8] = b"";
 
-/// The one text and then the other.
+/// One text and then the other.
 pub fn joined(alloc: Global, front: &[u8], back: &[u8]) -> Result<Vec<u8>, AllocError>
     ensures { IfOk result (λ all. all.items ≡ front.now ++ back.now) }
 {
@@ -35,7 +35,7 @@ pub fn names_in<'a>(alloc: Global, text: &'a [u8]) -> Result<Vec<&'a [u8]>, Allo
     Ok(names)
 }
 
-/// What a path begins with: `/`, or nothing.
+/// The root of a path: `/`, or nothing.
 fn root(path: &[u8]) -> &'static [u8]
     ensures { result.now ≡ root path.now }
 {
@@ -53,14 +53,15 @@ pub(crate) fn is_step(part: &[u8]) -> bool
     !part.is_empty() && part != b".".as_slice()
 }
 
-/// What stands before a part of a path, after others or as the first one.
+/// The separator before a part of a path, after others or for the first one.
 fn gap(has_step: bool) -> &'static [u8]
     ensures { result.now ≡ gap has_step }
 {
     if has_step { SLASH } else { NOTHING }
 }
 
-/// Adds a part of a path, after others or as the first one, unless it leads nowhere. Answers whether there is a part by now.
+/// Appends a part of a path, after others or as the first one, unless it leads nowhere. Returns whether there is a part
+/// now.
 fn add_step(tidied: &mut Vec<u8>, has_step: bool, part: &[u8]) -> Result<bool, AllocError>
     ensures { IfOk result
         (λ has. (tidied.new.items ≡ tidied.old.items ++ added has_step part.now)
@@ -74,7 +75,7 @@ fn add_step(tidied: &mut Vec<u8>, has_step: bool, part: &[u8]) -> Result<bool, A
     Ok(true)
 }
 
-/// A path without `.` and empty names in it, but for a `/` at its front.
+/// A path without `.` and empty names in it, except a `/` at its front.
 pub fn tidy(alloc: Global, path: &[u8]) -> Result<Vec<u8>, AllocError>
     ensures { IfOk result (λ path_tidied. path_tidied.items ≡ tidied path.now) }
 {
@@ -87,7 +88,7 @@ pub fn tidy(alloc: Global, path: &[u8]) -> Result<Vec<u8>, AllocError>
     Ok(tidied)
 }
 
-/// A folder that was given, as it is looked into: with a `/` at its end, unless it is the current one.
+/// A given folder, as it is listed: with a `/` at its end, unless it is the current one.
 pub fn top(alloc: Global, path: &[u8]) -> Result<Vec<u8>, AllocError>
     ensures { IfOk result (λ folder. folder.items ≡ top path.now) }
 {
@@ -98,7 +99,7 @@ pub fn top(alloc: Global, path: &[u8]) -> Result<Vec<u8>, AllocError>
     joined(alloc, tidied.as_slice(), b"/")
 }
 
-/// By which name something that was given is reported that can't be looked at: tidied, unless nothing is left of it.
+/// The name under which a given path is reported that can't be looked at: tidied, unless nothing is left of it.
 pub fn reported(alloc: Global, path: &[u8]) -> Result<Vec<u8>, AllocError>
     ensures { IfOk result (λ name. name.items ≡ reported path.now) }
 {
@@ -113,7 +114,7 @@ pub fn reported(alloc: Global, path: &[u8]) -> Result<Vec<u8>, AllocError>
     Ok(tidied)
 }
 
-/// By which name a folder is listed.
+/// The name under which a folder is listed.
 pub fn place(folder: &[u8]) -> &[u8]
     ensures { result.now ≡ place folder.now }
 {

@@ -17,7 +17,7 @@ fn is_odd(byte: u8) -> bool
     byte < 32 || byte == 127 || byte == b'"' || byte == b'\\'
 }
 
-/// What a byte is shown by between quotes: the front of these, and how many.
+/// The bytes that show a byte between quotes: the front of these, and how many.
 fn shown(byte: u8) -> ([u8; 4], usize)
     ensures within { result.1 ≤ 4 }
     ensures shown { take result.1 result.0 ≡ shown_byte byte }
@@ -48,7 +48,7 @@ fn has_blank(name: &[u8]) -> bool
     name.iter().any(|byte| *byte == b' ')
 }
 
-/// Adds a byte as it is shown between quotes.
+/// Appends a byte as it is shown between quotes.
 fn push_shown(to: &mut Vec<u8>, byte: u8) -> Result<(), AllocError>
     ensures { OnOk result (to.new.items ≡ to.old.items ++ shown_byte byte) }
 {
@@ -56,7 +56,7 @@ fn push_shown(to: &mut Vec<u8>, byte: u8) -> Result<(), AllocError>
     to.extend_from_slice(&bytes[..count])
 }
 
-/// Adds bytes as they are shown between quotes.
+/// Appends bytes as they are shown between quotes.
 fn push_all_shown(to: &mut Vec<u8>, name: &[u8]) -> Result<(), AllocError>
     ensures { OnOk result (to.new.items ≡ to.old.items ++ flat_map shown_byte name.now) }
 {
@@ -66,7 +66,7 @@ fn push_all_shown(to: &mut Vec<u8>, name: &[u8]) -> Result<(), AllocError>
     Ok(())
 }
 
-/// Adds a text between double quotes.
+/// Appends a text between double quotes.
 pub fn push_in_quotes(to: &mut Vec<u8>, text: &[u8]) -> Result<(), AllocError>
     ensures { OnOk result (to.new.items ≡ to.old.items ++ in_quotes text.now) }
 {
@@ -75,7 +75,7 @@ pub fn push_in_quotes(to: &mut Vec<u8>, text: &[u8]) -> Result<(), AllocError>
     to.extend_from_slice(b"\"")
 }
 
-/// A name as it is shown: itself, or between double quotes where it has a byte below blank, DEL, `"` or `\`.
+/// A name as it is shown: itself, or between double quotes if it has a byte below blank, DEL, `"` or `\`.
 pub fn quoted(alloc: Global, name: &[u8]) -> Result<Vec<u8>, AllocError>
     ensures { IfOk result (λ text. text.items ≡ quoted name.now) }
 {
@@ -87,8 +87,8 @@ pub fn quoted(alloc: Global, name: &[u8]) -> Result<Vec<u8>, AllocError>
     Ok(to)
 }
 
-/// A name as the head of a diff shows it: with a tab after it where it has a blank and isn't quoted, by which `patch` takes it
-/// whole.
+/// A name as the head of a diff shows it: with a tab after it if it has a blank and isn't quoted, by which `patch`
+/// takes it whole.
 pub fn shown_head(alloc: Global, name: &[u8]) -> Result<Vec<u8>, AllocError>
     ensures { IfOk result (λ text. text.items ≡ shown_head name.now) }
 {
@@ -153,7 +153,7 @@ pub fn write_quoted<S: ByteSink>(sink: &mut S, name: &[u8]) -> Result<(), Failed
     write_bytes(sink, b"\"")
 }
 
-/// No name that is shown has a control byte, so none has a newline. No program calls this: its contract is the law.
+/// No shown name has a control byte, so none has a newline. No program calls this: its contract is the law.
 #[tactic(auto, using(crate::proofs::QuoteLemmas::quoted_plain))]
 pub fn shown_without_controls()
     ensures { (name : List ℕ) → list_any is_control (quoted name) ≡ false }

@@ -1,4 +1,4 @@
-//! What files are found in, read from and written to.
+//! The device on which files are found, read and replaced.
 
 ghost use Rattle.std.specs.Prelude.{◌≡◌, Err, None, false, OnOk, OnErr, IfOk};
 ghost use Rattle.file_tree.specs.Asked.{Asked, with_asked};
@@ -13,32 +13,32 @@ use hcl_source::ByteSource;
 /// How files are replaced.
 #[derive(Clone, Copy, Debug, PartialEq, Eq)]
 pub struct Writing {
-    /// A file beside which none can be made is written over, where it may end half written.
+    /// A file beside which none can be made is overwritten, and may end half written.
     pub in_place: bool,
     /// Each new file and its folder are on the disk before the next one is looked at.
     pub sync: bool,
 }
 
-/// What a replacement left of the rights to the file.
+/// The effect of a replacement on the rights to the file.
 #[derive(Clone, Copy, Debug, PartialEq, Eq)]
 pub enum Replaced {
-    /// Who might read or write it may still.
+    /// Everybody has the rights that he had.
     Kept,
-    /// Its group couldn't be kept, so its group and all others have the rights now that both had.
+    /// Its group couldn't be kept, so its group and all others now have the rights that both had.
     Narrowed,
 }
 
-/// Folders and files by their names, which are bytes: what can be asked of them.
+/// Folders and files by their names, which are bytes: the calls that read them.
 pub trait Tree {
     type Reader: ByteSource + Drop;
 
     /// What the device tells of its folders and files.
     ghost files: { Self → Files };
 
-    /// The faults that its calls had so far, where the device tells them.
+    /// The faults of its calls so far, if the device tells them.
     ghost faults: { Self → Faults };
 
-    /// What its calls were asked to replace so far, and what they answered, where the device tells it.
+    /// The replacements that its calls were asked for so far, with their answers, if the device tells them.
     ghost asked: { Self → Asked };
 
     /// What a name stands for, links followed.
@@ -48,10 +48,10 @@ pub trait Tree {
         ensures faults { faults self.new ≡ with_fault (faults self.old) (fault_of result) }
         ensures asked { asked self.new ≡ asked self.old };
 
-    /// What a name stands for, a link being one.
+    /// What a name stands for, a link being a kind of its own.
     fn entry_kind(&mut self, name: &[u8]) -> Result<Kind, TreeFault>
         ensures kind { IfOk result (Tells ((files self.old).entry name.now)) }
-        // It says that nothing stands there only where it doesn't tell that something does.
+        // It says that a name doesn't exist only if the device doesn't tell that it does.
         ensures missing { result ≡ Err Missing → (files self.old).entry name.now ≡ None }
         ensures files { files self.new ≡ files self.old }
         ensures faults { faults self.new ≡ with_fault (faults self.old) (fault_of result) }
@@ -82,7 +82,7 @@ pub trait Tree {
         ensures faults { faults self.new ≡ with_fault (faults self.old) (fault_of result) }
         ensures asked { asked self.new ≡ asked self.old };
 
-    /// Takes a reader back after its last read. A reader that failed is a fault of this call.
+    /// Takes a reader back after its last read. If the reader failed, this call has its fault.
     fn give_back(&mut self, reader: Self::Reader)
         ensures files { files self.new ≡ files self.old }
         ensures faults { faults self.new ≡ with_fault (faults self.old)
@@ -92,8 +92,8 @@ pub trait Tree {
 
 /// Folders and files that can be changed.
 pub trait WritableTree: Tree {
-    /// Puts new bytes in place of the old ones, all or none: where that fails, or the file has other bytes by now, it stays
-    /// as it is.
+    /// Replaces the old bytes by new ones, all or none: if that fails, or the file has other bytes by now, it stays as
+    /// it is.
     fn replace(
         &mut self,
         name: &[u8],
@@ -101,7 +101,7 @@ pub trait WritableTree: Tree {
         new: &[u8],
         writing: Writing,
     ) -> Result<Replaced, TreeFault>
-        // The old bytes are those that the file has, where the device tells them.
+        // The old bytes are those of the file, if the device tells them.
         requires old { Tells ((Self.files self.old).told ((Self.files self.old).real name.now))
             old.now }
         ensures ok { OnOk result (Self.files self.new ≡ put (Self.files self.old)

@@ -29,43 +29,42 @@ pub struct FoundFile {
     pub is_link: bool,
 }
 
-/// A name that is to be looked at, or of which it is known that it can't be.
+/// A name to be looked at, or one that can't be.
 #[derive(PartialEq, Eq, PartialOrd, Ord, Drop)]
 pub struct Found {
     pub name: Vec<u8>,
     pub fault: Option<TreeFault>,
-    /// The file that the name leads to, if it is one: none for a pipe, a socket or a device.
+    /// The file that the name leads to; none for a pipe, a socket or a device.
     pub file: Option<FoundFile>,
 }
 
-/// What was found, and the folders that are still to be looked into, each with a `/` at its end or without a name.
+/// The found names, and the folders still to be listed, each with a `/` at its end or empty.
 #[derive(Drop)]
 struct Walk {
     found: Vec<Found>,
     folders: Vec<Vec<u8>>,
 }
 
-/// What was found in a folder that was looked into.
+/// The entries found in a folder that was listed.
 #[derive(PartialEq, Eq, PartialOrd, Ord, Drop)]
 pub struct Looked {
     /// The name of the folder, with a `/` at its end, or empty for the current one.
     pub folder: Vec<u8>,
-    /// The files in it that are taken, what stands there under the name of one and is no file, and the names that can't be
-    /// looked at.
+    /// Its files that are taken, pipes, sockets and devices under such names, and the names that can't be looked at.
     pub found: Vec<Found>,
 }
 
-/// What names stand for: what was found of the names themselves, and in each folder that was looked into.
+/// What names stand for: the entries found for the names themselves, and in each folder that was listed.
 #[derive(Drop)]
 pub struct Seen {
     pub named: Vec<Found>,
     pub looked: Vec<Looked>,
 }
 
-/// A walk that keeps apart what it found in each folder.
+/// A walk that keeps the entries of each folder apart.
 #[derive(Drop)]
 struct Search {
-    /// What was found of the names themselves, and the folders that are still to be looked into.
+    /// The entries found for the names themselves, and the folders still to be listed.
     walk: Walk,
     looked: Vec<Looked>,
 }
@@ -122,7 +121,7 @@ impl Walk {
         Ok(())
     }
 
-    /// Takes what is no file, if that is taken.
+    /// Takes a pipe, a socket or a device, if such are taken.
     fn take_special(&mut self, is_taken: bool, path: Vec<u8>) -> Result<(), AllocError>
         ensures { OnOk result (TakesSpecial is_taken path.items
             (reached self.old) (reached self.new)) }
@@ -133,7 +132,7 @@ impl Walk {
         Ok(())
     }
 
-    /// Takes a link that leads to this, if that is a file, or no file and taken.
+    /// Takes a link that leads to this kind, if that is a file, or another kind that is taken.
     fn take_linked(&mut self, specials: bool, kind: Kind, path: Vec<u8>) -> Result<(), AllocError>
         ensures { OnOk result (TakesLinked specials kind path.items
             (reached self.old) (reached self.new)) }
@@ -151,7 +150,7 @@ impl Walk {
         }
     }
 
-    /// Takes a link, if files of this kind of name are taken. One that leads to a folder is passed over.
+    /// Takes a link, if files of this kind of name are taken. A link to a folder is passed over.
     #[tactic(auto, using(crate::proofs::HearLemmas::hears_none, crate::proofs::HearLemmas::heard_linked, crate::proofs::HearLemmas::heard_fault))]
     fn take_link<T: Tree>(
         &mut self,
@@ -177,7 +176,7 @@ impl Walk {
         }
     }
 
-    /// Takes what stands in a folder under a name.
+    /// Takes the entry of a folder under a name.
     #[tactic(auto, using(crate::proofs::HearLemmas::hears_none, crate::proofs::HearLemmas::heard_if, crate::proofs::HearLemmas::heard_special, crate::proofs::HearLemmas::heard_enters))]
     fn take_kind<T: Tree>(
         &mut self,
@@ -207,7 +206,7 @@ impl Walk {
         }
     }
 
-    /// Looks at what stands in a folder under a name that isn't passed over.
+    /// Looks at the entry of a folder under a name that isn't passed over.
     #[tactic(auto, using(crate::proofs::HearLemmas::heard_after, crate::proofs::HearLemmas::heard_fault))]
     fn take_met<T: Tree>(
         &mut self,
@@ -231,7 +230,7 @@ impl Walk {
         }
     }
 
-    /// Looks at what stands in a folder under a name.
+    /// Looks at the entry of a folder under a name.
     #[tactic(auto, using(crate::proofs::HearLemmas::hears_none, crate::proofs::HearLemmas::heard_after))]
     fn take_entry<T: Tree>(
         &mut self,
@@ -259,7 +258,7 @@ impl Walk {
         self.take_met(alloc, chooser.takes_specials(), name, path, tree)
     }
 
-    /// Looks at what stands in a folder under these names.
+    /// Looks at the entries of a folder under these names.
     fn take_entries<T: Tree>(
         &mut self,
         alloc: Global,
@@ -282,7 +281,7 @@ impl Walk {
         Ok(())
     }
 
-    /// Looks at all that stands in a folder.
+    /// Looks at all entries of a folder.
     #[tactic(auto, using(crate::proofs::HearLemmas::heard_after, crate::proofs::HearLemmas::heard_fault))]
     fn take_folder<T: Tree>(
         &mut self,
@@ -312,7 +311,7 @@ impl Walk {
         }
     }
 
-    /// Takes a file that was named, by itself or by a link to it.
+    /// Takes a named file, by itself or by a link to it.
     #[tactic(auto, using(crate::proofs::HearLemmas::heard_fault))]
     fn take_named_file<T: Tree>(
         &mut self,
@@ -343,7 +342,7 @@ impl Walk {
         }
     }
 
-    /// Takes what was named, and is to be looked at.
+    /// Takes a named path that is to be looked at.
     fn take_wanted<T: Tree>(
         &mut self,
         alloc: Global,
@@ -367,7 +366,7 @@ impl Walk {
         }
     }
 
-    /// Takes what stands under a name that was given.
+    /// Takes the entry under a given name.
     fn take_kind_given<T: Tree>(
         &mut self,
         alloc: Global,
@@ -399,7 +398,7 @@ impl Walk {
         self.take_wanted(alloc, kind, path, name, tree)
     }
 
-    /// Takes a name that was given and isn't excluded.
+    /// Takes a given name that isn't excluded.
     #[tactic(auto, using(crate::proofs::HearLemmas::real_fault))]
     fn take_asked<T: Tree>(
         &mut self,
@@ -429,7 +428,7 @@ impl Walk {
         }
     }
 
-    /// Takes a name that was given, unless it is excluded.
+    /// Takes a given name, unless it is excluded.
     #[tactic(auto, using(crate::proofs::HearLemmas::real_none))]
     fn take_given<T: Tree>(
         &mut self,
@@ -454,7 +453,7 @@ impl Walk {
         self.take_asked(alloc, chooser, path, name, tree)
     }
 
-    /// A walk that has taken the names that were given.
+    /// A walk that has taken the given names.
     fn over<T: Tree>(
         alloc: Global,
         chooser: &Chooser<'_>,
@@ -480,7 +479,7 @@ impl Walk {
         Ok(walk)
     }
 
-    /// Looks into the folders, and those in them, until none is left.
+    /// Lists the folders, and those in them, until none is left.
     fn look_into_all<T: Tree>(
         &mut self,
         alloc: Global,
@@ -508,7 +507,7 @@ impl Walk {
 }
 
 impl Search {
-    /// Keeps what was found in a folder, and the folders in it.
+    /// Keeps the entries found in a folder, and the folders in it.
     fn keep(&mut self, folder: Vec<u8>, here: Walk) -> Result<(), AllocError>
         ensures { OnOk result (Keeps folder.items (reached here) self.old self.new) }
     {
@@ -527,7 +526,7 @@ impl Search {
         Ok(())
     }
 
-    /// Looks into a folder.
+    /// Lists a folder.
     fn look_into<T: Tree>(
         &mut self,
         alloc: Global,
@@ -549,7 +548,7 @@ impl Search {
         self.keep(folder, here)
     }
 
-    /// Looks into the folders, and those in them, until none is left.
+    /// Lists the folders, and those in them, until none is left.
     fn look_into_all<T: Tree>(
         &mut self,
         alloc: Global,
@@ -572,7 +571,7 @@ impl Search {
         Err(AllocError)
     }
 
-    /// All that names stand for.
+    /// Everything that names stand for.
     fn of<T: Tree>(
         alloc: Global,
         chooser: &Chooser<'_>,
@@ -596,7 +595,7 @@ impl Search {
     }
 }
 
-/// What was found in the order of the names, each once: where one was found with a fault and without, without.
+/// The found names in order, each once: one that was found both with a fault and without has none.
 pub fn in_order(mut found: Vec<Found>) -> Vec<Found>
     ensures { Orders found.items result.items }
 {
@@ -605,21 +604,21 @@ pub fn in_order(mut found: Vec<Found>) -> Vec<Found>
     found
 }
 
-/// The names of the files that these names stand for, in their order, each once. What is excluded is passed over, and what is
-/// named and isn't of a kind that is taken is told.
+/// The names of the files that these names stand for, in order, each once. Excluded paths are passed over, and a named
+/// file that isn't of a kind that is taken is reported.
 pub fn find<T: Tree>(
     alloc: Global,
     choice: Choice<'_>,
     operands: &[&[u8]],
     tree: &mut T,
 ) -> Result<Vec<Found>, AllocError>
-    // Nothing is changed, nor asked to be.
+    // Nothing is changed, and no change is asked for.
     ensures files { T.files tree.new ≡ T.files tree.old }
     ensures asked { T.asked tree.new ≡ T.asked tree.old }
     // All files that the names stand for and that aren't excluded, and nothing else.
     ensures finds { IfOk result (λ found. Finds (T.files tree.old) (chosen choice.entry)
         (map (λ operand. operand.now) operands.now) found.items) }
-    // Where the device tells the faults of its calls, none is reported but where a call failed, or for its name.
+    // If the device tells the faults of its calls, a name is reported only for a failed call, or for its kind of name.
     ensures real { IfOk result (λ found. AreReal (T.files tree.old) (chosen choice.entry)
         (map (λ operand. operand.now) operands.now) (T.faults tree.old) (T.faults tree.new)
         found.items) }
@@ -630,7 +629,7 @@ pub fn find<T: Tree>(
     Ok(in_order(walk.found))
 }
 
-/// The same folders, and in each what was found in the order of the names, each once.
+/// These folders, and in each the found names in order, each once.
 fn ordered(alloc: Global, looked: Vec<Looked>) -> Result<Vec<Looked>, AllocError>
     ensures { IfOk result (λ ordered. AreOrdered looked.items ordered.items) }
 {
@@ -645,13 +644,13 @@ fn ordered(alloc: Global, looked: Vec<Looked>) -> Result<Vec<Looked>, AllocError
     Ok(ordered)
 }
 
-/// What these names stand for, whatever they are called: what was found of the names themselves, and in each folder that was
-/// looked into. Nothing is excluded.
+/// What these names stand for, whatever they are called: the entries found for the names themselves, and in each folder
+/// that was listed. Nothing is excluded.
 pub fn look<T: Tree>(alloc: Global, operands: &[&[u8]], tree: &mut T) -> Result<Seen, AllocError>
-    // Nothing is changed, nor asked to be.
+    // Nothing is changed, and no change is asked for.
     ensures files { T.files tree.new ≡ T.files tree.old }
     ensures asked { T.asked tree.new ≡ T.asked tree.old }
-    // All that the names stand for, and all that stands in the folders.
+    // Everything that the names stand for, and all files of the folders.
     ensures sees { IfOk result (λ seen. Sees (T.files tree.old)
         (map (λ operand. operand.now) operands.now) (T.faults tree.old) (T.faults tree.new)
         seen.named.items seen.looked.items) }
@@ -667,19 +666,19 @@ pub fn look<T: Tree>(alloc: Global, operands: &[&[u8]], tree: &mut T) -> Result<
     Ok(Seen { named, looked })
 }
 
-/// The files of a folder that are taken, without those in folders below it, what stands there under the name of one and is no
-/// file, and the names in it that can't be looked at: in the order of their names, each once. The folder's name has a `/` at its
-/// end, or is empty for the current one.
+/// The files of a folder that are taken, without those in folders below it; pipes, sockets and devices under such
+/// names; and the names in it that can't be looked at: in order, each once. The folder's name has a `/` at its end, or
+/// is empty for the current one.
 pub fn find_in<T: Tree>(
     alloc: Global,
     folder: &[u8],
     tree: &mut T,
 ) -> Result<Vec<Found>, AllocError>
-    // Nothing is changed, nor asked to be.
+    // Nothing is changed, and no change is asked for.
     ensures files { T.files tree.new ≡ T.files tree.old }
     ensures asked { T.asked tree.new ≡ T.asked tree.old }
     ensures finds { IfOk result (λ found. FindsIn (T.files tree.old) folder.now found.items) }
-    // Where the device tells the faults of its calls, none is reported but where a call failed.
+    // If the device tells the faults of its calls, a name is reported only for a failed call.
     ensures real { IfOk result (λ found. AreHeard (T.faults tree.old) (T.faults tree.new)
         found.items) }
 {

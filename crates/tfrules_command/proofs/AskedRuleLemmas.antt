@@ -1,4 +1,4 @@
--- Rules that are asked for by name.
+-- Rules requested by name.
 use Rattle.std.proofs.Common.{◌≡◌, ◌∙◌, ◌<◌, ◌≤◌, ℕ, Bool, true, false, cond, List, [], ◌∷◌, ◌++◌, length, map, codes, refl, sym, ap, arith}
 use Rattle.std.proofs.lemmas.Bool.Decides.{nat_tests}
 use Rattle.clap.specs.Words.{Row}
@@ -39,14 +39,14 @@ pub not_named : (names : List (List ℕ)) (name : List ℕ) → ((rule : Rule) �
 not_named names name none =
     list_all-append known names (name ∷ []) ∙ ap (λ b. list_all known names && (b && true)) (none_named name none all_rules) ∙ and_false (list_all known names)
 
--- what a set that was built name by name asks for
+-- the request of a set that was built name by name
 pub set_named : (names : List (List ℕ)) (set : Option RuleSet) → Named names set → option_map rules_of set ≡ rules_named names
 set_named names None e = ap (λ b. cond b (Some (filter (λ rule. list_any (λ name. has_name name rule) names) all_rules)) None) (sym e)
 set_named names (Some set) (e, h) =
     ap Some (filter_same (holds set) (λ rule. list_any (λ name. has_name name rule) names) all_rules h)
     ∙ ap (λ b. cond b (Some (filter (λ rule. list_any (λ name. has_name name rule) names) all_rules)) None) (sym e)
 
--- ---- what `default` and `all` ask for
+-- ---- the requests `default` and `all`
 
 abbrev by_tests : Bool → Bool → List (List ℕ) → Option (List Rule)
 by_tests default all names = cond default (Some (filter is_recommended all_rules)) (cond all (Some all_rules) (rules_named names))
@@ -85,7 +85,7 @@ few_enough force files rules naming minimum names h e =
     ∙ ap (λ b. cond b (Err usage.TooManyFiles) (Ok (record { asked = record { rules = rules; naming = naming }; minimum = minimum; force = force; files = each_once files })))
     (sym (lt_false max_files (length files) h))
 
--- what a line with files asks for, by the answers of the parts
+-- the request of a line with files, by the answers of the parts
 pub with_files : (rows : List Row) (files : List (List ℕ)) (force : Bool) (rules : Option (List Rule)) (naming : Option Naming) (minimum : Option Severity)
     → 0 < length files → force ≡ is_set (codes "force") rows → rules ≡ rules_asked (value_or (codes "default") (codes "rules") rows)
     → naming ≡ naming_asked (value_or (codes "snake_case") (codes "naming") rows) → minimum ≡ severity_asked (value_or (codes "notice") (codes "minimum-failure-severity") rows)

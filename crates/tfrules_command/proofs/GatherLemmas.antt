@@ -1,4 +1,4 @@
--- The files of a run, one after another.
+-- The files of a run in turn.
 use Rattle.std.proofs.Common.{◌≡◌, ◌∙◌, ◌⊎◌, ◌≤◌, ◌<◌, ◌+◌, ◌++◌, ℕ, suc, Bool, false, List, [], ◌∷◌, Option, Some, None, refl, sym, ap, ap₂, subst, inl, inr, length, take, drop, get_or, arith, append-nil, ⊎_elim}
 use Rattle.std.specs.Prelude.{Result, Ok, Err, ◌||◌}
 use Rattle.std.specs.List.{AllZip}
@@ -35,7 +35,7 @@ tells_all None left' bytes taken done = tt
 tells_all (Some xs) None bytes taken done = absurd taken
 tells_all (Some xs) (Some ys) bytes taken done = taken ∙ ap (λ l. bytes ++ l) done ∙ append-nil bytes
 
--- a fault of what was taken is that of the whole
+-- a fault of the bytes taken is that of the whole
 pub fault_of_whole : (left left' : Option (List ℕ)) (bytes : List ℕ) (fault : Fault) → Consumes left left' bytes → (length bytes ≤ max_source → IsAtEnd left') → IsLoadFault bytes fault
     → (whole : List ℕ) × Tells left whole × IsLoadFault whole fault
 fault_of_whole None left' bytes fault taken done x = (bytes, tt, x)
@@ -111,7 +111,7 @@ stops_unread told o r size stop.NotOpened h = h
 stops_unread told o r size stop.NotRead h = h
 stops_unread told o r size stop.OutOfMemory h = h
 
--- ---- one file more
+-- ---- another file
 
 pub all_zip_push : (files : List NamedFile) (sources : List Scanned) (f : NamedFile) (s : Scanned) → AllZip IsAcceptedAs files sources → IsAcceptedAs f s → AllZip IsAcceptedAs (files ++ f ∷ []) (sources ++ s ∷ [])
 all_zip_push [] [] f s h r = (r, tt)
@@ -169,7 +169,7 @@ next_number told names i size kept lt p =
     let count : length p.files ≡ i = sym (length-map p.files (λ (f : NamedFile). f.name)) ∙ ap length p.named ∙ length-take-le i names (omega arith) in
     omega (arith, zip_length p.files p.sources p.accepted.each, count)
 
--- ---- where a run stopped
+-- ---- the stop of a run
 
 stops_as : (here there : Option (List ℕ)) (size : ℕ) (o r : Bool) (why : Stop) → here ≡ there → StopsBy here size o r why → StopsBy there size o r why
 stops_as here there size o r why e h = subst (λ t. StopsBy t size o r why) e h

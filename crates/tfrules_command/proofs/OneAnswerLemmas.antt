@@ -91,7 +91,7 @@ accepted_within [] file after (s ∷ ss) a = (s, a.0)
 accepted_within (f ∷ fs) file after [] a = absurd a
 accepted_within (f ∷ fs) file after (s ∷ ss) a = accepted_within fs file after ss a.1
 
--- none of accepted files is refused
+-- no accepted file is refused
 none_refused : (before : List NamedFile) (file : NamedFile) (after : List NamedFile) (sources : List Scanned) (row : Row) → AreAccepted (before ++ file ∷ after) sources → IsRefused (size_of before) file row → ⊥
 none_refused before file after sources row are refusal =
     let found = accepted_within before file after sources are.each in
@@ -110,7 +110,7 @@ module _ {X : Type 0} where
   after_head [] = []
   after_head (x ∷ xs) = xs
 
-  -- at the same place, or one within what is before the other
+  -- at the same place, or one split is within the part before the other
   abbrev Splits : List X → List X → X → X → Type 0
   Splits xs ys a b = ((xs ≡ ys) × (a ≡ b)) ⊎ (((rest : List X) × (ys ≡ xs ++ a ∷ rest)) ⊎ ((rest : List X) × (xs ≡ ys ++ b ∷ rest)))
 

@@ -1,4 +1,4 @@
--- What waits on a page, and goes out after what went before.
+-- The bytes waiting on a page, after those written before.
 use Rattle.std.proofs.Common.{◌≡◌, ◌∙◌, ◌++◌, [], ℕ, Bool, true, false, List, Option, ap, ap₂, append_assoc, length, subst, sym, take}
 use Rattle.std.proofs.Math.Seq.{take-append_seam}
 use Rattle.std.proofs.lemmas.List.{append-nil}
@@ -17,7 +17,7 @@ pub not_held : (b : Bool) (old new text : List ℕ) → b ≡ false → Holds b 
 not_held false old new text e h = h
 not_held true old new text e h = absurd (cc)
 
--- what was put after a front is taken away again
+-- a text that was appended is dropped again
 pub given_back : (old front new text : List ℕ) (n : ℕ) → n ≡ length old → front ≡ old ++ text → new ≡ take n front → new ≡ old
 given_back old front new text n e f g = g ∙ ap₂ take e f ∙ take-append_seam old text
 
@@ -28,18 +28,18 @@ pub goes_waiting : (f : Bool) (before : Option (List ℕ)) (old new text : List 
 goes_waiting false before old new text e is = λ rest after f t. subst (λ l. TookBy f before after l) (ap (λ l. l ++ rest) is ∙ append_assoc old text rest) t
 goes_waiting true before old new text e is = absurd (cc)
 
--- what waited before it was not taken
+-- a write failed, and the bytes waiting before it were not taken
 pub goes_wrong_before : (f : Bool) (before now : Option (List ℕ)) (old waits new text : List ℕ) → f ≡ true → waits ≡ old → TookBy f before now waits → GoesOut f before now old new text
 goes_wrong_before true before now old waits new text e same t = took_front before now true old text e (subst (λ l. TookBy true before now l) same t)
 goes_wrong_before false before now old waits new text e same t = absurd (cc)
 
--- what waited before it was taken, and it waits
+-- the bytes waiting before it were taken, and it waits
 pub goes_after : (f : Bool) (before now : Option (List ℕ)) (old waits empty new text : List ℕ) → f ≡ false → waits ≡ old → Appends before now waits → empty ≡ [] → new ≡ empty ++ text → GoesOut f before now old new text
 goes_after false before now old waits empty new text e same taken none is = λ rest after f t.
     took_after before now after f old (text ++ rest) (subst (λ l. Appends before now l) same taken) (subst (λ l. TookBy f now after l) (ap (λ l. l ++ rest) (is ∙ ap (λ l. l ++ text) none)) t)
 goes_after true before now old waits empty new text e same taken none is = absurd (cc)
 
--- what waited before it was taken, and it was written, too
+-- the bytes waiting before it were taken, and it was written, too
 pub goes_past : (f : Bool) (before now next : Option (List ℕ)) (old waits new text : List ℕ) → waits ≡ old → Appends before now waits → new ≡ [] → TookBy f now next text → GoesOut f before next old new text
 goes_past false before now next old waits new text same taken none t = λ rest after f u.
     took_after before now after f old (text ++ rest) (subst (λ l. Appends before now l) same taken)
@@ -49,7 +49,7 @@ goes_past true before now next old waits new text same taken none t = took_after
 pub goes_as : (f : Bool) (before now : Option (List ℕ)) (old new text other : List ℕ) → text ≡ other → GoesOut f before now old new text → GoesOut f before now old new other
 goes_as f before now old new text other same g = subst (λ (l : List ℕ). GoesOut f before now old new l) same g
 
--- ---- texts that go out one after another: what is left, and the whole
+-- ---- texts that go out in turn: the rest, and the whole
 
 abbrev pub GoesOn : Option (List ℕ) → Option (List ℕ) → List ℕ → List ℕ → List ℕ → List ℕ → Type 0
 GoesOn start now first page left whole = (rest : List ℕ) (after : Option (List ℕ)) (f : Bool) → TookBy f now after (page ++ (left ++ rest)) → TookBy f start after (first ++ (whole ++ rest))
@@ -76,7 +76,7 @@ all_gone start now first page left whole true e none on = absurd (cc)
 
 -- ---- a report of two parts
 
--- nothing waited at first
+-- nothing waits at first
 pub front_fails : (before now : Option (List ℕ)) (first page front back : List ℕ) (f : Bool) → f ≡ true → first ≡ [] → GoesOut f before now first page front → TookBy f before now (front ++ back)
 front_fails before now first page front back true e none g = took_front before now true front back e (subst (λ l. TookBy true before now (l ++ front)) none g)
 front_fails before now first page front back false e none g = absurd (cc)
@@ -87,7 +87,7 @@ back_fails before now after first page page' front back false true is fails none
 back_fails before now after first page page' front back true f is fails none g h = absurd (cc)
 back_fails before now after first page page' front back false false is fails none g h = absurd (cc)
 
--- and what waits at last is written
+-- and the waiting bytes are written in the end
 pub all_written : (before now next after : Option (List ℕ)) (first page page' waits front back : List ℕ) (d e f : Bool) → d ≡ false → e ≡ false → first ≡ [] → waits ≡ page' → GoesOut d before now first page front → GoesOut e now next page page' back
     → TookBy f next after waits → TookBy f before after (front ++ back)
 all_written before now next after first page page' waits front back false false f is is' none same g h t =
@@ -121,6 +121,6 @@ twice_tail front name between other rest closing =
     ∙ ap (λ l. front ++ l) (sym (append_assoc name (between ++ (other ++ rest)) closing))
     ∙ sym (append_assoc front (name ++ (between ++ (other ++ rest))) closing)
 
--- what stands before the message on its line
+-- the text before the message on its line
 pub in_frame : (name place opening tail other : List ℕ) → tail ≡ other → name ++ (place ++ (opening ++ tail)) ≡ name ++ (place ++ (opening ++ other))
 in_frame name place opening tail other same = ap (λ l. name ++ (place ++ (opening ++ l))) same

@@ -1,4 +1,4 @@
--- Pieces that are written one after another.
+-- Pieces that are written in turn.
 use Rattle.std.proofs.Common.{◌≡◌, ◌∙◌, ◌<◌, ◌≤◌, ◌+◌, ◌++◌, ◌∷◌, [], ℕ, Bool, true, false, List, Option, None, ap, ap₂, refl, append_assoc, arith, codes, drop, get_or, length, map, subst, sym, take}
 use Rattle.std.proofs.lemmas.List.{append-nil, map-append, take_all, take_more}
 use Rattle.std.proofs.lemmas.List.Folds.{concat-append}
@@ -13,7 +13,7 @@ use Rattle.tf_rules.specs.declared.issue.Issue.{Issue}
 use Rattle.tfrules_command.specs.Report.{issue_line, report}
 use Rattle.tfrules_command.specs.Inner.Pieces.{closing_words, lines_of_report, opening_words, place_words}
 
--- a piece more waits
+-- another piece waits
 pub piece_more : (xs : List (Bor (List ℕ))) (i : ℕ) (d : Bor (List ℕ)) (text base old new : List ℕ) → i < length xs → text ≡ (get_or xs i d).now → new ≡ old ++ text → old ≡ base ++ concat (map (λ piece. piece.now) (take i xs))
     → new ≡ base ++ concat (map (λ piece. piece.now) (take (i + 1) xs))
 piece_more xs i d text base old new lt is pushed so_far =

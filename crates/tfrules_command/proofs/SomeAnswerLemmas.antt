@@ -35,7 +35,7 @@ use Rattle.tfrules_command.proofs.SomeReportLemmas.{some_report}
 
 -- ---- running out of memory is the usage of no line
 
--- what a line asks for whose texts are all known
+-- the request of a line whose texts are all known
 abbrev counted : Bool → List (List ℕ) → List Rule → Naming → Severity → Bool → Result Asking Usage
 counted force files rules naming minimum many = cond many (Err usage.TooManyFiles) (Ok (record { asked = record { rules = rules; naming = naming }; minimum = minimum; force = force; files = each_once files }))
 
@@ -60,7 +60,7 @@ has_memory words =
     line_has_memory usage.OutOfMemory usage.Help usage.BadLine (fault_of tfrules words) (asking_of_rows rows) (λ e. absurd (cc)) (λ e. absurd (cc)) (one_fault tfrules words refl refl)
     (rows_have_memory rows (all_of (codes "file") rows))
 
--- ---- the rules that a line asks for are some of all, in their order
+-- ---- the rules that a line requests are some of all, in their order
 
 abbrev AreSome : List Rule → Type 0
 AreSome rules = (p : Rule → Bool) × (filter p all_rules ≡ rules)
@@ -111,7 +111,7 @@ line_asks_some (k ∷ ks) rows asking e = absurd (cc)
 words_ask_some : (words : List (List ℕ)) (asking : Asking) → options_of words ≡ Ok asking → AreSome asking.asked.rules
 words_ask_some words = line_asks_some (fault_of tfrules words) (matches_of tfrules words)
 
--- ---- the files one after the other
+-- ---- the files in turn
 
 abbrev Outcome : NamedFile → Type 0
 Outcome file = HasOutcome file.bytes
@@ -156,7 +156,7 @@ module _ (asking : Asking) (reports : (sources : List Scanned) → (report : Lis
   files_end before (f ∷ fs) sources are h =
       file_ends before f fs sources are (λ source more. files_end (before ++ f ∷ []) fs (sources ++ source ∷ []) more (All-tail Outcome f fs h)) (All-head Outcome f fs h)
 
--- ---- files that are given as names and bytes
+-- ---- files as pairs of a name and bytes
 module _ {X : Type 0} (name bytes : X → List ℕ) where
   abbrev Given : X → Type 0
   Given x = HasOutcome (bytes x)

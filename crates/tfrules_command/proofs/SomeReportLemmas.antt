@@ -16,7 +16,7 @@ use Rattle.tf_rules.proofs.ReportLemmas.{in_turn}
 use Rattle.tf_rules.proofs.SortLemmas.{Differ, filter_ascends, same_key}
 use Rattle.tfrules_command.proofs.ListLemmas.{filter_same}
 
--- ---- issues whose keys are apart, one put among others at a time
+-- ---- issues with distinct keys, inserted one at a time
 
 in_some_order : (a b : Key) → same_key a b ≡ false → Precedes a b ⊎ Precedes b a
 in_some_order a b apart = by_file (cases_order a.file b.file)
@@ -106,7 +106,7 @@ sorted (x ∷ xs) d = more (sorted xs d.1)
         all : Sorted (x ∷ s.0) → Sorted (x ∷ xs)
         all t = (t.0, t.1, λ z. (λ m. (t.2 z).0 (into z m), λ m. from z ((t.2 z).1 m)))
 
--- ---- the rules that were asked for, as a set
+-- ---- the requested rules, as a set
 
 abbrev set_of : (Rule → Bool) → RuleSet
 set_of p = record { held = p CommentSyntax ∷ p DeprecatedIndex ∷ p DeprecatedInterpolation ∷ p DocumentedOutputs ∷ p DocumentedVariables ∷ p ModulePinnedSource ∷ p ModuleVersion ∷ p NamingConvention ∷ p TypedVariables ∷ p UnusedDeclarations ∷ [] }

@@ -1,4 +1,4 @@
--- The status of a report goes by the rules of its issues alone.
+-- The status of a report depends only on the rules of its issues.
 use Rattle.std.proofs.Common.{◌≡◌, ◌∙◌, ◌&&◌, ◌||◌, ◌+◌, ◌≤◌, ap, refl, sym, ℕ, Bool, true, false, List, [], ◌∷◌, drop, length, map, not, nat_le, if◌then◌else◌}
 use Rattle.std.proofs.lemmas.List.{drop_all}
 use Rattle.std.specs.Prelude.{Some, slice_get}

@@ -1,5 +1,5 @@
--- What `tfrules` answers to a line of words and the files that it names. Its texts, its statuses and the order in which the
--- files are refused are our own choice.
+-- The answer of `tfrules` to a line of words and the files that it names. Its texts, its statuses and the order in
+-- which the files are refused are our own choice.
 use Rattle.std.specs.Prelude.{◌≡◌, ◌⊎◌, ℕ, List, [], ◌∷◌, ◌++◌, Result, Ok, Err, codes, map}
 use Rattle.command_line.specs.Rows.{Program, Row, error, fails_with, fault_words, line}
 use Rattle.hcl_tokens.specs.Scanned.{Scanned}
@@ -33,7 +33,7 @@ usage_line = line (codes "usage: tfrules [--rules LIST] [--naming snake_case|mix
 
 -- ---- the answer
 
--- after files of so many bytes, this one ends the run with the row
+-- after files with this many bytes, this file ends the run with the row
 abbrev pub IsRefused : ℕ → NamedFile → Row → Type 0
 IsRefused size file row =
     ((fault : Fault) × IsFault size file.bytes fault × (row ≡ refusal_row file.name fault)) ⊎ (IsTooMuch size file.bytes × (row ≡ too_large file.name))
@@ -46,7 +46,7 @@ pub record IsReported (asking : Asking) (files : List NamedFile) (row : Row) : T
   pub found : rules.AreIssues asking.asked (numbered_files 0 sources) issues
   pub is : row ≡ report_row asking issues
 
--- all files before one are accepted, and the row is that for which this one is refused
+-- all files before one are accepted, and the row is that of its refusal
 pub record IsRefusedFirst (files : List NamedFile) (row : Row) : Type 0 where
   pub before : List NamedFile
   pub file : NamedFile
@@ -59,8 +59,8 @@ pub record IsRefusedFirst (files : List NamedFile) (row : Row) : Type 0 where
 abbrev pub names_of : List NamedFile → List (List ℕ)
 names_of files = map (λ file. file.name) files
 
--- THE ANSWER to what a line asks for and the files that it names, each once, in order. Running out of memory is the usage
--- of no line.
+-- THE ANSWER to the request of a line and the files that it names, each once, in order. Running out of memory is the
+-- usage of no line.
 abbrev pub IsAnswerBy : Result Asking Usage → List NamedFile → Row → Type 0
 IsAnswerBy (Ok asking) files row = (names_of files ≡ asking.files) × (IsReported asking files row ⊎ IsRefusedFirst files row)
 IsAnswerBy (Err usage.Help) files row = row ≡ record { out = usage_line; err = []; status = 0 }

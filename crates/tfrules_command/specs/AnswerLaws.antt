@@ -1,4 +1,4 @@
--- The answer by the words of a line: for the law that words and the files that they name have one, and no second.
+-- The answer by the words of a line: for the law that words and the files that they name have exactly one.
 use Rattle.std.specs.Prelude.{◌≡◌, ℕ, List, Result, Ok, Err}
 use Rattle.command_line.specs.Rows.{Row}
 use Rattle.tfrules_command.specs.Answer.{IsAnswerBy, names_of}
@@ -13,7 +13,7 @@ named_file name bytes = record { name = name; bytes = bytes }
 abbrev pub IsAnswer : List (List ℕ) → List NamedFile → Row → Type 0
 IsAnswer words = IsAnswerBy (options_of words)
 
--- the files are those that the line names, where it asks for any
+-- the files are those that the line names, if it asks for any
 abbrev pub AreNamed : Result Asking Usage → List NamedFile → Type 0
 AreNamed (Ok asking) files = names_of files ≡ asking.files
 AreNamed (Err usage) files = Unit {0}

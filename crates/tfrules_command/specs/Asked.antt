@@ -1,4 +1,4 @@
--- What the options of a call ask for, in the words of a line.
+-- The request in the options of a call, in the words of a line.
 use Rattle.std.specs.Prelude.{Result, Ok, Err}
 use Rattle.tf_rules.specs.Issues.{asked_of}
 use Rattle.tfrules_command.specs.Line.{Asking}

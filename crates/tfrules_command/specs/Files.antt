@@ -1,5 +1,5 @@
--- The files of a module, and what becomes of each: it is refused for one fault, or it is too much, or it is accepted. Our
--- own choice is the bound on a module.
+-- The files of a module, and the outcome of each: it is refused for one fault, or it is too much, or it is accepted.
+-- The bound on a module is our own choice.
 use Rattle.std.specs.Prelude.{◌≡◌, ◌⊎◌, ◌≤◌, ◌<◌, ◌+◌, ℕ, List, [], ◌∷◌, Result, Ok, Err, length, sum_by}
 use Rattle.std.specs.List.{AllZip}
 use Rattle.hcl_tokens.specs.Faults.{IsScanFault}
@@ -39,11 +39,11 @@ pub record AreAccepted (files : List NamedFile) (sources : List Scanned) : Type 
   pub each : AllZip IsAcceptedAs files sources
   pub fit : size_of files ≤ max_module
 
--- after files of so many bytes this one is too much, which is looked at before its tokens
+-- after files with this many bytes this one is too much, which is tested before its tokens
 abbrev pub IsTooMuch : ℕ → List ℕ → Type 0
 IsTooMuch size bytes = IsText bytes × (max_module < size + length bytes)
 
--- after files of so many bytes this is the fault for which the bytes are refused
+-- after files with this many bytes this is the fault for which the bytes are refused
 abbrev pub IsFault : ℕ → List ℕ → Fault → Type 0
 IsFault size bytes fault = IsLoadFault bytes fault ⊎ (IsText bytes × (size + length bytes ≤ max_module) × IsOutcome bytes (Err fault))
 

@@ -1,4 +1,4 @@
--- Files whose facts are kept, one after another.
+-- Files whose facts are kept, in turn.
 use Rattle.std.specs.Prelude.{◌≡◌, ◌≤◌, ◌<◌, ◌+◌, ℕ, List, Option, Result, Ok, Err, length}
 use Rattle.hcl_source.specs.Devices.{Tells}
 use Rattle.hcl_source.specs.Load.{IsText}
@@ -13,7 +13,7 @@ use Rattle.tfrules_command.specs.declared.gather.ScannedFile.{ScannedFile}
 use Rattle.tfrules_command.specs.declared.stop.Stop.{Stop}
 use Rattle.tfrules_command.specs.declared.stop.Stop.TheVariants as stop
 
--- what scanning a text after others of so many bytes answers
+-- the answer of scanning a text after others of this many bytes
 abbrev pub ScansFile : List ℕ → ℕ → Result ScannedFile Stop → Type 0
 ScansFile text size (Ok file) = (file.tokens.text ≡ text) × Scans text file.tokens.tokens × (file.all ≡ size + length text) × (file.all ≤ max_module)
 ScansFile text size (Err (stop.Refused fault)) = (size + length text ≤ max_module) × IsOutcome text (Err fault)
@@ -22,7 +22,7 @@ ScansFile text size (Err stop.NotOpened) = ⊥
 ScansFile text size (Err stop.NotRead) = ⊥
 ScansFile text size (Err stop.OutOfMemory) = Unit {0}
 
--- what keeping scanned tokens answers, with which the files have so many bytes
+-- the answer of keeping scanned tokens, with which the files have this many bytes
 abbrev pub KeepsTokens : Scanned → ℕ → ℕ → Kept → Kept → Result ℕ Stop → Type 0
 KeepsTokens scanned number all old new (Ok more) =
     (source : Scanned) × (Ok source ≡ verdict scanned) × (more ≡ all) × (new ≡ with_file old (record { number = number; source = source }))
@@ -32,7 +32,7 @@ KeepsTokens scanned number all old new (Err stop.NotOpened) = ⊥
 KeepsTokens scanned number all old new (Err stop.NotRead) = ⊥
 KeepsTokens scanned number all old new (Err stop.OutOfMemory) = Unit {0}
 
--- what keeping a text after others of so many bytes answers
+-- the answer of keeping a text after others of this many bytes
 abbrev pub Keeps : List ℕ → ℕ → ℕ → Kept → Kept → Result ℕ Stop → Type 0
 Keeps text size number old new (Ok more) =
     (source : Scanned) × IsOutcome text (Ok source) × (more ≡ size + length text) × (more ≤ max_module) × (new ≡ with_file old (record { number = number; source = source }))

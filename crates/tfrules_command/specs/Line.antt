@@ -1,5 +1,5 @@
--- What the words of a `tfrules` line ask for. clap reads them as a simple command: its own definitions of the matches and
--- the faults of a line decide. What its options may say is our own choice.
+-- The request in the words of a `tfrules` line. clap reads them as a simple command: its own definitions of the matches
+-- and the faults of a line decide. The values of its options are our own choice.
 use Rattle.std.specs.Prelude.{◌≡◌, ℕ, ◌==◌, ◌++◌, Bool, true, false, List, [], ◌∷◌, Option, Some, None, Result, Ok, Err, codes, filter, fold, length, nat_lt, unwrap_or, if◌then◌else◌}
 use Rattle.std.specs.List.{list_all, list_any, slice_split}
 use Rattle.std.specs.Str.{bytes_eq}
@@ -19,8 +19,8 @@ use Rattle.tf_rules.specs.declared.naming.Naming.TheVariants.{SnakeCase, MixedSn
 use Rattle.tfrules_command.specs.declared.usage.Usage.{Usage}
 use Rattle.tfrules_command.specs.declared.usage.Usage.TheVariants.{Help, BadLine, UnknownRule, BadNaming, BadSeverity, TooManyFiles, OutOfMemory}
 
--- what a line asks for: rules and naming, the severity from which on an issue fails the run, whether none does, and the
--- names of the files, each once, in the order of the line
+-- the request of a line: rules and naming, the severity from which on an issue fails the run, whether none does, and
+-- the names of the files, each once, in the order of the line
 pub record Asking : Type 0 where
   pub asked : Asked
   pub minimum : Severity
@@ -39,12 +39,12 @@ tfrules =
     with_rule (with_rule (with_rule (with_rule (with_rule (new_app (codes "tfrules")) (option_rule (codes "rules"))) (option_rule (codes "naming")))
     (option_rule (codes "minimum-failure-severity"))) (flag_rule (codes "force"))) file_rule
 
--- ---- what the options may say
+-- ---- the values of the options
 
 abbrev pub has_name : Text → Rule → Bool
 has_name text rule = bytes_eq (rule_name rule) text
 
--- the rules of these names, where each is the name of a rule
+-- the rules of these names, if each is a rule's
 abbrev pub rules_named : List Text → Option (List Rule)
 rules_named names =
     if list_all (λ name. list_any (has_name name) all_rules) names then Some (filter (λ rule. list_any (λ name. has_name name rule) names) all_rules)
@@ -79,7 +79,7 @@ with_name names name = if list_any (λ known. bytes_eq known name) names then na
 abbrev pub each_once : List Text → List Text
 each_once names = fold with_name [] names
 
--- no name stands among those after it
+-- a name is not among those after it
 abbrev pub NoneTwice : List Text → Type 0
 NoneTwice [] = Unit {0}
 NoneTwice (n ∷ ns) = (list_any (bytes_eq n) ns ≡ false) × NoneTwice ns
@@ -89,11 +89,11 @@ max_files = 256
 
 -- ---- the line
 
--- what an option says, or what stands where it isn't given
+-- the value of an option, or the default
 abbrev pub value_or : Text → Text → List Row → Text
 value_or default id rows = unwrap_or (first_of id rows) default
 
--- the rules are looked at first, then the naming, the severity, and the number of files as they are given
+-- the rules are checked first, then the naming, the severity, and the number of files as given
 abbrev pub asking_for : Bool → List Text → Option (List Rule) → Option Naming → Option Severity → Result Asking Usage
 asking_for force files None naming minimum = Err UnknownRule
 asking_for force files (Some rules) None minimum = Err BadNaming

@@ -18,7 +18,7 @@ issue_line names i =
 abbrev pub issue_count : ℕ → List ℕ
 issue_count count = decimal count ++ line (line (codes " issue(s) found:"))
 
--- nothing where there is no issue; else their number, and what is said of each
+-- nothing without issues; otherwise their number, and the text for each
 abbrev pub report_by : (Issue → List ℕ) → List Issue → List ℕ
 report_by said [] = []
 report_by said (i ∷ is) = issue_count (length (i ∷ is)) ++ flat_map said (i ∷ is)

@@ -1,4 +1,4 @@
--- The rows of `tfrules` where an opening or a read failed or memory ran out, beside those of its answers: our own choice.
+-- The rows of `tfrules` if an open or a read failed or memory ran out, besides those of its answers: our own choice.
 use Rattle.std.specs.Prelude.{◌≡◌, ℕ, Bool, true, false, List, ◌∷◌, ◌++◌, Option, Some, None, Result, Ok, Err, All, codes}
 use Rattle.command_line.specs.Rows.{Row, OrOutOfMemory}
 use Rattle.hcl_source.specs.Devices.{Tells}
@@ -8,11 +8,11 @@ use Rattle.tfrules_command.specs.Files.{NamedFile, AreAccepted}
 use Rattle.tfrules_command.specs.Line.{Asking}
 use Rattle.tfrules_command.specs.declared.usage.Usage.{Usage}
 
--- the files of a module, where a device tells the bytes of a name
+-- the files of a module, if a device tells the bytes of a name
 abbrev pub AreFiles : (List ℕ → Option (List ℕ)) → List NamedFile → Type 0
 AreFiles told files = All (λ file. Tells (told file.name) file.bytes) files
 
--- all files before one are accepted, and the row says this of the next one
+-- all files before one are accepted, and the row reports this for the next one
 pub record IsUnread (text : List ℕ) (told : List ℕ → Option (List ℕ)) (asking : Asking) (row : Row) : Type 0 where
   pub before : List NamedFile
   pub name : List ℕ
@@ -28,11 +28,11 @@ abbrev pub IsUnreadBy : List ℕ → (List ℕ → Option (List ℕ)) → Result
 IsUnreadBy text told (Ok asking) row = IsUnread text told asking row
 IsUnreadBy text told (Err usage) row = ⊥
 
--- the answer to some files that are as the device tells them
+-- the answer to some files, as the device tells them
 abbrev pub IsAnswerTo : (List ℕ → Option (List ℕ)) → Result Asking Usage → Row → Type 0
 IsAnswerTo told options row = (files : List NamedFile) × AreFiles told files × IsAnswerBy options files row
 
--- the row for a failed opening, for a failed read, or of an answer
+-- the row for a failed open, for a failed read, or of an answer
 abbrev pub IsRowBy : (List ℕ → Option (List ℕ)) → Result Asking Usage → Bool → Bool → Row → Type 0
 IsRowBy told options true read_failed = IsUnreadBy (codes "cannot be opened") told options
 IsRowBy told options false true = IsUnreadBy (codes "read failed") told options

@@ -1,4 +1,4 @@
-//! The names of files that a line gives.
+//! The names of files in a line.
 
 ghost use Rattle.std.specs.Prelude.{◌≡◌, ◌≤◌, ◌<◌, ◌+◌, [], length, map, get_or, IfOk, OnOk};
 ghost use Rattle.std.specs.List.{list_any};
@@ -9,7 +9,7 @@ use crate::shown_names::ShownNames;
 use std::alloc::{AllocError, Global};
 use std::marker::Model;
 
-/// The most files that a line may give.
+/// The most files in a line.
 pub const MAX_FILES: usize = 256;
 
 /// One to `MAX_FILES` names of files, none twice.
@@ -36,7 +36,7 @@ fn is_known(names: &[&str], name: &str) -> bool
     names.iter().any(|known| *known == name)
 }
 
-/// Puts a name after the others, where it isn't among them.
+/// Appends a name, unless it is among them.
 fn add_name<'a>(names: &mut Vec<&'a str>, name: &'a str) -> Result<(), AllocError>
     ensures names { OnOk result (map (λ known. known.now) names.new.items
         ≡ with_name (map (λ known. known.now) names.old.items) name.entry.now) }

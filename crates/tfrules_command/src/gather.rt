@@ -1,4 +1,4 @@
-//! The files of a module, read one after the other.
+//! The files of a module, read in turn.
 
 ghost use Rattle.std.specs.Prelude.{◌≡◌, ◌≤◌, ◌<◌, false, ℕ, List};
 ghost use Rattle.tfrules_command.specs.Inner.Steps.{Adds, Gathers, ReadsFile, stop_by, stop_of_scan};
@@ -17,7 +17,7 @@ use tf_rules::Facts;
 /// The most bytes that the files of a module have together.
 pub const MAX_MODULE: usize = 33_554_432;
 
-/// What a loaded text is for a run.
+/// The result of loading a text, for a run.
 fn stop_of(loaded: Result<Source, LoadError>) -> Result<Source, Stop>
     ensures { result ≡ stop_by loaded }
 {
@@ -29,7 +29,7 @@ fn stop_of(loaded: Result<Source, LoadError>) -> Result<Source, Stop>
     }
 }
 
-/// Reads a file, and gives its reader back.
+/// Reads a file, and returns its reader to the device.
 fn read_file<M: ModuleFiles>(alloc: Global, name: &str, files: &mut M) -> Result<Source, Stop>
     requires opened { M.open_failed files.old ≡ false }
     requires read { M.read_failed files.old ≡ false }
@@ -47,7 +47,7 @@ fn read_file<M: ModuleFiles>(alloc: Global, name: &str, files: &mut M) -> Result
     stop_of(loaded)
 }
 
-/// What the fault of a scan is for a run.
+/// The fault of a scan, for a run.
 fn stop_of_scan(error: ScanError) -> Stop
     ensures { result ≡ stop_of_scan error }
 {
@@ -57,14 +57,14 @@ fn stop_of_scan(error: ScanError) -> Stop
     }
 }
 
-/// The tokens of a file, and how many bytes the files have with it.
+/// The tokens of a file, and the sum of the files' bytes with it.
 #[derive(Drop)]
 pub struct ScannedFile<'s> {
     pub tokens: Tokens<'s>,
     pub all: usize,
 }
 
-/// The tokens of a file after others of so many bytes. Their size is looked at before its tokens.
+/// The tokens of a file after others of this many bytes. The sum is tested before its tokens.
 pub fn scan_file<'s>(
     alloc: Global,
     size: usize,
@@ -83,7 +83,7 @@ pub fn scan_file<'s>(
     }
 }
 
-/// Keeps the facts of a file by its tokens, and answers how many bytes the files have with it.
+/// Keeps the facts of a file by its tokens, and returns the sum of the files' bytes with it.
 pub fn keep_tokens(
     number: u32,
     all: usize,
@@ -102,7 +102,7 @@ pub fn keep_tokens(
     }
 }
 
-/// Keeps the facts of a file after others of so many bytes, and answers how many it is then.
+/// Keeps the facts of a file after others of this many bytes, and returns the new sum.
 fn keep_file(
     alloc: Global,
     number: u32,
@@ -119,7 +119,7 @@ fn keep_file(
     }
 }
 
-/// Reads a file and keeps its facts. Its text and its tokens are gone when it returns.
+/// Reads a file and keeps its facts. Its text and its tokens are dropped when it returns.
 fn add_file<M: ModuleFiles>(
     alloc: Global,
     number: u32,
@@ -143,7 +143,7 @@ fn add_file<M: ModuleFiles>(
     }
 }
 
-/// Reads the files of these names in their order, up to the first that isn't kept, and keeps their facts.
+/// Reads the files of these names in order, up to the first that isn't kept, and keeps their facts.
 pub(crate) fn gather<'a, M: ModuleFiles>(
     alloc: Global,
     names: &FileNames<'a>,

@@ -1,4 +1,4 @@
-//! What is proved of the definitions alone. No program calls these functions: their contracts are the laws.
+//! Laws of the definitions alone. No program calls these functions: their contracts are the laws.
 
 ghost use Rattle.std.specs.Prelude.{◌≡◌, ℕ, List, map};
 ghost use Rattle.command_line.specs.Rows.{Row};
@@ -21,8 +21,8 @@ fn show_outcome(bytes: &[u8])
     }
 }
 
-/// A line of words and the files that it names have an answer. The body shows it for files that are there: it loads and
-/// scans each.
+/// A line of words and the files that it names have an answer. The body shows it for files given as values: it loads
+/// and scans each.
 pub fn an_answer(words: &[&str], files: &[(&str, &[u8])])
     ensures { let line = map (λ word. word.now) words.now in
         let given = map (λ file. named_file file.0.now file.1.now) files.now in
@@ -40,7 +40,7 @@ pub fn one_answer()
         → IsAnswer words files row → IsAnswer words files other → row ≡ other }
 {}
 
-/// The status of a report goes by the rules of its issues alone.
+/// The status of a report depends only on the rules of its issues.
 pub fn status_by_rules()
     ensures { (asking : Asking) (issues others : List Issue)
         → map (λ i. i.rule) issues ≡ map (λ i. i.rule) others

@@ -1,5 +1,5 @@
-//! What the program `tfrules` does, over any devices and files: it reads the words of its command line and the files that
-//! they name, and shows what they give.
+//! The program `tfrules` over any devices and files: it reads the words of its command line and the files that they
+//! name, and shows the result.
 #![tactic(auto)]
 
 pub mod file_names;

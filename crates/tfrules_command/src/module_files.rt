@@ -1,4 +1,4 @@
-//! What the files of a module are read from.
+//! The device from which the files of a module are read.
 
 ghost use Rattle.std.specs.Prelude.{◌≡◌, ◌||◌, ℕ, Bool, false, List, Option, IfOk, is_err, not, true};
 
@@ -9,20 +9,20 @@ use tf_rules::Hashing;
 #[derive(Clone, Copy, Debug, PartialEq, Eq)]
 pub struct OpenFault;
 
-/// Files by their names.
+/// Files by name.
 pub trait ModuleFiles {
     type Reader: ByteSource + Drop;
 
-    /// The bytes of the file of a name, where the device tells them.
+    /// The bytes of the file with a name, if the device tells them.
     ghost told: { Self → List ℕ → Option (List ℕ) };
 
     /// An opening has failed.
     ghost open_failed: { Self → Bool };
 
-    /// A reader in which a read has failed was given back.
+    /// A reader with a failed read was returned.
     ghost read_failed: { Self → Bool };
 
-    /// A reader is out: it was opened, and not given back yet.
+    /// A reader is out: it was opened, and not returned yet.
     ghost is_out: { Self → Bool };
 
     /// A reader of the file of this name, from its start.
@@ -50,8 +50,8 @@ pub trait ModuleFiles {
     fn has_failed(&self) -> bool
         ensures { result ≡ (open_failed self.now || read_failed self.now) };
 
-    /// How names in these files are hashed. Where others write the files, that is to go by a seed that they don't know. No
-    /// answer goes by it.
+    /// How names in these files are hashed. If others write the files, that should use a seed that they don't know. No
+    /// answer depends on it.
     fn hashing(&self) -> Hashing {
         Hashing::shared()
     }

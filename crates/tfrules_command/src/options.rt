@@ -16,12 +16,12 @@ use command_line::{flag_named, is_flag_set, option_named, usage_for};
 use std::alloc::{AllocError, Global};
 use tf_rules::{Naming, Rule, RuleSet, Settings, Severity};
 
-/// What the words ask for.
+/// The request in the words.
 #[derive(Debug, Drop)]
 pub struct LintOptions<'a> {
-    /// The rules to look at, and how names are to be written.
+    /// The rules to check, and the naming.
     pub settings: Settings,
-    /// From which severity on an issue fails the run.
+    /// The severity from which on an issue fails the run.
     pub minimum: Severity,
     /// No issue fails the run.
     pub force: bool,
@@ -51,7 +51,7 @@ fn command<'a>(alloc: Global) -> Result<Command<'a>, AllocError>
         .arg(file(alloc))
 }
 
-/// The set with the rule of this name, or nothing where no rule has it.
+/// The set with the rule of this name, or nothing if no rule has it.
 fn with_named(set: Option<RuleSet>, name: &str) -> Option<RuleSet>
     ensures { (names : List (List ℕ)) → Named names set → Named (names ++ name.now ∷ []) result }
 {
@@ -64,7 +64,7 @@ fn with_named(set: Option<RuleSet>, name: &str) -> Option<RuleSet>
     }
 }
 
-/// The set of the rules with these names, which stand between commas, or nothing where a name is no rule's.
+/// The set of the rules with these names, separated by commas, or nothing if a name is no rule's.
 fn rules_named(list: &str) -> Option<RuleSet>
     ensures { Named (slice_split (λ b. b == 44) list.now) result }
 {
@@ -75,7 +75,7 @@ fn rules_named(list: &str) -> Option<RuleSet>
     set
 }
 
-/// The rules that a text asks for.
+/// The rules that a text requests.
 fn rules_asked(text: &str) -> Option<RuleSet>
     ensures { option_map rules_of result ≡ rules_asked text.now }
 {
@@ -88,7 +88,7 @@ fn rules_asked(text: &str) -> Option<RuleSet>
     rules_named(text)
 }
 
-/// The naming that a text asks for.
+/// The naming that a text requests.
 pub fn naming_asked(text: &str) -> Option<Naming>
     ensures { result ≡ naming_asked text.now }
 {
@@ -101,7 +101,7 @@ pub fn naming_asked(text: &str) -> Option<Naming>
     None
 }
 
-/// The severity that a text asks for.
+/// The severity that a text requests.
 pub fn severity_asked(text: &str) -> Option<Severity>
     ensures { result ≡ severity_asked text.now }
 {
@@ -117,7 +117,7 @@ pub fn severity_asked(text: &str) -> Option<Severity>
     None
 }
 
-/// What an option says, or what stands where it isn't given.
+/// The value of an option, or the default.
 fn value_or<'a>(default: &'static str, id: &str, matches: &ArgMatches<'a>) -> &'a str
     ensures { result.now ≡ value_or default.now id.now (rows_of (found_of matches.now)) }
 {
@@ -127,7 +127,7 @@ fn value_or<'a>(default: &'static str, id: &str, matches: &ArgMatches<'a>) -> &'
     }
 }
 
-/// The options, where no text of the line is refused.
+/// The options, if no text of the line is refused.
 fn options_for<'a>(
     alloc: Global,
     given: &[&'a str],
@@ -154,7 +154,7 @@ fn options_for<'a>(
     }
 }
 
-/// The options that the matches of a line give, which has these files.
+/// The options in the matches of a line with these files.
 fn options_with<'a>(
     alloc: Global,
     given: &[&'a str],
@@ -185,7 +185,7 @@ fn options_with<'a>(
     }
 }
 
-/// The options that the matches of a line give.
+/// The options in the matches of a line.
 fn options_of<'a>(alloc: Global, matches: &ArgMatches<'a>) -> Result<LintOptions<'a>, Usage>
     ensures { (result ≡ Err OutOfMemory)
         ⊎ (asked_by result ≡ asking_of_rows (rows_of (found_of matches.now))) }
@@ -196,7 +196,7 @@ fn options_of<'a>(alloc: Global, matches: &ArgMatches<'a>) -> Result<LintOptions
     }
 }
 
-/// The options that the words give, the program's name first, or the usage that they have. Where memory runs out it answers
+/// The options in the words, with the program's name first, or their usage. If memory runs out it returns
 /// `OutOfMemory`.
 pub fn options<'a>(alloc: Global, words: &'a [&'a str]) -> Result<LintOptions<'a>, Usage>
     ensures { (result ≡ Err OutOfMemory)

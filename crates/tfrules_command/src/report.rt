@@ -1,4 +1,4 @@
-//! The report of a run, written line by line: short lines wait together until they fill a page.
+//! The report of a run, written line by line: short lines are buffered until they fill a page.
 
 ghost use Rattle.std.specs.Prelude.{◌≡◌, ◌<◌, ◌≤◌, ◌++◌, [], ◌∷◌, false, true, drop, map, length, is_err, OnOk, if◌then◌else◌};
 ghost use Rattle.std.specs.List.{concat, flat_map, list_any};
@@ -20,14 +20,14 @@ use tf_rules::{IssueList, ListedIssue, Pieces, Rule, Severity};
 /// instruction, which counts once for each byte.
 const PAGE: usize = 2000;
 
-/// What waits to be written.
+/// The bytes that wait to be written.
 type Page = ArrayVec<u8, PAGE>;
 
 /// How many bytes a place takes at most: two colons, and two numbers of ten digits.
 const PLACE: usize = 22;
 
-/// What stands around the message on the line of an issue: the name of its file, its place, and what stands right before
-/// and after the message.
+/// The text around the message on the line of an issue: the name of its file, its place, and the texts before and after
+/// the message.
 #[derive(Clone, Copy)]
 struct Frame<'p> {
     name: &'p [u8],
@@ -36,7 +36,7 @@ struct Frame<'p> {
     closing: &'p str,
 }
 
-/// How much a severity weighs.
+/// The weight of a severity.
 fn weight(severity: Severity) -> u8
     ensures { result ≡ weight severity }
 {
@@ -66,7 +66,7 @@ pub fn has_severe(minimum: Severity, issues: &IssueList<'_>) -> bool
     false
 }
 
-/// What stands between the place of an issue and its message.
+/// The text between the place of an issue and its message.
 fn opening(severity: Severity) -> &'static str
     ensures { result.now ≡ opening_words severity }
 {
@@ -77,7 +77,7 @@ fn opening(severity: Severity) -> &'static str
     }
 }
 
-/// What follows the message of an issue, to the end of the line.
+/// The text after the message of an issue, to the end of the line.
 fn closing(rule: Rule) -> &'static str
     ensures { result.now ≡ closing_words rule }
 {
@@ -95,7 +95,7 @@ fn closing(rule: Rule) -> &'static str
     }
 }
 
-/// Writes `:LINE:COLUMN` so that it ends with the room, and answers where it begins. As one piece of the line it takes
+/// Writes `:LINE:COLUMN` so that it ends with the array, and returns where it begins. As one piece of the line it takes
 /// less than its four parts would, since each piece is copied by a call.
 fn write_place(at: Position, room: &mut [u8; PLACE]) -> usize
     ensures within { result ≤ PLACE }
@@ -108,7 +108,7 @@ fn write_place(at: Position, room: &mut [u8; PLACE]) -> usize
     line - 1
 }
 
-/// Writes the pieces one after another, up to the first write that fails.
+/// Writes the pieces in turn, up to the first write that fails.
 fn write_each<O: ByteSink>(out: &mut O, pieces: &[&[u8]]) -> Result<(), WriteFault>
     requires { O.failed out.old ≡ false }
     ensures took { Took (writer O.ByteSink out.old out.new)
@@ -124,7 +124,7 @@ fn write_each<O: ByteSink>(out: &mut O, pieces: &[&[u8]]) -> Result<(), WriteFau
     Ok(())
 }
 
-/// Puts the pieces after what waits, or none of them where there is no room for all.
+/// Appends the pieces to the waiting bytes, or none of them if there is no room for all.
 fn hold(page: &mut Page, pieces: &[&[u8]]) -> bool
     ensures { Holds result page.old.items page.new.items
         (concat (map (λ piece. piece.now) pieces.now)) }
@@ -139,7 +139,7 @@ fn hold(page: &mut Page, pieces: &[&[u8]]) -> bool
     true
 }
 
-/// Writes what waits.
+/// Writes the waiting bytes.
 fn send<O: ByteSink>(out: &mut O, page: &mut Page) -> Result<(), WriteFault>
     requires { O.failed out.old ≡ false }
     ensures took { Took (writer O.ByteSink out.old out.new) page.old.items }
@@ -154,7 +154,8 @@ fn send<O: ByteSink>(out: &mut O, page: &mut Page) -> Result<(), WriteFault>
     Ok(())
 }
 
-/// Writes the pieces after what waits, or lets them wait too. Pieces for which no page has room are written one by one.
+/// Writes the pieces after the waiting bytes, or lets them wait too. Pieces that no page can hold are written one by
+/// one.
 fn write_pieces<O: ByteSink>(
     out: &mut O,
     page: &mut Page,
@@ -340,7 +341,7 @@ fn write_issues<O: ByteSink, N: ShownNames>(
     Ok(())
 }
 
-/// Writes the report of issues, of which there is one or more.
+/// Writes the report of one or more issues.
 fn write_report<O: ByteSink, N: ShownNames>(
     out: &mut O,
     names: &N,
@@ -362,7 +363,7 @@ fn write_report<O: ByteSink, N: ShownNames>(
     send(out, &mut page)
 }
 
-/// Writes the report and flushes it, or leaves standard output alone where there is no issue.
+/// Writes the report and flushes it, or leaves standard output alone if there is no issue.
 pub fn show_issues<O: ByteSink, N: ShownNames>(out: &mut O, names: &N, issues: &IssueList<'_>)
     requires { O.failed out.old ≡ false }
     ensures took { Took (writer O.ByteSink out.old out.new)

@@ -25,7 +25,7 @@ use tf_rules::{Facts, IssueList};
 static USAGE: &str =
     "usage: tfrules [--rules LIST] [--naming snake_case|mixed_snake_case] [--minimum-failure-severity error|warning|notice] [--force] [--help] FILE...\n";
 
-/// This program as its messages have it.
+/// This program in its messages.
 fn linter() -> Program
     ensures { result ≡ linter }
 {
@@ -47,14 +47,14 @@ fn fault_line(alloc: Global, name: &str, fault: &Fault) -> Result<String, AllocE
     format!(in alloc; "tfrules: error: {name}:{line}:{column}: {text}\n")
 }
 
-/// The line of a file of which something else is said.
+/// The line of a file with another message.
 fn line_about(alloc: Global, name: &str, text: &str) -> Result<String, AllocError>
     ensures { IfOk result (λ line. string_bytes line ≡ (file_error name.now text.now).err) }
 {
     format!(in alloc; "tfrules: error: {name}: {text}\n")
 }
 
-/// What is said where a run stops at a file.
+/// The message about a stop at a file.
 fn stop_line(alloc: Global, name: &str, why: Stop) -> Result<String, AllocError>
     ensures { IfOk result (λ text. string_bytes text ≡ (stop_row name.now why).err) }
 {
@@ -67,7 +67,7 @@ fn stop_line(alloc: Global, name: &str, why: Stop) -> Result<String, AllocError>
     }
 }
 
-/// Says why a run stopped at a file.
+/// Reports why a run stopped at a file.
 fn refuse<O: ByteSink, E: ByteSink>(
     alloc: Global,
     out: &mut O,
@@ -110,7 +110,7 @@ fn show<O: ByteSink, E: ByteSink>(
     linter().finish(out, err, status)
 }
 
-/// Runs over facts of no file yet.
+/// Runs with facts of no file yet.
 fn run_over<M: ModuleFiles, O: ByteSink, E: ByteSink>(
     alloc: Global,
     facts: &mut Facts,
@@ -140,9 +140,9 @@ fn run_over<M: ModuleFiles, O: ByteSink, E: ByteSink>(
     }
 }
 
-/// Reads the files that are named, in their order and each once, and lints them: writes the report of their issues to
-/// standard output, or why one of them is refused to standard error, and gives the exit status. No file is opened after one
-/// that is refused.
+/// Reads the named files, in their order and each once, and lints them: writes the report of their issues to standard
+/// output, or the reason why one of them is refused to standard error, and returns the exit status. No file is opened
+/// after a refused one.
 pub fn run<M: ModuleFiles, O: ByteSink, E: ByteSink>(
     alloc: Global,
     options: &LintOptions<'_>,
@@ -168,7 +168,7 @@ pub fn run<M: ModuleFiles, O: ByteSink, E: ByteSink>(
     run_over(alloc, &mut facts, options, files, out, err)
 }
 
-/// Says what the lines of this program are. It opens nothing.
+/// Prints the usage line. It opens nothing.
 pub fn bad_line<O: ByteSink, E: ByteSink>(out: &mut O, err: &mut E) -> u8
     requires out { O.failed out.old ≡ false }
     requires err { E.failed err.old ≡ false }
@@ -178,7 +178,7 @@ pub fn bad_line<O: ByteSink, E: ByteSink>(out: &mut O, err: &mut E) -> u8
     linter().tell(out, err, USAGE, 1)
 }
 
-/// What is said of a line that gives no options.
+/// The message for a line without options.
 fn usage_text(usage: Usage) -> &'static str
     ensures { result.now ≡ usage_text usage }
 {
@@ -192,7 +192,7 @@ fn usage_text(usage: Usage) -> &'static str
     }
 }
 
-/// Says what a line has for a usage. It opens nothing.
+/// Prints the message for a line's usage. It opens nothing.
 fn tell_usage<O: ByteSink, E: ByteSink>(usage: Usage, out: &mut O, err: &mut E) -> u8
     requires out { O.failed out.old ≡ false }
     requires err { E.failed err.old ≡ false }
@@ -205,8 +205,8 @@ fn tell_usage<O: ByteSink, E: ByteSink>(usage: Usage, out: &mut O, err: &mut E) 
     }
 }
 
-/// The whole program over any devices: reads the words, the program's name first, and then the files that they name, shows
-/// what they give, and answers the exit status.
+/// The whole program over any devices: reads the words, with the program's name first, and then the files that they
+/// name, shows the result, and returns the exit status.
 pub fn program<M: ModuleFiles, O: ByteSink, E: ByteSink>(
     alloc: Global,
     words: &[&str],
@@ -226,7 +226,7 @@ pub fn program<M: ModuleFiles, O: ByteSink, E: ByteSink>(
         (end_of O.ByteSink out.old out.new E.ByteSink err.old err.new result) }
     // No file is left open.
     ensures back { M.is_out files.new ≡ false }
-    // Where the words give no options, nothing is opened.
+    // If the words give no options, nothing is opened.
     ensures unopened { IfErr (options_of (map (λ word. word.now) words.now))
         (λ _. (M.open_failed files.new ≡ false) × (M.read_failed files.new ≡ false)) }
 {

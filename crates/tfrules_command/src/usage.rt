@@ -7,11 +7,11 @@ pub enum Usage {
     Help,
     /// The words are no line of this program.
     BadLine,
-    /// `--rules` says a name that no rule has.
+    /// `--rules` has a name that no rule has.
     UnknownRule,
-    /// `--naming` says no naming.
+    /// `--naming` has an unknown value.
     BadNaming,
-    /// `--minimum-failure-severity` says no severity.
+    /// `--minimum-failure-severity` has an unknown value.
     BadSeverity,
     /// More than `MAX_FILES` files are given.
     TooManyFiles,

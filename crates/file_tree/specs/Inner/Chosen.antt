@@ -1,4 +1,4 @@
--- A choice as what judges by it has it.
+-- A choice in the form by which the code judges.
 use Rattle.std.specs.Prelude.{map}
 use Rattle.file_tree.specs.Choices.{Chosen}
 use Rattle.file_tree.specs.declared.choice.Chooser.{Chooser}

@@ -7,14 +7,14 @@ use Rattle.file_tree.specs.declared.kind.Identity.{Identity}
 use Rattle.file_tree.specs.declared.walk.Found.{Found}
 use Rattle.file_tree.specs.declared.walk.FoundFile.{FoundFile}
 
--- an identity was noted, and this says whether it wasn't before
+-- an identity was noted, and the answer says whether it was new
 pub record NotesIdentity (had has : Identity → Bool) (identity : Identity) (is_new : Bool) : Type 0 where
   pub is : is_new ≡ not (had identity)
   pub now : has identity ≡ true
   pub kept : (other : Identity) → had other ≡ true → has other ≡ true
   pub more : (other : Identity) → has other ≡ true → (other ≡ identity) ⊎ (had other ≡ true)
 
--- one of a name that is no link was noted
+-- the file of a name that is no link was noted
 abbrev pub NotesUnless : Bool → Identity → (Identity → Bool) → (Identity → Bool) → Type 0
 NotesUnless true identity had has = has ≡ had
 NotesUnless false identity had has = (is_new : Bool) × NotesIdentity had has identity is_new
@@ -28,7 +28,7 @@ pub record Owns (found : List Found) (has : Identity → Bool) : Type 0 where
   pub all : (f : Found) (identity : Identity) → Contains found f → IsPlain identity f → has identity ≡ true
   pub only : (identity : Identity) → has identity ≡ true → (f : Found) × Contains found f × IsPlain identity f
 
--- a link was met, which is kept if its file wasn't noted
+-- a link was met; it is kept if its file wasn't noted
 abbrev pub MeetsLink : Identity → Found → (Identity → Bool) → (Identity → Bool) → List Found → List Found → Type 0
 MeetsLink identity f had has old new = (is_new : Bool) × NotesIdentity had has identity is_new × (new ≡ (if is_new then old ++ f ∷ [] else old))
 
@@ -36,12 +36,12 @@ abbrev pub MeetsIf : Bool → Identity → Found → (Identity → Bool) → (Id
 MeetsIf true identity f had has old new = MeetsLink identity f had has old new
 MeetsIf false identity f had has old new = (has ≡ had) × (new ≡ old ++ f ∷ [])
 
--- one more was met
+-- another name was met
 abbrev pub MeetsBy : Option FoundFile → Found → (Identity → Bool) → (Identity → Bool) → List Found → List Found → Type 0
 MeetsBy None f had has old new = (has ≡ had) × (new ≡ old ++ f ∷ [])
 MeetsBy (Some file) f had has old new = MeetsIf file.is_link file.identity f had has old new
 
--- of the files that were met so far these were kept; the files of all names that are no links were noted before
+-- of the files met so far these were kept; the files of all names that are no links were noted before
 pub record Keeps (own : Identity → Bool) (met kept : List Found) (has : Identity → Bool) : Type 0 where
   pub rises : Rises kept
   pub only : (f : Found) → Contains kept f → Contains met f

@@ -1,4 +1,4 @@
--- A walk over folders, each of which is looked into by itself.
+-- A walk over folders that lists each by itself.
 use Rattle.std.specs.Prelude.{◌≡◌, List, [], ◌∷◌, ◌++◌, map}
 use Rattle.std.specs.List.{Contains}
 use Rattle.file_tree.specs.Choices.{Chosen}
@@ -10,14 +10,14 @@ use Rattle.file_tree.specs.Seen.{all_found}
 use Rattle.file_tree.specs.declared.walk.Looked.{Looked}
 use Rattle.file_tree.specs.declared.walk.Search.{Search}
 
--- all that was found so far, and the folders that are still to be looked into
+-- everything found so far, and the folders still to be listed
 abbrev pub searched : Search → Reached
 searched s = record { found = all_found s.walk.found.items s.looked.items; folders = map (λ folder. folder.items) s.walk.folders.items }
 
 abbrev pub nothing : Reached
 nothing = record { found = []; folders = [] }
 
--- what was found in a folder is kept, and the folders in it are to be looked into
+-- the entries found in a folder are kept, and its folders are to be listed
 pub record Keeps (folder : Name) (here : Reached) (old new : Search) : Type 0 where
   pub l : Looked
   pub folder_is : l.folder.items ≡ folder
@@ -26,28 +26,28 @@ pub record Keeps (folder : Name) (here : Reached) (old new : Search) : Type 0 wh
   pub looked : new.looked.items ≡ old.looked.items ++ l ∷ []
   pub folders : map (λ folder. folder.items) new.walk.folders.items ≡ map (λ folder. folder.items) old.walk.folders.items ++ here.folders
 
--- a folder was looked into
+-- a folder was listed
 pub record LooksInto (files : Files) (chosen : Chosen) (folder : Name) (was is : Faults) (old new : Search) : Type 0 where
   pub here : Reached
   pub takes : TakesFolder files chosen folder nothing here
   pub hears : Hears [] here.found was is
   pub keeps : Keeps folder here old new
 
--- what was found in it stands in this folder
+-- the entries found in it are of this folder
 abbrev pub IsLook : Files → Chosen → Looked → Type 0
 IsLook files chosen l = (here : Reached) × TakesFolder files chosen l.folder.items nothing here × (l.found.items ≡ here.found)
 
 abbrev pub AreLooks : Files → Chosen → List Looked → Type 0
 AreLooks files chosen looked = (l : Looked) → Contains looked l → IsLook files chosen l
 
--- some folders were looked into, and those in them
+-- some folders were listed, and those in them
 pub record Searches (files : Files) (chosen : Chosen) (was is : Faults) (old new : Search) : Type 0 where
   pub walked : (paths : List Name) → Walked files chosen paths (searched old) → Walked files chosen paths (searched new)
   pub hears : Hears (searched old).found (searched new).found was is
   pub named : new.walk.found ≡ old.walk.found
   pub looks : AreLooks files chosen old.looked.items → AreLooks files chosen new.looked.items
 
--- all that these paths stand for
+-- everything that these paths stand for
 pub record SeesAll (files : Files) (chosen : Chosen) (paths : List Name) (was is : Faults) (s : Search) : Type 0 where
   pub walked : Walked files chosen paths (record { found = (searched s).found; folders = [] })
   pub real : AreReal files chosen paths was is (searched s).found
@@ -55,7 +55,7 @@ pub record SeesAll (files : Files) (chosen : Chosen) (paths : List Name) (was is
 
 -- ---- in order
 
--- the same folders, and in each what was found in the order of the names
+-- these folders, and in each the found names in order
 abbrev pub AreOrdered : List Looked → List Looked → Type 0
 AreOrdered [] [] = Unit {0}
 AreOrdered [] (o ∷ os) = ⊥

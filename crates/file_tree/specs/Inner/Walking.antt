@@ -1,4 +1,4 @@
--- A walk, step by step: what was found, and the folders that are still to be looked into.
+-- A walk, step by step: the found names, and the folders still to be listed.
 use Rattle.std.specs.Prelude.{◌≡◌, ◌≢◌, ◌⊎◌, ◌&&◌, ℕ, Bool, true, false, List, [], ◌∷◌, ◌++◌, Option, Some, None, map}
 use Rattle.std.specs.List.{Contains}
 use Rattle.file_tree.specs.Below.{IsBelow, IsNamed, IsOther, is_met, listed}
@@ -18,7 +18,7 @@ use Rattle.file_tree.specs.declared.walk.Found.{Found}
 use Rattle.file_tree.specs.declared.walk.FoundFile.{FoundFile}
 use Rattle.file_tree.specs.declared.walk.Walk.{Walk}
 
--- what was found so far, and the folders that are still to be looked into
+-- the names found so far, and the folders still to be listed
 pub record Reached : Type 0 where
   pub found : List Found
   pub folders : List Name
@@ -37,7 +37,7 @@ pub record Adds (name : Name) (fault : Option TreeFault) (file : Option FoundFil
   pub found : new.found ≡ old.found ++ f ∷ []
   pub folders : new.folders ≡ old.folders
 
--- a folder is to be looked into
+-- a folder is to be listed
 pub record Enters (folder : Name) (old new : Reached) : Type 0 where
   pub found : new.found ≡ old.found
   pub folders : new.folders ≡ old.folders ++ folder ∷ []
@@ -46,62 +46,62 @@ pub record Enters (folder : Name) (old new : Reached) : Type 0 where
 abbrev pub Reports : Name → Reached → Reached → Type 0
 Reports name old new = (fault : TreeFault) × Adds name (Some fault) None old new
 
--- a file by a name that is a link to it or isn't
+-- a file by a name, which may be a link to it
 abbrev pub file_by : Bool → Identity → FoundFile
 file_by is_link identity = record { identity = identity; is_link = is_link }
 
--- what stands under this name, whose last part this is, is a file that is taken, and it was found; or nothing was
+-- the entry under this name, whose last part this is, is a file that is taken, and it was found; or nothing was
 abbrev pub TakesIf : Bool → Name → Identity → Reached → Reached → Type 0
 TakesIf true path identity old new = Adds path None (Some (file_by false identity)) old new
 TakesIf false path identity old new = new ≡ old
 
--- what an entry adds that is no file, where it is taken
+-- the effect of an entry that is no file, if it is taken
 abbrev pub TakesSpecial : Bool → Name → Reached → Reached → Type 0
 TakesSpecial true path old new = Adds path None None old new
 TakesSpecial false path old new = new ≡ old
 
--- what a link adds that leads to this, or that can't be followed
+-- the effect of a link to this, or of one that can't be followed
 abbrev pub TakesLinked : Bool → Kind → Name → Reached → Reached → Type 0
 TakesLinked specials (File identity) path old new = Adds path None (Some (file_by true identity)) old new
 TakesLinked specials Other path old new = TakesSpecial specials path old new
 TakesLinked specials kind path old new = new ≡ old
 
--- what a link adds, of a name that is taken or isn't
+-- the effect of a link, given whether its name is taken
 abbrev pub TakesLink : Bool → Bool → Files → Name → Reached → Reached → Type 0
 TakesLink true specials files path old new = Reports path old new ⊎ ((kind : Kind) × Tells (files.kind path) kind × TakesLinked specials kind path old new)
 TakesLink false specials files path old new = new ≡ old
 
--- what an entry of this kind adds
+-- the effect of an entry of this kind
 abbrev pub TakesKind : Bool → Kind → Files → Name → Name → Reached → Reached → Type 0
 TakesKind specials Folder files path name old new = Enters (path ++ (47 ∷ [])) old new
 TakesKind specials (File identity) files path name old new = TakesIf (is_taken name) path identity old new
 TakesKind specials Link files path name old new = TakesLink (is_taken name) specials files path old new
 TakesKind specials Other files path name old new = TakesSpecial (specials && is_taken name) path old new
 
--- what an entry adds that is met
+-- the effect of an entry that is met
 abbrev pub TakesMet : Bool → Files → Name → Name → Reached → Reached → Type 0
 TakesMet specials files path name old new = Reports path old new ⊎ ((kind : Kind) × Tells (files.entry path) kind × TakesKind specials kind files path name old new)
 
--- what an entry adds
+-- the effect of an entry
 abbrev pub TakesEntry : Files → Chosen → Name → Name → Reached → Reached → Type 0
 TakesEntry files chosen folder name old new = ((is_met chosen folder name ≡ false) × (new ≡ old)) ⊎ ((is_met chosen folder name ≡ true) × TakesMet chosen.specials files (folder ++ name) name old new)
 
--- what some entries add, one after the other
+-- the effect of some entries in turn
 abbrev pub TakesAll : Files → Chosen → Name → List Name → Reached → Reached → Type 0
 TakesAll files chosen folder [] old new = new ≡ old
 TakesAll files chosen folder (name ∷ names) old new = (between : Reached) × TakesEntry files chosen folder name old between × TakesAll files chosen folder names between new
 
--- what a folder adds
+-- the effect of a folder
 abbrev pub TakesFolder : Files → Chosen → Name → Reached → Reached → Type 0
 TakesFolder files chosen folder old new =
     Reports (place folder) old new ⊎ ((listing : List ℕ) × Tells (files.listing (place folder)) listing × TakesAll files chosen folder (listed listing) old new)
 
--- what a path adds that is given and leads to a file, by what its name has
+-- the effect of a given path that leads to a file, by the kind of its name
 abbrev pub TakesNamedFile : Files → Identity → Name → Reached → Reached → Type 0
 TakesNamedFile files identity path old new =
     Reports (reported path) old new ⊎ ((entry : Kind) × Tells (files.entry (tidied path)) entry × Adds (tidied path) None (Some (file_by (is_link entry) identity)) old new)
 
--- what one adds that is to be looked at
+-- the effect of a given path that is to be looked at
 abbrev pub TakesWanted : Kind → Files → Name → Reached → Reached → Type 0
 TakesWanted (File identity) files path old new = TakesNamedFile files identity path old new
 TakesWanted kind files path old new = Adds (tidied path) None None old new
@@ -110,7 +110,7 @@ abbrev pub TakesNamed : Bool → Kind → Files → Name → Reached → Reached
 TakesNamed true kind files path old new = TakesWanted kind files path old new
 TakesNamed false kind files path old new = Adds (tidied path) (Some OtherKind) None old new
 
--- what a path adds that is given
+-- the effect of a given path
 abbrev pub TakesKindGiven : Files → Chosen → Kind → Name → Reached → Reached → Type 0
 TakesKindGiven files chosen Folder path old new = Enters (top path) old new
 TakesKindGiven files chosen kind path old new = TakesNamed (is_wanted chosen (tidied path)) kind files path old new
@@ -127,7 +127,7 @@ TakesGiven files chosen path old new =
 abbrev pub IsFault : List Found → Name → Type 0
 IsFault found name = (f : Found) × Contains found f × (f.name.items ≡ name) × (f.fault ≢ None)
 
--- what is below a folder was found, or reported, or it is still to be met
+-- the entries below a folder were found, or reported, or are still to be met
 abbrev pub Covers : Reached → Name → List Name → Name → Type 0
 Covers r folder [] last = Contains r.folders folder ⊎ (IsFault r.found (place folder) ⊎ (IsFault r.found (folder ++ last) ⊎ IsFound r.found (folder ++ last)))
 Covers r folder (part ∷ parts) last = Contains r.folders folder ⊎ (IsFault r.found (place folder) ⊎ (IsFault r.found (folder ++ part) ⊎ Covers r (inside folder part) parts last))
@@ -140,24 +140,24 @@ pub record Walked (files : Files) (chosen : Chosen) (paths : List Name) (r : Rea
   pub below : (path : Name) (parts : List Name) (last : Name) → Contains paths path → IsBelow true files chosen path parts last
       → IsFault r.found (reported path) ⊎ Covers r (top path) parts last
 
--- ---- what the device's calls answered
+-- ---- the answers of the device's calls
 
 abbrev pub failures_of : Name → Option TreeFault → List Failure
 failures_of name None = []
 failures_of name (Some fault) = record { name = name; fault = fault } ∷ []
 
--- the names that were reported, in the order in which they were met
+-- the reported names, in the order in which they were met
 abbrev pub failures_in : List Found → List Failure
 failures_in [] = []
 failures_in (f ∷ found) = failures_of f.name.items f.fault ++ failures_in found
 
--- the calls that failed since are those of the names that were reported
+-- the calls that failed since are those of the reported names
 pub record Hears (old new : List Found) (before after : Faults) : Type 0 where
   pub more : List Found
   pub found : new ≡ old ++ more
   pub heard : after ≡ with_failures before (failures_in more)
 
--- what a path that is given adds to what was found is real
+-- everything that a given path adds is real
 pub record HearsGiven (files : Files) (chosen : Chosen) (path : Name) (old new : List Found) (before after : Faults) : Type 0 where
   pub more : List Found
   pub found : new ≡ old ++ more

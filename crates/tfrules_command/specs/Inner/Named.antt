@@ -7,7 +7,7 @@ use Rattle.rule_set.specs.declared.rule.Rule.{Rule}
 use Rattle.rule_set.specs.declared.rule_set.RuleSet.{RuleSet}
 use Rattle.tfrules_command.specs.Line.{has_name}
 
--- each is the name of a rule, and the set has the rules of these names; or one is no rule's name
+-- each name is a rule's, and the set has these rules; or one is no rule's name
 abbrev pub Named : List (List ℕ) → Option RuleSet → Type 0
 Named names None = list_all (λ name. list_any (has_name name) all_rules) names ≡ false
 Named names (Some set) =

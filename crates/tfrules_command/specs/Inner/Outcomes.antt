@@ -1,4 +1,4 @@
--- What becomes of the bytes of a file, the other files aside.
+-- The outcome of the bytes of a file, regardless of the other files.
 use Rattle.std.specs.Prelude.{◌⊎◌, ℕ, List, Result}
 use Rattle.hcl_tokens.specs.Scanned.{Scanned}
 use Rattle.hcl_source.specs.Load.{IsLoadFault, IsText}

@@ -1,4 +1,4 @@
--- How far a run has come with the files of a module, and why it stopped.
+-- The progress of a run with the files of a module, and the reason for its stop.
 use Rattle.std.specs.Prelude.{◌≡◌, ◌+◌, ◌++◌, ◌∷◌, ℕ, Bool, true, false, List, [], Option, Result, Ok, Err, codes}
 use Rattle.command_line.specs.Rows.{Row, error_line, out_of_memory}
 use Rattle.hcl_source.specs.Load.{IsLoadFault, IsText}
@@ -17,18 +17,18 @@ use Rattle.tfrules_command.specs.declared.stop.Stopped.{Stopped}
 use Rattle.tfrules_command.specs.declared.usage.Usage.{Usage}
 use Rattle.tfrules_command.specs.declared.usage.Usage.TheVariants as usage
 
--- no opening and no read failed
+-- no open and no read failed
 abbrev pub AreFine : Bool → Bool → Type 0
 AreFine open_failed read_failed = (open_failed ≡ false) × (read_failed ≡ false)
 
--- what a loaded text is for a run
+-- the result of loading a text, for a run
 abbrev pub stop_by : Result (List ℕ) LoadError → Result (List ℕ) Stop
 stop_by (Ok text) = Ok text
 stop_by (Err (error.Fault fault)) = Err (stop.Refused fault)
 stop_by (Err error.ReadFailed) = Err stop.NotRead
 stop_by (Err error.OutOfMemory) = Err stop.OutOfMemory
 
--- what reading a file answers, of which the device tells these bytes
+-- the answer of reading a file whose bytes the device tells
 abbrev pub ReadsFile : Option (List ℕ) → Bool → Bool → Result (List ℕ) Stop → Type 0
 ReadsFile told o r (Ok text) = AreFine o r × Tells told text × IsText text
 ReadsFile told o r (Err (stop.Refused fault)) = AreFine o r × ((bytes : List ℕ) × Tells told bytes × IsLoadFault bytes fault)
@@ -37,7 +37,7 @@ ReadsFile told o r (Err stop.NotOpened) = o ≡ true
 ReadsFile told o r (Err stop.NotRead) = (o ≡ false) × (r ≡ true)
 ReadsFile told o r (Err stop.OutOfMemory) = AreFine o r
 
--- what the fault of a scan is for a run
+-- the fault of a scan, for a run
 abbrev pub stop_of_scan : ScanError → Stop
 stop_of_scan (scan_error.Fault fault) = stop.Refused fault
 stop_of_scan scan_error.OutOfMemory = stop.OutOfMemory
@@ -54,7 +54,7 @@ abbrev pub Adds : Option (List ℕ) → ℕ → ℕ → Bool → Bool → Kept �
 Adds told size number o r old new (Ok more) = AreFine o r × Added told size number old new more
 Adds told size number o r old new (Err why) = StopsBy told size o r why
 
--- the run came to the file of this name, and stopped
+-- the run reached the file of this name, and stopped
 pub record StopsAt (told : List ℕ → Option (List ℕ)) (names : List (List ℕ)) (o r : Bool) (name : List ℕ) (why : Stop) : Type 0 where
   pub front : List (List ℕ)
   pub after : List (List ℕ)
@@ -68,7 +68,7 @@ abbrev pub Gathers : {U : Type 0} → (List ℕ → Option (List ℕ)) → List 
 Gathers told names o r kept (Ok u) = AreFine o r × ((size : ℕ) × Reached told names size kept)
 Gathers told names o r kept (Err stopped) = StopsAt told names o r stopped.name.now stopped.why
 
--- what is said where a run stops
+-- the message at a stop
 abbrev pub stop_row : List ℕ → Stop → Row
 stop_row name (stop.Refused fault) = refusal_row name fault
 stop_row name stop.TooLarge = too_large name

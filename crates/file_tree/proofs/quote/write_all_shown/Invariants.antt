@@ -4,7 +4,7 @@ use Rattle.command_line.proofs.WriterLemmas.{Goes}
 use Rattle.file_tree.specs.Quotes.{shown_byte}
 use Rattle.file_tree.proofs.quote.write_all_shown.Given as goal
 
--- what is taken of the rest from now on is taken of all from the start on
+-- the bytes taken of the rest from now on complete those of the whole
 abbrev pub invariant-loop-byte : goal.invariant-loop-byte
 invariant-loop-byte g l =
     (g.S.ByteSink.failed l.sink ≡ false)

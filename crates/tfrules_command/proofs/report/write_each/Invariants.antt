@@ -3,7 +3,7 @@ use Rattle.std.specs.List.{concat}
 use Rattle.command_line.specs.Rows.{TookBy}
 use Rattle.tfrules_command.proofs.report.write_each.Given as goal
 
--- what is taken of the rest from now on is taken of all from the start on
+-- the bytes taken of the rest from now on complete those of the whole
 abbrev pub invariant-loop-piece : goal.invariant-loop-piece
 invariant-loop-piece g l =
     (g.O.ByteSink.failed l.out ≡ false)

@@ -4,7 +4,7 @@ use Rattle.tfrules_command.specs.Report.{issue_line}
 use Rattle.tfrules_command.proofs.PageLemmas.{GoesOn}
 use Rattle.tfrules_command.proofs.report.write_issues.Given as goal
 
--- the lines that are left go out after what waits, so all lines do after what waited at first
+-- the remaining lines go out after the waiting bytes, so all lines do after those that waited at first
 abbrev pub invariant-loop-number : goal.invariant-loop-number
 invariant-loop-number g l =
     (g.O.ByteSink.failed l.out ≡ false)

@@ -4,7 +4,7 @@ use Rattle.std.proofs.lemmas.Fmt.{length-decimal-le}
 use Rattle.std.proofs.lemmas.List.{append-nil, drop_all, length-set}
 use Rattle.tfrules_command.proofs.report.write_place.Goals as goal
 
--- a byte before what stands from a place on
+-- a byte before the rest from a place on
 put_before : (xs : List ℕ) (i v : ℕ) → i < length xs → drop i (set xs i v) ≡ v ∷ drop (i + 1) xs
 put_before [] i v h = absurd (omega (arith, h))
 put_before (x ∷ xs) zero v h = refl
