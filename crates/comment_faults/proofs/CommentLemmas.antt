@@ -1,4 +1,4 @@
--- The comments of a file, one after another.
+-- The comments of a file, in turn.
 use Rattle.std.proofs.Common.{◌≡◌, ◌∙◌, ◌∷◌, ◌++◌, ◌<◌, ◌≤◌, ◌+◌, [], ℕ, Bool, true, false, List, ap, append_assoc, append-nil, arith, drop, eqb-true, length, map, refl, sym}
 use Rattle.std.specs.Prelude.{◌==◌, ◌&&◌, Some, slice_get, if◌then◌else◌}
 use Rattle.std.specs.List.{flat_map}
@@ -65,7 +65,7 @@ module _ (file : File) (n : ℕ) where
 
 -- ---- all of them
 
--- those so far, with those to come, are all, and the walk is before the tokens to come
+-- those so far and those to come are all, and the walk is before the tokens to come
 pub record IsLooking (file : File) (first faults : List code.CommentFault) (n : ℕ) (walk : Walked) : Type 0 where
   pub so_far : map fault_told faults ++ flat_map (fault_of file) (numbered_from n (drop n file.source.tokens)) ≡ map fault_told first ++ flat_map (fault_of file) (numbered file.source.tokens)
   pub text : walk.text ≡ file.source.text

@@ -44,7 +44,7 @@ pub known_by : (name : List ℕ) (o : Option Rule) → bytes_eq name (codes "all
 known_by name (Some found) other is = sym (is_one found) ∙ any_same (λ rule. is_rule rule found) (λ rule. names rule name) all_rules (names_one name found other is)
 known_by name None other is = sym (none_of (λ rule. names rule name) all_rules (names_none name other is))
 
--- ---- one name more
+-- ---- another name
 
 abbrev unknown : List ℕ → Bool
 unknown name = not (is_known name)

@@ -10,13 +10,13 @@ use Rattle.tf_rules.specs.Issues.{File, place_in, tokens_of}
 use Rattle.comment_faults.specs.CommentTexts.{fault_text}
 use Rattle.comment_faults.specs.declared.fault.CommentFault as code
 
--- the number of the comment's file, where it begins, and what is said of it
+-- the number of the comment's file, its place, and its message
 pub record CommentFault : Type 0 where
   pub file : ℕ
   pub at : Position
   pub text : List ℕ
 
--- the same in the code's terms
+-- such a comment in the code's terms
 abbrev pub fault_told : code.CommentFault → CommentFault
 fault_told f = record { file = f.file; at = f.at; text = string_bytes f.text }
 
@@ -24,7 +24,7 @@ abbrev pub is_some_text : List ℕ → Bool
 is_some_text [] = false
 is_some_text (b ∷ bs) = true
 
--- that of a token, if it is such a comment: all of its text is UTF-8, so nothing is replaced
+-- the fault of a token, if it is such a comment: all of its text is UTF-8, so nothing is replaced
 abbrev pub fault_of : File → Numbered → List CommentFault
 fault_of file t =
     if is LineComment t.kind && is_some_text (fault_text t.text) then record { file = file.number; at = (place_in file t.number).at; text = utf8_lossy (fault_text t.text) } ∷ []

@@ -1,4 +1,4 @@
--- What is said of a comment that is meant to silence a rule and doesn't. Our own choice.
+-- Messages about comments that are meant to silence a rule and don't. Our own choice.
 use Rattle.std.specs.Prelude.{ℕ, Bool, not, List, [], ◌∷◌, ◌++◌, codes, filter, flat_map, map, if◌then◌else◌}
 use Rattle.std.specs.List.{list_any}
 use Rattle.file_tree.specs.Quotes.{in_quotes}
@@ -6,11 +6,11 @@ use Rattle.rule_set.specs.Rules.{all_rules}
 use Rattle.tf_facts.specs.Silencing.{comment_words, names, parts, trimmed}
 use Rattle.tf_facts.specs.Texts.{begins}
 
--- a name in a silencing comment stands for a rule, or for all
+-- a name in a silencing comment means a rule, or all
 abbrev pub is_known : List ℕ → Bool
 is_known name = list_any (λ rule. names rule name) all_rules
 
--- the names in the comment of this text that stand for none
+-- the names in the comment of this text that mean none
 abbrev pub unknown_names : List ℕ → List (List ℕ)
 unknown_names text = filter (λ name. not (is_known name)) (map trimmed (parts (comment_words text)))
 
@@ -27,6 +27,6 @@ unknown_text (n ∷ ns) = codes "no rule is called " ++ (in_quotes n ++ flat_map
 abbrev pub has_file_keyword : List ℕ → Bool
 has_file_keyword text = begins (codes "tflint-ignore-file:") (comment_words text)
 
--- WHAT IS SAID of the line comment of this text: nothing of most
+-- THE MESSAGE about the line comment of this text: none for most
 abbrev pub fault_text : List ℕ → List ℕ
 fault_text text = if has_file_keyword text then codes "tflint-ignore-file silences nothing here" else unknown_text (unknown_names text)

@@ -1,4 +1,4 @@
-//! The comments of a file, looked at one after another.
+//! The comments of a file, checked in turn.
 
 ghost use Rattle.std.specs.Prelude.{◌≡◌, ◌<◌, ◌++◌, OnOk, Some, length, map, slice_get, true};
 ghost use Rattle.hcl_tokens.specs.Kinds.{is};
@@ -19,7 +19,7 @@ fn is_line_comment(kind: Kind) -> bool
     matches!(kind, Kind::LineComment)
 }
 
-/// Adds the fault of the line comment of this number, if it has one.
+/// Appends the fault of the line comment of this number, if it has one.
 fn add_of_comment(
     alloc: Global,
     file: u32,
@@ -48,7 +48,7 @@ fn add_of_comment(
     Ok(())
 }
 
-/// Adds the fault of the token of this number, if it is a line comment that has one.
+/// Appends the fault of the token of this number, if it is a line comment that has one.
 fn add_of_token(
     alloc: Global,
     file: u32,
@@ -69,8 +69,8 @@ fn add_of_token(
     add_of_comment(alloc, file, tokens, number, walker, faults)
 }
 
-/// Adds the comments of the file of this number that are meant to silence a rule and don't, in their order, by one walk through
-/// its tokens.
+/// Appends the comments of the file of this number that are meant to silence a rule and don't, in their order, by one
+/// walk through its tokens.
 pub fn add_comment_faults(
     alloc: Global,
     file: u32,

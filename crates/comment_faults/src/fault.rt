@@ -9,6 +9,6 @@ pub struct CommentFault {
     pub file: u32,
     /// Where the comment begins.
     pub at: Position,
-    /// What is said of it.
+    /// Its message.
     pub text: String,
 }

@@ -1,5 +1,5 @@
-//! Comments of files that are meant to silence a rule and don't: those that name what no rule is called, and TFLint's for whole
-//! files, which has no effect here.
+//! Comments of files that are meant to silence a rule and don't: those with a name that isn't a rule's, and TFLint's
+//! for whole files, which has no effect here.
 #![tactic(auto)]
 
 mod comments;

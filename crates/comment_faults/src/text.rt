@@ -1,4 +1,4 @@
-//! What is said of a comment.
+//! Messages about comments.
 
 ghost use Rattle.std.specs.Prelude.{◌≡◌, ◌==◌, IfOk, OnOk, filter, map, not};
 ghost use Rattle.std.specs.List.{slice_split};
@@ -11,12 +11,12 @@ use rule_set::{ALL_RULES, rule_named};
 use std::alloc::{AllocError, Global};
 use tf_facts::{comment_words, silencing_list, trimmed};
 
-/// With what TFLint's comment for a whole file begins, after its mark and blanks.
+/// The beginning of TFLint's comment for a whole file, after its mark and blanks.
 const FILE_KEYWORD: &[u8] = b"tflint-ignore-file:";
 
 static NO_EFFECT: &[u8] = b"tflint-ignore-file silences nothing here";
 
-/// Whether a name in a silencing comment stands for a rule or for all.
+/// Whether a name in a silencing comment means a rule or all.
 fn is_known(name: &[u8]) -> bool
     ensures { result ≡ is_known name.now }
 {
@@ -26,7 +26,7 @@ fn is_known(name: &[u8]) -> bool
     rule_named(&ALL_RULES, name).is_some()
 }
 
-/// What stands before a name: the first, or a further one.
+/// The text before a name: the first, or a further one.
 fn before_name(text: &[u8]) -> &'static [u8]
     ensures { result.now ≡ before_name text.now }
 {
@@ -36,7 +36,7 @@ fn before_name(text: &[u8]) -> &'static [u8]
     b" or "
 }
 
-/// Adds one name more that no rule has.
+/// Appends another name that no rule has.
 fn push_name(text: &mut Vec<u8>, name: &[u8]) -> Result<(), AllocError>
     ensures { OnOk result (text.new.items ≡ with_name text.old.items name.now) }
 {
@@ -45,7 +45,7 @@ fn push_name(text: &mut Vec<u8>, name: &[u8]) -> Result<(), AllocError>
     push_in_quotes(text, name)
 }
 
-/// Adds a name, unless it is known.
+/// Appends a name, unless it is a rule's.
 fn push_unknown(text: &mut Vec<u8>, name: &[u8]) -> Result<(), AllocError>
     ensures { OnOk result (text.new.items ≡ with_unknown text.old.items name.now) }
 {
@@ -55,7 +55,7 @@ fn push_unknown(text: &mut Vec<u8>, name: &[u8]) -> Result<(), AllocError>
     push_name(text, name)
 }
 
-/// What is said of a list of names with commas between them.
+/// The message about a list of names with commas between them.
 fn unknown_text(alloc: Global, list: &[u8]) -> Result<Vec<u8>, AllocError>
     ensures { IfOk result (λ text. text.items
         ≡ unknown_text (filter (λ name. not (is_known name))
@@ -75,7 +75,7 @@ fn has_file_keyword(comment: &[u8]) -> bool
     comment_words(comment).starts_with(FILE_KEYWORD)
 }
 
-/// What is said of the names that a comment lists.
+/// The message about the names in a comment.
 fn names_text(alloc: Global, comment: &[u8]) -> Result<Vec<u8>, AllocError>
     ensures { IfOk result (λ text. text.items ≡ unknown_text (unknown_names comment.now)) }
 {
@@ -85,7 +85,7 @@ fn names_text(alloc: Global, comment: &[u8]) -> Result<Vec<u8>, AllocError>
     }
 }
 
-/// What is said of the line comment of this text: nothing of most.
+/// The message about the line comment of this text: none for most.
 pub(crate) fn fault_text(alloc: Global, comment: &[u8]) -> Result<Vec<u8>, AllocError>
     ensures { IfOk result (λ text. text.items ≡ fault_text comment.now) }
 {

@@ -1,4 +1,4 @@
--- What is said of lines, one after the other, and how long runs are.
+-- The diff of lines, in turn, and the lengths of runs.
 use Rattle.std.proofs.Common.{◌≡◌, ◌∙◌, ◌<◌, ◌≤◌, ◌+◌, ◌-◌, ◌++◌, [], ℕ, suc, Bool, true, false, List, ap, append_assoc, append-nil, arith, length, sym}
 use Rattle.std.proofs.lemmas.List.{get_or_past}
 use Rattle.std.specs.Prelude.{not, if◌then◌else◌}
@@ -20,7 +20,7 @@ and_none n = omega arith
 pub each_next : (f : ℕ → List ℕ) (n end : ℕ) → n < end → each f n (end - n) ≡ f n ++ each f (n + 1) (end - (n + 1))
 each_next f n end lt = ap (each f n) (one_less n end lt) ∙ ap (λ m. f n ++ each f m (end - (n + 1))) (next_is n)
 
--- the text of one line more
+-- the text of another line
 pub each_goes : (f : ℕ → List ℕ) (whole items more : List ℕ) (n end : ℕ) → n < end → items ++ each f n (end - n) ≡ whole → more ≡ items ++ f n → more ++ each f (n + 1) (end - (n + 1)) ≡ whole
 each_goes f whole items more n end lt before is =
     ap (λ l. l ++ each f (n + 1) (end - (n + 1))) is ∙ append_assoc items (f n) (each f (n + 1) (end - (n + 1))) ∙ ap (λ l. items ++ l) (sym (each_next f n end lt)) ∙ before
@@ -57,7 +57,7 @@ none_after ts n distance len e le lt = sym (unchanged_after ts (n + distance) (o
 the_run : (n run end : ℕ) → end ≡ n + run → end - n ≡ run
 the_run n run end e = omega (arith, e)
 
--- lines that go, and then lines that come
+-- removed lines, and then added lines
 pub change_put : (f g : ℕ → List ℕ) (n run end : ℕ) (items mid new : List ℕ) → end ≡ n + run → mid ≡ items ++ each f n (end - n) → new ≡ mid ++ each g n (end - n) → new ≡ items ++ (each f n run ++ each g n run)
 change_put f g n run end items mid new e first second =
     let all : end - n ≡ run = the_run n run end e in

@@ -63,7 +63,7 @@ line_goes made whole text start at b le lt is other before =
     ap (λ l. made ++ l) (ap (λ s. onto s (lines_of (drop (at + 1) text))) (since_more text start at b le lt is) ∙ onto_more (since text start at) b (lines_of (drop (at + 1) text)) ∙ ap (onto (since text start at)) (sym rest))
     ∙ before
 
--- one that ends a line
+-- a byte that ends a line
 pub line_ends : (made more whole : List (List ℕ)) (text : List ℕ) (start at b : ℕ) → start ≤ at → at < length text → b ≡ get_or text at b → b ≡ 10
     → more ≡ made ++ since text start (at + 1) ∷ []
     → made ++ onto (since text start at) (lines_of (drop at text)) ≡ whole → more ++ onto (since text (at + 1) (at + 1)) (lines_of (drop (at + 1) text)) ≡ whole

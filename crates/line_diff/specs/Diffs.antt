@@ -1,5 +1,5 @@
--- What changes from one text to another, as `diff -u` shows it, but that lines of the same number are compared: the format of
--- a text has its lines. Our own choice.
+-- The diff of two texts, as `diff -u` shows it, except that lines of the same number are compared: the format of a text
+-- has its lines. Our own choice.
 use Rattle.std.specs.Prelude.{ℕ, zero, suc, Bool, List, [], ◌∷◌, ◌++◌, ◌+◌, ◌-◌, ◌==◌, ◌||◌, ◌&&◌, not, codes, decimal, get_or, length, max, min, if◌then◌else◌}
 use Rattle.std.specs.Str.{bytes_eq}
 use Rattle.std.specs.List.{onto_first}
@@ -31,15 +31,15 @@ count ts = max (length ts.old) (length ts.new)
 abbrev pub is_changed : Texts → ℕ → Bool
 is_changed ts n = not (bytes_eq (line_at ts.old n) (line_at ts.new n))
 
--- one of the lines that are so far from this one is changed
+-- a line this far from this one is changed
 abbrev pub is_near : Texts → ℕ → ℕ → Bool
 is_near ts n distance = is_changed ts (n - distance) || is_changed ts (n + distance)
 
--- a line is shown where one of those up to three lines from it is changed
+-- a line is shown if one of those up to three lines from it is changed
 abbrev pub is_shown : Texts → ℕ → Bool
 is_shown ts n = is_near ts n 0 || is_near ts n 1 || is_near ts n 2 || is_near ts n 3
 
--- a run of lines of which this holds begins here
+-- a run of lines with this property begins here
 abbrev pub begins : (ℕ → Bool) → ℕ → Bool
 begins holds n = holds n && (n == 0 || not (holds (n - 1)))
 
@@ -48,7 +48,7 @@ abbrev pub run_length : (ℕ → Bool) → ℕ → ℕ → ℕ
 run_length holds n zero = 0
 run_length holds n (suc more) = if holds n then suc (run_length holds (suc n) more) else 0
 
--- what is said of some lines, one after the other
+-- the texts for some lines, in turn
 abbrev pub each : (ℕ → List ℕ) → ℕ → ℕ → List ℕ
 each text n zero = []
 each text n (suc more) = text n ++ each text (suc n) more
@@ -60,19 +60,19 @@ ended_line line = if list.ends_with (λ a b. a == b) line (codes "\n") then line
 abbrev pub signed_line : List ℕ → List ℕ → List ℕ
 signed_line sign line = if length line == 0 then [] else sign ++ ended_line line
 
--- the run of changed lines that begins here: all that go and then all that come
+-- the run of changed lines that begins here: first all removed lines and then all added ones
 abbrev pub change_at : Texts → ℕ → List ℕ
 change_at ts n =
     each (λ k. signed_line (codes "-") (line_at ts.old k)) n (run_length (is_changed ts) n (count ts - n))
     ++ each (λ k. signed_line (codes "+") (line_at ts.new k)) n (run_length (is_changed ts) n (count ts - n))
 
--- what stands at a line of a hunk: where a run of changed lines begins, the whole run; or the line
+-- the text for a line of a hunk: at the beginning of a run of changed lines the whole run; otherwise the line
 abbrev pub body_at : Texts → ℕ → List ℕ
 body_at ts n =
     if is_changed ts n then (if begins (is_changed ts) n then change_at ts n else [])
     else signed_line (codes " ") (line_at ts.old n)
 
--- which lines of a text a hunk has, from one number up to another
+-- the lines of a text in a hunk, from one number up to another
 abbrev pub range_by : ℕ → ℕ → List ℕ
 range_by start end =
     if end - start == 1 then decimal end
@@ -84,7 +84,7 @@ range start end len = range_by (min start (min end len)) (min end len)
 abbrev pub head : Texts → ℕ → ℕ → List ℕ
 head ts start end = codes "@@ -" ++ (range start end (length ts.old) ++ (codes " +" ++ (range start end (length ts.new) ++ codes " @@\n")))
 
--- where a run of lines begins that are shown, a hunk of them
+-- at the beginning of a run of shown lines, their hunk
 abbrev pub hunk_at : Texts → ℕ → List ℕ
 hunk_at ts n =
     if begins (is_shown ts) n then head ts n (n + run_length (is_shown ts) n (count ts - n)) ++ each (body_at ts) n (run_length (is_shown ts) n (count ts - n))

@@ -1,4 +1,5 @@
-//! What would change, as `diff -u` shows it. A print has the lines of its text, so lines of the same number are compared.
+//! The diff of two texts, as `diff -u` shows it. A print has the lines of its text, so lines of the same number are
+//! compared.
 
 ghost use Rattle.std.specs.Prelude.{◌≡◌, ◌<◌, ◌≤◌, ◌+◌, ◌-◌, ◌++◌, OnOk, IfOk, codes, decimal};
 ghost use Rattle.line_diff.specs.Diffs.{begins, body_at, change_at, count, diff_of, each, ended_line, head, hunk_at, hunks, is_changed, is_shown, line_at, range, range_by, run_length, signed_line};
@@ -7,14 +8,14 @@ use crate::lines::{Lines, lines_of};
 use itoa::Buffer;
 use std::alloc::{AllocError, Global};
 
-/// Adds bytes.
+/// Appends bytes.
 fn push(to: &mut Vec<u8>, bytes: &[u8]) -> Result<(), AllocError>
     ensures { OnOk result (to.new.items ≡ to.old.items ++ bytes.now) }
 {
     to.extend_from_slice(bytes)
 }
 
-/// Adds a number in decimal.
+/// Appends a number in decimal.
 fn push_number(to: &mut Vec<u8>, number: u64) -> Result<(), AllocError>
     ensures { OnOk result (to.new.items ≡ to.old.items ++ decimal number) }
 {
@@ -81,7 +82,7 @@ fn end_of_hunk(lines: &Lines<'_>, start: usize) -> usize
     lines.len()
 }
 
-/// Puts a line, and says it where it has no LF.
+/// Appends a line, and says so if it has no LF.
 fn push_ended(to: &mut Vec<u8>, line: &[u8]) -> Result<(), AllocError>
     ensures { OnOk result (to.new.items ≡ to.old.items ++ ended_line line.now) }
 {
@@ -92,7 +93,7 @@ fn push_ended(to: &mut Vec<u8>, line: &[u8]) -> Result<(), AllocError>
     push(to, b"\n\\ No newline at end of file\n")
 }
 
-/// Puts a line, with a sign before it.
+/// Appends a line, with a sign before it.
 fn push_line(to: &mut Vec<u8>, sign: &[u8], line: &[u8]) -> Result<(), AllocError>
     ensures { OnOk result (to.new.items ≡ to.old.items ++ signed_line sign.now line.now) }
 {
@@ -103,7 +104,7 @@ fn push_line(to: &mut Vec<u8>, sign: &[u8], line: &[u8]) -> Result<(), AllocErro
     push_ended(to, line)
 }
 
-/// Puts the lines that go.
+/// Appends the removed lines.
 #[tactic(auto, using(crate::proofs::DiffLemmas::each_goes, crate::proofs::DiffLemmas::each_done))]
 fn push_old(to: &mut Vec<u8>, lines: &Lines<'_>, start: usize, end: usize) -> Result<(), AllocError>
     requires { start ≤ end }
@@ -117,7 +118,7 @@ fn push_old(to: &mut Vec<u8>, lines: &Lines<'_>, start: usize, end: usize) -> Re
     Ok(())
 }
 
-/// Puts the lines that come.
+/// Appends the added lines.
 #[tactic(auto, using(crate::proofs::DiffLemmas::each_goes, crate::proofs::DiffLemmas::each_done))]
 fn push_new(to: &mut Vec<u8>, lines: &Lines<'_>, start: usize, end: usize) -> Result<(), AllocError>
     requires { start ≤ end }
@@ -131,7 +132,7 @@ fn push_new(to: &mut Vec<u8>, lines: &Lines<'_>, start: usize, end: usize) -> Re
     Ok(())
 }
 
-/// Puts a run of changed lines.
+/// Appends a run of changed lines.
 fn push_change(to: &mut Vec<u8>, lines: &Lines<'_>, start: usize) -> Result<(), AllocError>
     requires { start ≤ count lines.now }
     ensures { OnOk result (to.new.items ≡ to.old.items ++ change_at lines.now start) }
@@ -141,7 +142,7 @@ fn push_change(to: &mut Vec<u8>, lines: &Lines<'_>, start: usize) -> Result<(), 
     push_new(to, lines, start, end)
 }
 
-/// Puts what stands at a line of a hunk.
+/// Appends the text for a line of a hunk.
 fn push_at(to: &mut Vec<u8>, lines: &Lines<'_>, number: usize) -> Result<(), AllocError>
     requires { number < count lines.now }
     ensures { OnOk result (to.new.items ≡ to.old.items ++ body_at lines.now number) }
@@ -155,7 +156,7 @@ fn push_at(to: &mut Vec<u8>, lines: &Lines<'_>, number: usize) -> Result<(), All
     push_change(to, lines, number)
 }
 
-/// Puts which lines a hunk has, from one number up to another.
+/// Appends the line numbers of a hunk, from one number up to another.
 fn push_range_by(to: &mut Vec<u8>, start: usize, end: usize) -> Result<(), AllocError>
     requires { start ≤ end }
     ensures { OnOk result (to.new.items ≡ to.old.items ++ range_by start end) }
@@ -170,7 +171,7 @@ fn push_range_by(to: &mut Vec<u8>, start: usize, end: usize) -> Result<(), Alloc
     push_number(to, count as u64)
 }
 
-/// Puts which lines a hunk has of a text of this many.
+/// Appends the line numbers of a hunk in a text of this many lines.
 fn push_range(to: &mut Vec<u8>, start: usize, end: usize, len: usize) -> Result<(), AllocError>
     ensures { OnOk result (to.new.items ≡ to.old.items ++ range start end len) }
 {
@@ -178,7 +179,7 @@ fn push_range(to: &mut Vec<u8>, start: usize, end: usize, len: usize) -> Result<
     push_range_by(to, start.min(end), end)
 }
 
-/// Puts the head of a hunk.
+/// Appends the head of a hunk.
 fn push_head(
     to: &mut Vec<u8>,
     lines: &Lines<'_>,
@@ -194,7 +195,7 @@ fn push_head(
     push(to, b" @@\n")
 }
 
-/// Puts the lines of a hunk.
+/// Appends the lines of a hunk.
 #[tactic(auto, using(crate::proofs::DiffLemmas::each_goes, crate::proofs::DiffLemmas::each_done))]
 fn push_body(
     to: &mut Vec<u8>,
@@ -213,7 +214,7 @@ fn push_body(
     Ok(())
 }
 
-/// Puts the hunk that begins at this line, if one does.
+/// Appends the hunk that begins at this line, if one does.
 fn push_hunk_at(to: &mut Vec<u8>, lines: &Lines<'_>, number: usize) -> Result<(), AllocError>
     requires { number < count lines.now }
     ensures { OnOk result (to.new.items ≡ to.old.items ++ hunk_at lines.now number) }
@@ -226,7 +227,7 @@ fn push_hunk_at(to: &mut Vec<u8>, lines: &Lines<'_>, number: usize) -> Result<()
     push_body(to, lines, number, end)
 }
 
-/// Puts all hunks.
+/// Appends all hunks.
 #[tactic(auto, using(crate::proofs::DiffLemmas::each_goes, crate::proofs::DiffLemmas::each_done))]
 fn push_hunks(to: &mut Vec<u8>, lines: &Lines<'_>) -> Result<(), AllocError>
     ensures { OnOk result (to.new.items ≡ to.old.items ++ hunks lines.now) }
@@ -237,7 +238,7 @@ fn push_hunks(to: &mut Vec<u8>, lines: &Lines<'_>) -> Result<(), AllocError>
     Ok(())
 }
 
-/// What changes from one text to the other, under two names as they are to be shown.
+/// The diff from one text to the other, under two names as they are to be shown.
 pub fn diff(
     alloc: Global,
     old_name: &[u8],

@@ -1,4 +1,4 @@
-//! What changes from one text to another with as many lines.
+//! The diff of two texts with the same number of lines.
 #![tactic(auto)]
 
 pub mod diff;

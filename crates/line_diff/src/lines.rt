@@ -6,7 +6,7 @@ ghost use Rattle.line_diff.specs.Diffs.{count, is_changed, is_near, line_at, lin
 use std::alloc::{AllocError, Global};
 use std::marker::Model;
 
-/// The lines of a text, each with its LF, and one without where one is at the end.
+/// The lines of a text, each with its LF, and a last one without, if there is one.
 pub fn lines_of<'a>(alloc: Global, text: &'a [u8]) -> Result<Vec<&'a [u8]>, AllocError>
     ensures { IfOk result (λ lines. map (λ line. line.now) lines.items ≡ lines_of text.now) }
 {
@@ -106,7 +106,7 @@ impl<'a> Lines<'a> {
         self.old(number) != self.new_at(number)
     }
 
-    /// Whether the line that is so far after this one is changed.
+    /// Whether the line this far after this one is changed.
     #[tactic(auto, using(crate::proofs::DiffLemmas::none_after))]
     fn is_changed_after(&self, number: usize, distance: usize) -> bool
         requires { number < count self.now }
@@ -118,7 +118,7 @@ impl<'a> Lines<'a> {
         false
     }
 
-    /// Whether one of the lines that are so far from this one is changed.
+    /// Whether a line this far from this one is changed.
     pub fn is_near(&self, number: usize, distance: usize) -> bool
         requires { number < count self.now }
         ensures { result ≡ is_near self.now number distance }

@@ -1,4 +1,4 @@
--- What was read, in the words of the definitions.
+-- The result of reading, in the words of the definitions.
 use Rattle.std.specs.Prelude.{map, string_bytes}
 use Rattle.lint_config.specs.Reads.{Read}
 use Rattle.lint_config.specs.Options.{options_of}

@@ -1,4 +1,4 @@
--- What a line of a `.tfrules` says. Our own choice.
+-- The contents of a line of a `.tfrules`. Our own choice.
 use Rattle.std.specs.Prelude.{ℕ, ◌==◌, ◌&&◌, Bool, true, false, List, [], Option, Some, None, Result, Ok, Err, codes, length, nat_lt, ok_or, if◌then◌else◌}
 use Rattle.std.specs.List.{after_first, before_first, position_or_len}
 use Rattle.std.specs.Str.{bytes_eq, trim}
@@ -12,7 +12,7 @@ use Rattle.tfrules_command.specs.Line.{naming_asked, severity_asked}
 use Rattle.lint_config.specs.declared.fault.ConfigFault.{ConfigFault}
 use Rattle.lint_config.specs.declared.fault.ConfigFault.TheVariants.{UnknownOption, GivenTwice, UnknownRule, NoRuleLeft, UnknownNaming, UnknownSeverity}
 
--- options that are given
+-- the given options
 pub record Options : Type 0 where
   pub rules : Option (List Rule)
   pub naming : Option Naming
@@ -25,11 +25,11 @@ nothing = record { rules = None; naming = None; minimum = None; force = false; c
 
 -- ---- the parts of a line
 
--- a line without its comment, and without the white space round it
+-- a line without its comment, and without surrounding white space
 abbrev pub bare : List ℕ → List ℕ
 bare line = trim (before_first (λ b. b == 35) line)
 
--- cut at the first of a byte, or as it is otherwise
+-- cut at the first of a byte, or other parts without one
 abbrev pub cut_or : ℕ → List ℕ → List ℕ × List ℕ → List ℕ × List ℕ
 cut_or c text others =
     if nat_lt (position_or_len (λ b. b == c) text) (length text) then (trim (before_first (λ b. b == c) text), trim (after_first (λ b. b == c) text))
@@ -39,7 +39,7 @@ cut_or c text others =
 abbrev pub parts : List ℕ → List ℕ × List ℕ
 parts text = cut_or 61 text (cut_or 32 text (cut_or 9 text (text, [])))
 
--- ---- what a line adds, or what is wrong with it
+-- ---- the options that a line adds, or what is wrong with it
 
 -- an option is given once
 abbrev pub with_value : {A : Type 0} → Option A → Result A ConfigFault → (A → Options) → Result Options ConfigFault
@@ -62,6 +62,6 @@ with_option said name value =
     else (if bytes_eq name (codes "--check-comments") && length value == 0 then (if said.checks then Err GivenTwice else Ok (record said { checks = true }))
     else Err UnknownOption))))
 
--- THE OPTIONS after a line more: an empty one says nothing
+-- THE OPTIONS after another line: an empty one adds nothing
 abbrev pub with_line : Options → List ℕ → Result Options ConfigFault
 with_line said line = if length (bare line) == 0 then Ok said else with_option said (parts (bare line)).0 (parts (bare line)).1

@@ -1,11 +1,11 @@
--- What the lines of a `.tfrules` say together. Our own choice.
+-- The lines of a `.tfrules` together. Our own choice.
 use Rattle.std.specs.Prelude.{ℕ, ◌+◌, ◌==◌, List, [], ◌∷◌, ◌++◌, Result, Ok, Err, fold}
 use Rattle.std.specs.List.{slice_split}
 use Rattle.lint_config.specs.Lines.{Options, nothing, with_line}
 use Rattle.lint_config.specs.Texts.{fault_words}
 use Rattle.lint_config.specs.declared.fault.ConfigFault.{ConfigFault}
 
--- the options so far, how many lines there were, and what is said of which of them
+-- the options so far, the number of lines, and the messages about wrong ones
 pub record Read : Type 0 where
   pub said : Options
   pub lines : ℕ
@@ -18,6 +18,6 @@ read_by r line (Err fault) = record { said = r.said; lines = r.lines + 1; faults
 abbrev pub read_line : Read → List ℕ → Read
 read_line r line = read_by r line (with_line r.said line)
 
--- WHAT A TEXT SAYS, and what is said of each line of it that is wrong, which says nothing
+-- THE CONTENTS OF A TEXT, and the message about each wrong line, which adds nothing
 abbrev pub read_text : List ℕ → Read
 read_text text = fold read_line (record { said = nothing; lines = 0; faults = [] }) (slice_split (λ b. b == 10) text)

@@ -1,4 +1,4 @@
--- The words that are said of a bad line. Our own choice.
+-- The messages about a bad line. Our own choice.
 use Rattle.std.specs.Prelude.{ℕ, List, ◌++◌, codes}
 use Rattle.std.specs.Str.Lossy.{utf8_lossy}
 use Rattle.file_tree.specs.Quotes.{in_quotes}
@@ -15,17 +15,17 @@ reason NoRuleLeft = codes "no rule is left by "
 reason UnknownNaming = codes "unknown naming "
 reason UnknownSeverity = codes "unknown severity "
 
--- the word of an option's name and value for which it is said: of a list of rules the name that stands for none
+-- the wrong word of an option's name and value: in a list of rules the name that isn't a rule's
 abbrev pub word_in : ConfigFault → List ℕ × List ℕ → List ℕ
 word_in UnknownOption (name, value) = name
 word_in GivenTwice (name, value) = name
 word_in UnknownRule (name, value) = unknown_in value
 word_in _ (name, value) = value
 
--- that of a line
+-- the wrong word of a line
 abbrev pub wrong_word : ConfigFault → List ℕ → List ℕ
 wrong_word fault line = word_in fault (parts (bare line))
 
--- THE WORDS, with that word between double quotes: all of a line is UTF-8, so nothing is replaced
+-- THE MESSAGE, with that word between double quotes: all of a line is UTF-8, so nothing is replaced
 abbrev pub fault_words : ConfigFault → List ℕ → List ℕ
 fault_words fault line = utf8_lossy (reason fault ++ in_quotes (wrong_word fault line))

@@ -13,11 +13,11 @@ use std::alloc::{AllocError, Global};
 pub enum ConfigFault {
     /// It begins with no option of a project, or gives one a value that takes none.
     UnknownOption,
-    /// A line before has the same option.
+    /// An earlier line has the same option.
     GivenTwice,
-    /// A name of the list stands for no rule.
+    /// A name of the list isn't a rule's.
     UnknownRule,
-    /// The list takes every rule away.
+    /// The list removes every rule.
     NoRuleLeft,
     /// There is no such naming.
     UnknownNaming,
@@ -26,7 +26,7 @@ pub enum ConfigFault {
 }
 
 impl ConfigFault {
-    /// What is said of it, before the word for which it is one.
+    /// Its message, before the wrong word.
     fn reason(self) -> &'static str
         ensures { result.now ≡ reason self }
     {
@@ -40,7 +40,7 @@ impl ConfigFault {
         }
     }
 
-    /// The word of a line for which it is one.
+    /// The wrong word of a line.
     fn word(self, line: &str) -> &str
         ensures { result.now ≡ wrong_word self line.now }
     {
@@ -53,7 +53,7 @@ impl ConfigFault {
         }
     }
 
-    /// What is said of a line, after the file, its number and a colon.
+    /// The message about a line, after the file, its number and a colon.
     pub(crate) fn words(self, alloc: Global, line: &str) -> Result<String, AllocError>
         ensures { IfOk result (λ words. string_bytes words ≡ fault_words self line.now) }
     {

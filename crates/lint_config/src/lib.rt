@@ -1,4 +1,4 @@
-//! The options of a project, which a file `.tfrules` has: what its lines say, and which of them are wrong.
+//! The options of a project in a file `.tfrules`: the contents of its lines, and which of them are wrong.
 #![tactic(auto)]
 
 mod fault;

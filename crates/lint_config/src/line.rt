@@ -1,4 +1,4 @@
-//! What a line says.
+//! The contents of a line.
 
 ghost use Rattle.std.specs.Prelude.{◌≡◌};
 ghost use Rattle.lint_config.specs.Lines.{with_line, with_option};
@@ -123,7 +123,7 @@ fn with_option(said: Said, name: &str, value: &str) -> Result<Said, ConfigFault>
     Err(ConfigFault::UnknownOption)
 }
 
-/// These options and what a line says.
+/// These options and those of a line.
 pub(crate) fn with_line(said: Said, line: &str) -> Result<Said, ConfigFault>
     ensures { said_by result ≡ with_line (options_of said) line.now }
 {

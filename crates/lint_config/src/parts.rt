@@ -4,7 +4,7 @@ ghost use Rattle.std.specs.Prelude.{◌≡◌, ◌<◌};
 ghost use Rattle.lint_config.specs.Lines.{bare, cut_or, parts};
 ghost use Rattle.lint_config.specs.Inner.Cut.{cut_of};
 
-/// A line without its comment, and without the white space round it.
+/// A line without its comment, and without surrounding white space.
 pub(crate) fn bare(line: &str) -> &str
     ensures { result.now ≡ bare line.now }
 {
@@ -14,14 +14,14 @@ pub(crate) fn bare(line: &str) -> &str
     }
 }
 
-/// An option's name and its value, which is empty where it has none.
+/// An option's name and its value, which is empty if it has none.
 #[derive(Clone, Copy, Debug, PartialEq, Eq)]
 pub(crate) struct Cut<'a> {
     pub name: &'a str,
     pub value: &'a str,
 }
 
-/// A text that is cut at the first of this character, or these parts where it has none.
+/// A text that is cut at the first of this character, or these parts if it has none.
 fn cut_or<'a>(c: char, text: &'a str, others: Cut<'a>) -> Cut<'a>
     requires { c < 128 }
     ensures { cut_of result ≡ cut_or c text.now (cut_of others.entry) }

@@ -1,19 +1,19 @@
-//! Options that are given.
+//! The given options.
 
 use tf_rules::{Naming, RuleSet, Severity};
 
-/// Options that are given, by the lines of a file.
+/// The options given by the lines of a file.
 #[derive(Clone, Copy, Debug, PartialEq, Eq)]
 pub struct Said {
-    /// The rules to look at.
+    /// The rules to check.
     pub rules: Option<RuleSet>,
-    /// How names are to be written.
+    /// The naming.
     pub naming: Option<Naming>,
-    /// From which severity on an issue fails the run.
+    /// The severity from which on an issue fails the run.
     pub minimum: Option<Severity>,
-    /// Nothing that is found fails the run.
+    /// No issue fails the run.
     pub force: bool,
-    /// Comments are looked for that are meant to silence a rule and don't.
+    /// Comments are checked that are meant to silence a rule and don't.
     pub checks: bool,
 }
 

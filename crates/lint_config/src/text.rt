@@ -1,4 +1,4 @@
-//! What a text says.
+//! The contents of a text.
 
 ghost use Rattle.std.specs.Prelude.{◌≡◌, ◌++◌, ◌∷◌, [], IfOk, OnOk};
 ghost use Rattle.lint_config.specs.Reads.{read_line, read_text};
@@ -10,28 +10,28 @@ use crate::line::with_line;
 use crate::said::{NOTHING, Said};
 use std::alloc::{AllocError, Global};
 
-/// A line that is wrong.
+/// A wrong line.
 #[derive(Debug, Drop)]
 pub struct BadLine {
-    /// Which one it is, from 1 on.
+    /// Its number, from 1 on.
     pub line: usize,
-    /// What is said of it.
+    /// Its message.
     pub text: String,
 }
 
-/// What a text says: the options of its lines, and those that are wrong.
+/// The contents of a text: the options of its good lines, and the wrong lines.
 #[derive(Debug, Drop)]
 pub struct Config {
-    /// The options of the others.
+    /// The options of the good lines.
     pub said: Said,
     /// How many lines there are.
     pub lines: usize,
-    /// The lines that are wrong, in their order.
+    /// The wrong lines, in their order.
     pub faults: Vec<BadLine>,
 }
 
 impl Config {
-    /// Adds what is wrong with the line of this number.
+    /// Appends the fault of the line of this number.
     fn add_bad(
         &mut self,
         alloc: Global,
@@ -48,7 +48,7 @@ impl Config {
         Ok(())
     }
 
-    /// Takes one line more.
+    /// Takes another line.
     fn take(&mut self, alloc: Global, line: &str) -> Result<(), AllocError>
         ensures { OnOk result (read_of self.new ≡ read_line (read_of self.old) line.now) }
     {
@@ -64,8 +64,8 @@ impl Config {
     }
 }
 
-/// The options that a text has, one a line, and each line of it that is wrong. A line is `NAME VALUE`, `NAME=VALUE` or a
-/// `NAME` alone, up to a `#`; an empty one says nothing, and neither does a wrong one.
+/// The options in a text, one per line, and each wrong line. A line is `NAME VALUE`, `NAME=VALUE` or a `NAME` alone, up
+/// to a `#`; an empty line adds nothing, and neither does a wrong one.
 pub fn config_in(alloc: Global, text: &str) -> Result<Config, AllocError>
     ensures { IfOk result (λ config. read_of config ≡ read_text text.now) }
 {

@@ -1,4 +1,4 @@
--- Tokens that are added one after another.
+-- Tokens that are added in turn.
 use Rattle.std.proofs.Common.{◌≡◌, ◌∙◌, ◌++◌, List, ap, append_assoc}
 use Rattle.std.specs.Prelude.{Result, Ok, Err}
 use Rattle.json.specs.Token.{Token}

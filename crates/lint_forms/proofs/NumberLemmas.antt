@@ -1,4 +1,4 @@
--- The numbers of the documents are numbers, and nothing in them nests deeply.
+-- The numbers of the documents are numbers, and the documents aren't deeply nested.
 use Rattle.std.proofs.Common.{◌≤◌, ◌<◌, ◌^◌, ◌++◌, ◌∷◌, [], ℕ, All, List, arith, flat_map, lit<, map}
 use Rattle.std.proofs.lemmas.List.Elements.{All-append, All-cons, All-head, All-nil, All-tail}
 use Rattle.std.specs.Prelude.{decimal}

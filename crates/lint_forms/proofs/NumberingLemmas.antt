@@ -16,7 +16,7 @@ pushed before (q ∷ rs) r =
     ap (λ l. entry_after before q ∷ l)
     (pushed (before ++ q ∷ []) rs r ∙ ap (λ l. entries_after (before ++ q ∷ []) rs ++ entry_after l r ∷ []) (append_assoc before (q ∷ []) rs))
 
--- these are the entries of remarks, and digits came as often as there
+-- these are the entries of remarks, and the counts of digits are those of the remarks
 pub record IsNumbered (es : List Entry) (came : List ℕ → ℕ) (rs : List Remark) : Type 0 where
   pub all : es ≡ entries rs
   pub counted : (q : List ℕ) → came q ≡ count_by (λ r. bytes_eq q (digits r)) rs
@@ -35,7 +35,7 @@ one_more_at f es fs old new xs n x within before added counted =
     subst (IsNumbered fs new) (sym (ap (map f) (take_more xs n x within) ∙ map-append f (take n xs) (get_or xs n x ∷ [])))
     (one_more es fs old new (map f (take n xs)) (f (get_or xs n x)) before added counted)
 
--- what is made of remarks alone
+-- entries made of remarks alone
 said_after : {A : Type 0} (f : Remark → A) (before rs : List Remark) → map (λ e. f e.said) (entries_after before rs) ≡ map f rs
 said_after f before [] = refl
 said_after f before (r ∷ rs) = ap (λ l. f r ∷ l) (said_after f (before ++ r ∷ []) rs)

@@ -46,7 +46,7 @@ joined version rules =
 pub head_tokens : (version : List ℕ) → (((sarif_start version ++ rules_tokens all_rules) ++ json_tokens refusal_json) ++ json_tokens comment_json) ++ results_head ≡ sarif_head version
 head_tokens version = joined version all_rules
 
--- ---- what is said of a rule
+-- ---- the description of a rule
 
 pub rule_by : (rule : Rule) (n s f w p l : List ℕ) → n ≡ rule_name rule → s ≡ reports rule → f ≡ full_text s w → w ≡ reason rule → p ≡ page_of n → l ≡ level_word (subject.Rule rule)
     → json_tokens (described n s f w p l) ≡ json_tokens (rule_json rule)

@@ -1,4 +1,4 @@
--- What stands in an array of JSON of some remarks, shape by shape.
+-- The elements of a JSON array of some remarks, shape by shape.
 use Rattle.std.proofs.Common.{◌≡◌, ◌∙◌, ◌++◌, ◌∷◌, [], ℕ, List, ap, append_assoc, flat_map, map, refl}
 use Rattle.std.proofs.lemmas.List.Concat.{flat_map_single}
 use Rattle.std.specs.Prelude.{IfOk, Result, Ok, Err}
@@ -16,7 +16,7 @@ use Rattle.lint_forms.specs.declared.shape.Shape.{Shape}
 use Rattle.lint_forms.specs.declared.shape.Shape.TheVariants as shape
 use Rattle.lint_forms.proofs.NumberingLemmas.{said_again}
 
--- ---- a result as it is, or in other words
+-- ---- a result as it is, or rewritten
 
 pub ok_as : {V E : Type 0} (items : V → List ℕ) (r : Result V E) (xs ys : List ℕ) → xs ≡ ys → IfOk r (λ v. items v ≡ xs) → IfOk r (λ v. items v ≡ ys)
 ok_as items (Ok v) xs ys e is = is ∙ e

@@ -1,4 +1,4 @@
--- Values that stand one after another, and the tokens of their array.
+-- Values in turn, and the tokens of their array.
 use Rattle.std.proofs.Common.{◌≡◌, ◌∙◌, ◌+◌, ◌<◌, ◌++◌, ◌∷◌, ◌||◌, [], ℕ, Bool, true, false, List, ap, append-nil, append_assoc, flat_map, fold, get_or, length, refl, sym, take}
 use Rattle.std.proofs.lemmas.List.{take_more}
 use Rattle.std.proofs.lemmas.List.Concat.{flat_map-append}
@@ -29,7 +29,7 @@ has_values-append (j ∷ js) ks = refl
 one_mapped : {A : Type 0} (f : A → List Json) (xs : List A) (x : A) → flat_map f (xs ++ x ∷ []) ≡ flat_map f xs ++ f x
 one_mapped f xs x = flat_map-append f xs (x ∷ []) ∙ ap (λ l. flat_map f xs ++ l) (append-nil (f x))
 
--- some values more, of one more of what they stand for
+-- more values, for one more entry
 pub grown : {A : Type 0} (f : A → List Json) (b c : Bool) (t u v : List ℕ) (xs : List A) (x : A)
     → u ≡ t ++ array_text b (flat_map f xs) → c ≡ (b || has_values (flat_map f xs)) → v ≡ u ++ array_text c (f x) → v ≡ t ++ array_text b (flat_map f (xs ++ x ∷ []))
 grown f b c t u v xs x before goes more =
@@ -90,7 +90,7 @@ mutual
   ends-members b no_members = refl
   ends-members b (member k j ms) = fold-append (λ _ t. ends t) false (json_tokens j) (members_tokens ms) ∙ ends-members (ends_from false (json_tokens j)) ms
 
--- a value after another one, or the first
+-- a value after another one, or as the first
 print-first : (b : Bool) (j : Json) → print_from b (json_tokens j) ≡ comma b ++ print (json_tokens j)
 unfolding print_from
 print-first false j = refl

@@ -1,4 +1,4 @@
--- The text of a run over modules, in the forms of JSON, is that of its document.
+-- The text of a run over modules, in the JSON forms, is that of its document.
 use Rattle.std.proofs.Common.{◌≡◌, ◌∙◌, ◌<◌, ◌^◌, ◌++◌, ◌∷◌, ◌||◌, [], ℕ, Bool, false, List, All, ap, append-nil, append_assoc, codes, flat_map, fold, map, refl, sym}
 use Rattle.std.proofs.lemmas.List.{map-append}
 use Rattle.std.specs.List.{list_any}
@@ -26,7 +26,7 @@ use Rattle.lint_forms.proofs.ValuesLemmas.{has_values, has_values-append, print-
 
 -- ---- modules
 
--- a form in which these values stand for the issues of a module
+-- a form in which these values represent the issues of a module
 pub record IsOfValues (form : Form) (f : List Remark → List Json) : Type 0 where
   pub text : (b : Bool) (rs : List Remark) → module_text form b rs ≡ array_text b (f rs)
   pub some : (rs : List Remark) → is_some rs ≡ has_values (f rs)
@@ -74,7 +74,7 @@ mapped g f (x ∷ xs) = ap (λ l. map g (f x) ++ l) (mapped g f xs) ∙ sym (map
 abbrev ended : List Token → Bool
 ended ts = fold (λ _ t. ends t) false ts
 
--- tokens, of which the last opens an array, its values, and what follows
+-- tokens whose last one opens an array, its values, and the tokens after it
 print-array : (before : List Token) (js : List Json) (later : List Token) → ended before ≡ false
     → print (before ++ (items_tokens (json_items js) ++ later)) ≡ print before ++ (array_text false js ++ print (end_array ∷ later))
 print-array before js later opened =

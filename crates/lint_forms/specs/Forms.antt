@@ -1,4 +1,5 @@
--- THE FORMS: what stands before all modules, what the issues of each add, and what stands after them: the refusals, and the end.
+-- THE FORMS: the text before all modules, the text of each module's issues, and the text after them: the refusals, and
+-- the end.
 use Rattle.std.specs.Prelude.{ℕ, ◌||◌, Bool, true, false, List, [], ◌∷◌, ◌++◌, codes, map}
 use Rattle.std.specs.List.{flat_map, list_any}
 use Rattle.json.specs.Print.{print}
@@ -17,7 +18,7 @@ use Rattle.lint_forms.specs.declared.kind.Form.TheVariants.{Json, Sarif, Checkst
 abbrev pub tflint_head : List ℕ
 tflint_head = print (begin_object ∷ key (codes "issues") ∷ begin_array ∷ [])
 
--- what the program of a version writes first
+-- the first output of the program of a version
 abbrev pub form_head : Form → List ℕ → List ℕ
 form_head Json version = tflint_head
 form_head Sarif version = print (sarif_head version)
@@ -39,7 +40,7 @@ abbrev pub tflint_foot : List Remark → List ℕ
 tflint_foot rs =
     print (end_array ∷ key (codes "errors") ∷ begin_array ∷ []) ++ (array_text false (map error_json rs) ++ print (end_array ∷ end_object ∷ []))
 
--- what it writes last, in a run of a status, after issues or not: why files are refused
+-- the last output, in a run of a status, after issues or without any: why files are refused
 abbrev pub form_foot : Form → ℕ → Bool → List Remark → List ℕ
 form_foot Json status is_after rs = tflint_foot rs
 form_foot Sarif status is_after rs = array_text is_after (map result_json (entries rs)) ++ print (sarif_foot status)
@@ -54,7 +55,7 @@ abbrev pub is_some : List Remark → Bool
 is_some [] = false
 is_some (r ∷ rs) = true
 
--- the issues of modules, one module after another
+-- the issues of modules, in turn
 abbrev pub modules_text : Form → Bool → List (List Remark) → List ℕ
 modules_text form is_after [] = []
 modules_text form is_after (rs ∷ ms) = module_text form is_after rs ++ modules_text form (is_after || is_some rs) ms

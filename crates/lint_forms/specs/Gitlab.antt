@@ -20,6 +20,6 @@ quality_by name severity e =
 abbrev pub quality_json : Entry → Json
 quality_json e = quality_by (rule_id e.said.subject) (quality_word e.said.subject) e
 
--- THE DOCUMENT of what is said of all modules
+-- THE DOCUMENT of the remarks on all modules
 abbrev pub gitlab_json : List Entry → Json
 gitlab_json es = array (json_items (map quality_json es))

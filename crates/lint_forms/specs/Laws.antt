@@ -1,4 +1,4 @@
--- What is proved of the forms of JSON: what a run over modules writes is read back. The numbers are those of the code.
+-- Laws of the JSON forms: the output of a run over modules is read back. The numbers are those of the code.
 use Rattle.std.specs.Prelude.{◌≡◌, ◌++◌, ℕ, ◌<◌, ◌^◌, All, List, Some}
 use Rattle.std.specs.List.{flat_map}
 use Rattle.json.specs.Json.{Json as JsonValue, document}
@@ -15,8 +15,8 @@ pub record HasSmallNumbers (r : Remark) : Type 0 where
   pub line : r.line < 2 ^ 64
   pub column : r.column < 2 ^ 64
 
--- WHAT IS WRITTEN in a form, in a run of a status, of the issues of modules and the refusals, reads back by the rules of JSON as
--- the document of all of them
+-- THE OUTPUT in a form, in a run of a status, for the issues of modules and the refusals, reads back by the rules of
+-- JSON as the document of all of them
 abbrev pub ReadsBack : Form → (List ℕ → ℕ → List (List Remark) → List Remark → JsonValue) → Type 0
 ReadsBack form meant =
     (version : List ℕ) (status : ℕ) (ms : List (List Remark)) (rs : List Remark) → status < 2 ^ 64 → All (All HasSmallNumbers) ms → All HasSmallNumbers rs

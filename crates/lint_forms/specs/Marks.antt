@@ -1,5 +1,5 @@
--- What issues, comments and refusals are recognised by when lines move: the rule, or what stands for one, the file and what is
--- said, and a number among those that have all of these alike. Our own choice.
+-- Marks that identify issues, comments and refusals when lines move: the rule, or its substitute, the file and the
+-- message, and a number among the remarks that have all of these alike. Our own choice.
 use Rattle.std.specs.Prelude.{ℕ, ◌+◌, ◌++◌, List, [], ◌∷◌, codes, count_by, decimal}
 use Rattle.std.specs.Str.{bytes_eq}
 use Rattle.hex.specs.Hex.{encode_lower}
@@ -17,12 +17,12 @@ digits r = encode_lower (sha256 (mark_key r))
 abbrev pub mark : List ℕ → ℕ → List ℕ
 mark digits number = digits ++ (codes ":" ++ decimal number)
 
--- a remark, and what it is recognised by
+-- a remark, and its mark
 pub record Entry : Type 0 where
   pub said : Remark
   pub mark : List ℕ
 
--- one that stands after others
+-- a remark after others
 abbrev pub entry_after : List Remark → Remark → Entry
 entry_after before r = record { said = r; mark = mark (digits r) (count_by (λ q. bytes_eq (digits r) (digits q)) before + 1) }
 

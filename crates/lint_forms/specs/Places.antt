@@ -1,4 +1,5 @@
--- The names of files as URIs, by RFC 3986: what isn't one of its unreserved characters, or a slash, is escaped.
+-- The names of files as URIs, by RFC 3986: every character is escaped that isn't one of its unreserved characters, or a
+-- slash.
 use Rattle.std.specs.Prelude.{ℕ, ◌+◌, ◌/◌, ◌%◌, ◌==◌, ◌++◌, ◌||◌, Bool, List, [], ◌∷◌, codes, flat_map, nat_lt, if◌then◌else◌}
 use Rattle.std.specs.Char.{is_ascii_alphanumeric}
 

@@ -1,10 +1,10 @@
--- What is said of files.
+-- Remarks on files.
 use Rattle.std.specs.Prelude.{ℕ, List}
 use Rattle.lint_forms.specs.declared.remark.Remark as code
 use Rattle.lint_forms.specs.declared.subject.Subject.{Subject}
 
--- AN ISSUE, with its rule; a comment that is meant to silence a rule and doesn't, which stands among the issues; or why a file
--- or a folder is refused: what has no place in its file stands at 1:1
+-- AN ISSUE, with its rule; a comment that is meant to silence a rule and doesn't, which is among the issues; or why a
+-- file or a folder is refused: a refusal without a place in its file is at 1:1
 pub record Remark : Type 0 where
   pub file : List ℕ
   pub line : ℕ
@@ -12,6 +12,6 @@ pub record Remark : Type 0 where
   pub subject : Subject
   pub text : List ℕ
 
--- the same in the code's terms
+-- a remark in the code's terms
 abbrev pub said_by : code.Remark → Remark
 said_by r = record { file = r.file.now; line = r.line; column = r.column; subject = r.subject; text = r.text.now }

@@ -1,6 +1,6 @@
--- SARIF 2.1.0. A file that is refused, and a comment that is meant to silence a rule and doesn't, are results with rules of their
--- own, after those of the linter. No column is told: SARIF counts UTF-16 code units, and the linter what a reader takes for
--- characters.
+-- SARIF 2.1.0. A refused file, and a comment that is meant to silence a rule and doesn't, are results with rules of
+-- their own, after those of the linter. There are no columns: SARIF counts UTF-16 code units, and the linter what a
+-- reader takes for characters.
 use Rattle.std.specs.Prelude.{ℕ, ◌==◌, ◌++◌, ◌∷◌, [], not, List, codes, decimal, map}
 use Rattle.json.specs.Json.{Json, array, boolean, item, member, no_items, no_members, number, object, string}
 use Rattle.json.specs.Token.{Token, begin_array, begin_object, end_array, end_object, key}
@@ -27,7 +27,7 @@ configuration_json level = object (member (codes "level") (string level) no_memb
 abbrev pub help_json : List ℕ → List ℕ → Json
 help_json text markdown = object (member (codes "text") (string text) (member (codes "markdown") (string markdown) no_members))
 
--- a rule of this name: what it reports, that and why, why, where more is said of it, and its level
+-- a rule of this name: its reports, its reports with the reason, the reason, its page, and its level
 abbrev pub described : List ℕ → List ℕ → List ℕ → List ℕ → List ℕ → List ℕ → Json
 described name short full why page level =
     object (member (codes "id") (string name) (member (codes "shortDescription") (text_json short) (member (codes "fullDescription") (text_json full)
@@ -43,7 +43,7 @@ page_of name = codes "https://github.com/terraform-linters/tflint-ruleset-terraf
 abbrev pub rule_json : Rule → Json
 rule_json rule = described (rule_name rule) (reports rule) (full_text (reports rule) (reason rule)) (reason rule) (page_of (rule_name rule)) (level_word (subject.Rule rule))
 
--- what stands for a rule, of which less is said: its name and its text
+-- the substitute for a rule, with less text: its name and its text
 abbrev pub briefly : List ℕ → List ℕ → Json
 briefly name short =
     object (member (codes "id") (string name) (member (codes "shortDescription") (text_json short)
@@ -91,7 +91,7 @@ tool_json version =
     object (member (codes "driver") (object (member (codes "name") (string (codes "tfrules")) (member (codes "version") (string version)
     (member (codes "rules") (array (json_items (map rule_json all_rules ++ refusal_json ∷ comment_json ∷ []))) no_members)))) no_members)
 
--- how the run ended: where something failed, its status is 1
+-- the end of the run: if something failed, its status is 1
 abbrev pub invocation_json : ℕ → Json
 invocation_json status =
     object (member (codes "executionSuccessful") (boolean (not (status == 1))) (member (codes "exitCode") (number (decimal status)) no_members))
@@ -101,7 +101,7 @@ run_json version status es =
     object (member (codes "tool") (tool_json version) (member (codes "results") (array (json_items (map result_json es)))
     (member (codes "invocations") (array (item (invocation_json status) no_items)) no_members)))
 
--- THE DOCUMENT of what is said of all modules, by the program of a version in a run of a status
+-- THE DOCUMENT of the remarks on all modules, by the program of a version in a run of a status
 abbrev pub sarif_json : List ℕ → ℕ → List Entry → Json
 sarif_json version status es =
     object (member (codes "$schema") (string (codes "https://json.schemastore.org/sarif-2.1.0.json")) (member (codes "version") (string (codes "2.1.0"))

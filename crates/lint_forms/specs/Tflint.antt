@@ -1,5 +1,5 @@
--- The form of TFLint's own JSON: its issues, among them comments that are meant to silence a rule and don't, and as its errors
--- why files are refused. What is said ends where it begins.
+-- The form of TFLint's own JSON: its issues, among them comments that are meant to silence a rule and don't, and as its
+-- errors the reasons why files are refused. Each range ends where it begins.
 use Rattle.std.specs.Prelude.{ℕ, List, codes, decimal, map}
 use Rattle.json.specs.Json.{Json, array, member, no_items, no_members, number, object, string}
 use Rattle.lint_forms.specs.Remarks.{Remark}

@@ -1,4 +1,4 @@
--- Values in an array of JSON, as they are written one after another.
+-- Values in a JSON array, as they are written in turn.
 use Rattle.std.specs.Prelude.{ℕ, Bool, true, false, List, [], ◌∷◌, ◌++◌}
 use Rattle.json.specs.Json.{Items, Json, item, no_items}
 use Rattle.json.specs.Print.{print}
@@ -15,7 +15,7 @@ comma true = 44 ∷ []
 abbrev pub json_text : Json → List ℕ
 json_text j = print (json_tokens j)
 
--- THE TEXT of values that stand after another one, or are the first
+-- THE TEXT of values after another one, or as the first
 abbrev pub array_text : Bool → List Json → List ℕ
 array_text is_after [] = []
 array_text is_after (j ∷ js) = comma is_after ++ (json_text j ++ array_text true js)

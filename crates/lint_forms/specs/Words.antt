@@ -1,5 +1,5 @@
--- The words that the forms have for rules and severities: those of the programs that read them. A file that is refused, and a
--- comment that is meant to silence a rule and doesn't, have names of their own in place of a rule's, and are errors.
+-- The words of the forms for rules and severities: those of the programs that read them. A refused file, and a comment
+-- that is meant to silence a rule and doesn't, have names of their own in place of a rule's, and are errors.
 use Rattle.std.specs.Prelude.{Bool, true, false, List, ℕ, codes}
 use Rattle.rule_set.specs.Rules.{rule_name, severity}
 use Rattle.rule_set.specs.declared.rule.Severity.{Severity}
@@ -7,7 +7,7 @@ use Rattle.rule_set.specs.declared.rule.Severity.TheVariants.{Notice, Warning, E
 use Rattle.lint_forms.specs.declared.subject.Subject.{Subject}
 use Rattle.lint_forms.specs.declared.subject.Subject.TheVariants.{Rule, Comment, Refusal}
 
--- whether a remark on it stands among the issues, and not among the refusals
+-- whether a remark on it is among the issues, and not among the refusals
 abbrev pub is_issue : Subject → Bool
 is_issue (Rule rule) = true
 is_issue Comment = true

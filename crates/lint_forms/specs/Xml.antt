@@ -7,7 +7,7 @@ use Rattle.lint_forms.specs.declared.subject.Subject.{Subject}
 
 -- ---- texts
 
--- what XML can't have is replaced by U+FFFD: most control characters, U+FFFE and U+FFFF
+-- characters that XML can't have become U+FFFD: most control characters, U+FFFE and U+FFFF
 abbrev pub kept_or_replaced : ℕ → List ℕ
 kept_or_replaced c = if nat_lt c 32 || (c == 65534 || c == 65535) then 239 ∷ 191 ∷ 189 ∷ [] else encode_utf8 c
 
@@ -38,7 +38,7 @@ checkstyle_file r = file_head r ++ file_middle r ++ file_tail r
 
 -- ---- JUnit
 
--- the element of a test that an issue fails, or that a refusal keeps from being run
+-- the element of a test that an issue fails, or that a refusal prevents from running
 abbrev pub outcome_word : Subject → List ℕ
 outcome_word subject = if is_issue subject then codes "failure" else codes "error"
 
@@ -66,12 +66,12 @@ suite_head rs =
     ++ (codes "\" failures=\"" ++ (decimal (length (filter (λ r. is_issue r.subject) rs))
     ++ (codes "\" errors=\"" ++ (decimal (length (filter (λ r. not (is_issue r.subject)) rs)) ++ codes "\">\n")))))
 
--- THE SUITE of remarks, where there is one
+-- THE SUITE of remarks, if there are any
 abbrev pub junit_suite : List Remark → List ℕ
 junit_suite [] = []
 junit_suite (r ∷ rs) = suite_head (r ∷ rs) ++ (flat_map junit_case (r ∷ rs) ++ suite_end)
 
--- one with a test that passed, where nothing is said of any file: some forges reject a report without tests
+-- a suite with a test that passed, if there are no remarks: some forges reject a report without tests
 abbrev pub passed_suite : List ℕ
 passed_suite = codes "<testsuite name=\"tfrules\" tests=\"1\" failures=\"0\" errors=\"0\">\n<testcase classname=\"tfrules\" name=\"no issue\"/>\n" ++ suite_end
 

@@ -1,4 +1,4 @@
-//! Remarks, each with what it is recognised by when lines move.
+//! Remarks, each with its mark, which identifies it when lines move.
 
 ghost use Rattle.std.specs.Prelude.{◌≡◌, ◌+◌, ◌++◌, ◌∷◌, [], IfOk, OnOk, map, string_bytes};
 ghost use Rattle.sha2.specs.Sha256.{sha256};
@@ -13,14 +13,14 @@ use sha2::{Digest, Sha256};
 use std::alloc::{AllocError, Global};
 use std::collections::BTreeMap;
 
-/// A remark, and what it is recognised by.
+/// A remark and its mark.
 #[derive(Drop)]
 pub(crate) struct Entry<'a> {
     pub said: Remark<'a>,
     pub mark: String,
 }
 
-/// How often the same rule, file and text came, by their digits.
+/// How often a rule, file and text occurred together, by their digits.
 type Times = BTreeMap<String, usize>;
 
 fn digest_of(remark: Remark<'_>) -> [u8; 32]
@@ -41,7 +41,7 @@ fn digits_of(alloc: Global, remark: Remark<'_>) -> Result<String, AllocError>
     hex::encode(alloc, digest_of(remark))
 }
 
-/// How often these digits came, with this time.
+/// How often these digits occurred, including this time.
 fn count(times: &mut Times, digits: String) -> Result<usize, AllocError>
     ensures number { IfOk result (λ n. n ≡ came times.old (string_bytes digits) + 1) }
     ensures counted { OnOk result (OnceMore times.old times.new (string_bytes digits)) }
@@ -60,7 +60,7 @@ fn mark_of(alloc: Global, digits: &str, number: usize) -> Result<String, AllocEr
     format!(in alloc; "{}:{}", digits, number)
 }
 
-/// Adds a remark with its mark.
+/// Appends a remark with its mark.
 fn add<'a>(
     alloc: Global,
     remark: Remark<'a>,

@@ -30,7 +30,7 @@ fn bytes_of(alloc: Global, text: &str) -> Result<Vec<u8>, AllocError>
     Ok(bytes)
 }
 
-/// What stands before all modules, in the form of this version of the program.
+/// The text before all modules, in the form of this version of the program.
 pub fn head(alloc: Global, form: Form, version: &str) -> Result<Vec<u8>, AllocError>
     ensures { IfOk result (λ text. text.items ≡ form_head form version.now) }
 {
@@ -44,7 +44,7 @@ pub fn head(alloc: Global, form: Form, version: &str) -> Result<Vec<u8>, AllocEr
     }
 }
 
-/// Remarks in this shape, in an array of JSON.
+/// Remarks in this shape, in a JSON array.
 fn values_of(
     alloc: Global,
     shape: Shape,
@@ -57,7 +57,7 @@ fn values_of(
     with_remarks(alloc, shape, is_after, Vec::new(alloc), remarks)
 }
 
-/// The issues of a module, where those of others stand before them or none do.
+/// The issues of a module, after those of others or as the first.
 pub fn module_text(
     alloc: Global,
     form: Form,
@@ -77,7 +77,7 @@ pub fn module_text(
     }
 }
 
-/// A text, and these bytes after it.
+/// A text with these bytes appended.
 fn closed(text: Vec<u8>, end: &str) -> Result<Vec<u8>, AllocError>
     ensures { IfOk result (λ l. l.items ≡ text.items ++ end.now) }
 {
@@ -86,8 +86,7 @@ fn closed(text: Vec<u8>, end: &str) -> Result<Vec<u8>, AllocError>
     Ok(longer)
 }
 
-/// What stands after all modules, in a run of this status: these refusals, where issues stand before them or none do, and the
-/// end.
+/// The text after all modules, in a run of this status: these refusals, after issues or without any, and the end.
 pub fn foot(
     alloc: Global,
     form: Form,

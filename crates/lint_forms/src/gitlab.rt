@@ -13,7 +13,7 @@ use crate::parts::with_parts;
 use crate::words::{quality_word, rule_id};
 use std::alloc::{AllocError, Global};
 
-/// A text, and an entry after it.
+/// A text with an entry appended.
 pub(crate) fn with_entry(text: Vec<u8>, entry: &Entry<'_>) -> Result<Vec<u8>, AllocError>
     ensures { IfOk result (λ l. l.items
         ≡ text.items ++ json_text (quality_json (entry_by entry.now))) }
@@ -48,14 +48,14 @@ pub(crate) fn with_entry(text: Vec<u8>, entry: &Entry<'_>) -> Result<Vec<u8>, Al
     )
 }
 
-/// What stands before the entries.
+/// The text before the entries.
 pub(crate) fn head(alloc: Global) -> Result<Vec<u8>, AllocError>
     ensures { IfOk result (λ text. text.items ≡ print (begin_array ∷ [])) }
 {
     with_parts(Vec::new(alloc), &[JsonPart::Array])
 }
 
-/// A text, and after it what stands after them.
+/// A text with the end of the form appended.
 pub(crate) fn with_foot(text: Vec<u8>) -> Result<Vec<u8>, AllocError>
     ensures { IfOk result (λ l. l.items ≡ text.items ++ print (end_array ∷ [])) }
 {

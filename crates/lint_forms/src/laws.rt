@@ -1,18 +1,18 @@
-//! What is proved of the definitions alone. No program calls these functions: their contracts are the laws.
+//! Laws of the definitions alone. No program calls these functions: their contracts are the laws.
 
 ghost use Rattle.lint_forms.specs.Laws.{GitlabReadsBack, SarifReadsBack, TflintReadsBack};
 
-/// What is written in TFLint's form is, by the rules of JSON, the document of all issues and refusals, in order.
+/// The output in TFLint's form is, by the rules of JSON, the document of all issues and refusals, in order.
 pub fn tflint_reads_back()
     ensures { TflintReadsBack }
 {}
 
-/// What is written as SARIF is the document of all results, in order.
+/// The output as SARIF is the document of all results, in order.
 pub fn sarif_reads_back()
     ensures { SarifReadsBack }
 {}
 
-/// What is written for GitLab is the document of all entries, in order.
+/// The output for GitLab is the document of all entries, in order.
 pub fn gitlab_reads_back()
     ensures { GitlabReadsBack }
 {}

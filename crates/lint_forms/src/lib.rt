@@ -1,7 +1,7 @@
-//! The forms in which forges and editors read what is said of modules: their issues, comments that are meant to silence
+//! The forms in which forges and editors read the remarks on modules: their issues, comments that are meant to silence
 //! a rule and don't, and why files are refused.
 //!
-//! The module [`laws`] holds what is proved of the definitions alone.
+//! The module [`laws`] has laws of the definitions alone.
 #![tactic(auto)]
 
 mod entry;

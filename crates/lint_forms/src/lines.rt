@@ -10,7 +10,7 @@ use crate::words::{rule_id, severity_of};
 use rule_set::Severity;
 use std::alloc::{AllocError, Global};
 
-/// The command for what is said.
+/// The command for a remark.
 fn command_word(subject: Subject) -> &'static str
     ensures { result.now ≡ command_word subject }
 {
@@ -48,7 +48,7 @@ fn push_property_char(c: char, text: &mut String) -> Result<(), AllocError>
     push_message_char(c, text)
 }
 
-/// A message, in which nothing ends it.
+/// A message, escaped so that nothing ends it.
 fn message(alloc: Global, text: &str) -> Result<String, AllocError>
     ensures { IfOk result (λ s. string_bytes s ≡ flat_map message_char (chars text.now)) }
 {
@@ -59,7 +59,7 @@ fn message(alloc: Global, text: &str) -> Result<String, AllocError>
     Ok(escaped)
 }
 
-/// A value before it, in which nothing ends the value.
+/// A value before the message, escaped so that nothing ends it.
 fn property(alloc: Global, text: &str) -> Result<String, AllocError>
     ensures { IfOk result (λ s. string_bytes s ≡ flat_map property_char (chars text.now)) }
 {
@@ -79,7 +79,7 @@ fn line_head(alloc: Global, remark: Remark<'_>) -> Result<String, AllocError>
     format!(in alloc; "::{} file={},line={}", word, file.as_str(), remark.line)
 }
 
-/// The rest of it.
+/// The rest of the line.
 fn line_tail(alloc: Global, remark: Remark<'_>) -> Result<String, AllocError>
     ensures { IfOk result (λ s. string_bytes s ≡ line_tail (said_by remark.entry)) }
 {

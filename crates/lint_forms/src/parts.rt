@@ -34,7 +34,7 @@ pub(crate) fn write_parts(writer: &mut Writer, parts: &[JsonPart<'_>]) -> Result
     Ok(())
 }
 
-/// A text, and these parts after it.
+/// A text with these parts appended.
 pub(crate) fn with_parts(text: Vec<u8>, parts: &[JsonPart<'_>]) -> Result<Vec<u8>, AllocError>
     ensures { IfOk result (λ l. l.items ≡ text.items ++ print (map part_token parts.now)) }
 {

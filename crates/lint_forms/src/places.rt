@@ -55,7 +55,7 @@ fn push_uri_bytes(bytes: &[u8], text: &mut String) -> Result<(), AllocError>
     Ok(())
 }
 
-/// What stands before a path from the root.
+/// The prefix of a path from the root.
 fn scheme(name: &str) -> &'static str
     ensures { result.now ≡ scheme name.now }
 {

@@ -5,7 +5,7 @@ ghost use Rattle.lint_forms.specs.RuleTexts.{reason, reports};
 
 use rule_set::Rule;
 
-/// What a rule reports, as the end of a sentence.
+/// The reports of a rule, as the end of a sentence.
 pub fn reports(rule: Rule) -> &'static str
     ensures { result.now ≡ reports rule }
 {
@@ -23,7 +23,7 @@ pub fn reports(rule: Rule) -> &'static str
     }
 }
 
-/// Why it does.
+/// Why a rule reports them.
 pub fn reason(rule: Rule) -> &'static str
     ensures { result.now ≡ reason rule }
 {

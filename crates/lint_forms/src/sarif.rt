@@ -24,7 +24,7 @@ use json::Writer;
 use rule_set::{ALL_RULES, Rule, rank};
 use std::alloc::{AllocError, Global};
 
-/// The number of the rule, or of what stands for one, among those that the document describes.
+/// The number of the rule, or of its substitute, among those that the document describes.
 fn rule_index(subject: Subject) -> u32
     ensures { result ≡ rule_index subject }
 {
@@ -35,7 +35,7 @@ fn rule_index(subject: Subject) -> u32
     }
 }
 
-/// A text, and after it a result with this mark, in the file of this URI.
+/// A text with a result appended that has this mark, in the file of this URI.
 fn with_marked<'a>(
     text: Vec<u8>,
     said: Remark<'a>,
@@ -95,7 +95,7 @@ fn with_marked<'a>(
     )
 }
 
-/// A text, and a result after it.
+/// A text with a result appended.
 pub(crate) fn with_result(
     alloc: Global,
     text: Vec<u8>,
@@ -108,14 +108,14 @@ pub(crate) fn with_result(
     with_marked(text, entry.said, entry.mark.as_str(), uri.as_str())
 }
 
-/// What a rule reports, and why, in two sentences.
+/// The reports of a rule, and the reason, in two sentences.
 fn full_text(alloc: Global, short: &str, why: &str) -> Result<String, AllocError>
     ensures { IfOk result (λ text. string_bytes text ≡ full_text short.now why.now) }
 {
     format!(in alloc; "Reports {}. {}", short, why)
 }
 
-/// Where TFLint's page on a rule is.
+/// The address of TFLint's page on a rule.
 fn page_of(alloc: Global, name: &str) -> Result<String, AllocError>
     ensures { IfOk result (λ text. string_bytes text ≡ page_of name.now) }
 {
@@ -125,7 +125,7 @@ fn page_of(alloc: Global, name: &str) -> Result<String, AllocError>
     )
 }
 
-/// What the document says of a rule of these texts.
+/// The document's description of a rule, by these texts.
 fn write_described<'a>(
     writer: &mut Writer,
     name: &'a str,
@@ -173,7 +173,7 @@ fn write_described<'a>(
     )
 }
 
-/// What it says of a rule.
+/// The document's description of a rule.
 fn write_rule(alloc: Global, writer: &mut Writer, rule: Rule) -> Result<(), AllocError>
     ensures { AddsTokens result writer.old writer.new (json_tokens (rule_json rule)) }
 {
@@ -194,7 +194,7 @@ fn write_rule(alloc: Global, writer: &mut Writer, rule: Rule) -> Result<(), Allo
     )
 }
 
-/// What it says of what stands for a rule, by this name and text.
+/// The document's description of a rule's substitute, by this name and text.
 fn write_briefly<'a>(writer: &mut Writer, name: &'a str, short: &'a str) -> Result<(), AllocError>
     ensures { AddsTokens result writer.old writer.new (json_tokens (briefly name.now short.now)) }
 {
@@ -219,7 +219,7 @@ fn write_briefly<'a>(writer: &mut Writer, name: &'a str, short: &'a str) -> Resu
     )
 }
 
-/// What it says of these rules.
+/// The document's description of these rules.
 fn write_rules(alloc: Global, writer: &mut Writer, rules: &[Rule]) -> Result<(), AllocError>
     ensures { AddsTokens result writer.old writer.new (rules_tokens rules.now) }
 {
@@ -286,7 +286,7 @@ fn write_head(alloc: Global, writer: &mut Writer, version: &str) -> Result<(), A
     write_results_head(writer)
 }
 
-/// What stands before the results.
+/// The text before the results.
 pub(crate) fn head(alloc: Global, version: &str) -> Result<Vec<u8>, AllocError>
     ensures { IfOk result (λ text. text.items ≡ print (sarif_head version.now)) }
 {
@@ -295,7 +295,7 @@ pub(crate) fn head(alloc: Global, version: &str) -> Result<Vec<u8>, AllocError>
     Ok(writer.into_inner())
 }
 
-/// A text, and after it what stands after the results, in a run of this status.
+/// A text with the end of the document appended, in a run of this status.
 pub(crate) fn with_foot(text: Vec<u8>, status: u8) -> Result<Vec<u8>, AllocError>
     ensures { IfOk result (λ l. l.items ≡ text.items ++ print (sarif_foot status)) }
 {

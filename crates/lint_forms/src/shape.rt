@@ -1,6 +1,6 @@
-//! In which shape an entry stands in an array of JSON.
+//! The shape of an entry in a JSON array.
 
-/// In which shape an entry stands in an array of JSON.
+/// The shape of an entry in a JSON array.
 #[derive(Clone, Copy)]
 pub enum Shape {
     TflintIssue,

@@ -1,13 +1,13 @@
-//! What remarks are about.
+//! The subjects of remarks.
 
 use rule_set::Rule;
 
-/// What a remark is about.
+/// The subject of a remark.
 #[derive(Clone, Copy, Debug, PartialEq, Eq)]
 pub enum Subject {
     /// An issue, by the rule that reports it.
     Rule(Rule),
-    /// A comment that names what isn't a rule, or that has no effect here.
+    /// A comment that names no rule, or that has no effect here.
     Comment,
     /// A file or a folder that isn't linted.
     Refusal,

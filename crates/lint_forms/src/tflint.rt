@@ -11,7 +11,7 @@ use crate::remark::Remark;
 use crate::words::{rule_id, severity_word};
 use std::alloc::AllocError;
 
-/// A text, and an issue after it.
+/// A text with an issue appended.
 pub(crate) fn with_issue(text: Vec<u8>, remark: Remark<'_>) -> Result<Vec<u8>, AllocError>
     ensures { IfOk result (λ l. l.items
         ≡ text.items ++ json_text (issue_json (said_by remark.entry))) }
@@ -60,7 +60,7 @@ pub(crate) fn with_issue(text: Vec<u8>, remark: Remark<'_>) -> Result<Vec<u8>, A
     )
 }
 
-/// A text, and after it why a file is refused.
+/// A text with the reason appended why a file is refused.
 pub(crate) fn with_error(text: Vec<u8>, remark: Remark<'_>) -> Result<Vec<u8>, AllocError>
     ensures { IfOk result (λ l. l.items
         ≡ text.items ++ json_text (error_json (said_by remark.entry))) }

@@ -1,4 +1,4 @@
-//! What stands around the issues in the form of TFLint's own JSON.
+//! The frame around the issues in the form of TFLint's own JSON.
 
 ghost use Rattle.std.specs.Prelude.{◌≡◌, IfOk, map};
 ghost use Rattle.lint_forms.specs.Remarks.{said_by};
@@ -11,7 +11,7 @@ use crate::shape::Shape;
 use crate::values::with_remarks;
 use std::alloc::{AllocError, Global};
 
-/// What stands before the issues.
+/// The text before the issues.
 pub(crate) fn head(alloc: Global) -> Result<Vec<u8>, AllocError>
     ensures { IfOk result (λ text. text.items ≡ tflint_head) }
 {
@@ -21,7 +21,7 @@ pub(crate) fn head(alloc: Global) -> Result<Vec<u8>, AllocError>
     )
 }
 
-/// What stands after them: these refusals.
+/// The text after them: these refusals.
 pub(crate) fn foot(alloc: Global, remarks: &[Remark<'_>]) -> Result<Vec<u8>, AllocError>
     ensures { IfOk result (λ text. text.items ≡ tflint_foot (map said_by remarks.now)) }
 {

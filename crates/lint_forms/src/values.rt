@@ -1,4 +1,4 @@
-//! Entries in an array of JSON, one after another.
+//! Entries in a JSON array, in turn.
 
 ghost use Rattle.std.specs.Prelude.{◌≡◌, ◌++◌, IfOk, map};
 ghost use Rattle.lint_forms.specs.Inner.Shapes.{entry_text, shape_json, shape_text, shapes_text};
@@ -14,7 +14,7 @@ use crate::shape::Shape;
 use crate::tflint::{with_error, with_issue};
 use std::alloc::{AllocError, Global};
 
-/// A text, and an entry after it.
+/// A text with an entry appended.
 fn with_value(
     alloc: Global,
     shape: Shape,
@@ -31,7 +31,7 @@ fn with_value(
     }
 }
 
-/// A text, and a comma after it if another value stands before the next one.
+/// A text, with a comma appended if another value comes before the next one.
 fn with_comma(is_after: bool, mut text: Vec<u8>) -> Result<Vec<u8>, AllocError>
     ensures { IfOk result (λ longer. longer.items ≡ text.items ++ comma is_after) }
 {
@@ -41,7 +41,7 @@ fn with_comma(is_after: bool, mut text: Vec<u8>) -> Result<Vec<u8>, AllocError>
     Ok(text)
 }
 
-/// A text, and an entry after it, with a comma where it comes after another value.
+/// A text with an entry appended, after a comma if it follows another value.
 fn with_next(
     alloc: Global,
     shape: Shape,
@@ -55,7 +55,7 @@ fn with_next(
     with_value(alloc, shape, longer, entry)
 }
 
-/// A text, and these entries after it, with a comma before the first where it comes after another value.
+/// A text with these entries appended, after a comma if the first follows another value.
 fn with_values(
     alloc: Global,
     shape: Shape,
@@ -74,7 +74,7 @@ fn with_values(
     Ok(longer)
 }
 
-/// A text, and these remarks after it in this shape, with a comma before the first where it comes after another value.
+/// A text with these remarks appended in this shape, after a comma if the first follows another value.
 pub(crate) fn with_remarks(
     alloc: Global,
     shape: Shape,

@@ -1,4 +1,4 @@
-//! The words that the forms have for what a remark is about, and for its severity.
+//! The words of the forms for a remark's subject, and for its severity.
 
 ghost use Rattle.std.specs.Prelude.{◌≡◌};
 ghost use Rattle.lint_forms.specs.Words.{is_issue, level_word, quality_word, rule_id, severity_of, severity_word};
@@ -6,7 +6,7 @@ ghost use Rattle.lint_forms.specs.Words.{is_issue, level_word, quality_word, rul
 use crate::subject::Subject;
 use rule_set::Severity;
 
-/// Whether a remark on it stands among the issues, and not among the refusals.
+/// Whether a remark on it is among the issues, and not among the refusals.
 pub(crate) fn is_issue(subject: Subject) -> bool
     ensures { result ≡ is_issue subject }
 {
@@ -16,7 +16,7 @@ pub(crate) fn is_issue(subject: Subject) -> bool
     }
 }
 
-/// The name of the rule, or what stands for one.
+/// The name of the rule, or of its substitute.
 pub(crate) fn rule_id(subject: Subject) -> &'static str
     ensures { result.now ≡ rule_id subject }
 {
@@ -27,7 +27,7 @@ pub(crate) fn rule_id(subject: Subject) -> &'static str
     }
 }
 
-/// How severe a remark on it is.
+/// The severity of a remark on it.
 pub(crate) fn severity_of(subject: Subject) -> Severity
     ensures { result ≡ severity_of subject }
 {
@@ -37,7 +37,7 @@ pub(crate) fn severity_of(subject: Subject) -> Severity
     }
 }
 
-/// The word of TFLint and of Checkstyle for how severe it is.
+/// The word of TFLint and of Checkstyle for the severity.
 pub(crate) fn severity_word(subject: Subject) -> &'static str
     ensures { result.now ≡ severity_word subject }
 {
@@ -48,7 +48,7 @@ pub(crate) fn severity_word(subject: Subject) -> &'static str
     }
 }
 
-/// That of SARIF.
+/// SARIF's word for it.
 pub(crate) fn level_word(subject: Subject) -> &'static str
     ensures { result.now ≡ level_word subject }
 {
@@ -59,7 +59,7 @@ pub(crate) fn level_word(subject: Subject) -> &'static str
     }
 }
 
-/// That of GitLab's code quality.
+/// The word of GitLab's code quality for it.
 pub(crate) fn quality_word(subject: Subject) -> &'static str
     ensures { result.now ≡ quality_word subject }
 {

@@ -75,7 +75,7 @@ fn file_head(alloc: Global, remark: Remark<'_>) -> Result<String, AllocError>
     )
 }
 
-/// What comes before its message.
+/// The text before its message.
 fn file_middle(alloc: Global, remark: Remark<'_>) -> Result<String, AllocError>
     ensures { IfOk result (λ s. string_bytes s ≡ file_middle (said_by remark.entry)) }
 {
@@ -83,7 +83,7 @@ fn file_middle(alloc: Global, remark: Remark<'_>) -> Result<String, AllocError>
     format!(in alloc; "\" severity=\"{}\" message=\"", severity)
 }
 
-/// Its message, and the rest of it.
+/// Its message, and the rest of the element.
 fn file_tail(alloc: Global, remark: Remark<'_>) -> Result<String, AllocError>
     ensures { IfOk result (λ s. string_bytes s ≡ file_tail (said_by remark.entry)) }
 {
@@ -126,7 +126,7 @@ pub(crate) fn module_files(alloc: Global, remarks: &[Remark<'_>]) -> Result<Vec<
     Ok(text)
 }
 
-/// The element for what became of a test.
+/// The element for the outcome of a test.
 fn outcome_word(subject: Subject) -> &'static str
     ensures { result.now ≡ outcome_word subject }
 {
@@ -136,7 +136,7 @@ fn outcome_word(subject: Subject) -> &'static str
     }
 }
 
-/// Where a remark stands.
+/// The place of a remark.
 fn spot(alloc: Global, remark: Remark<'_>) -> Result<String, AllocError>
     ensures { IfOk result (λ text. string_bytes text ≡ spot (said_by remark.entry)) }
 {
@@ -144,7 +144,7 @@ fn spot(alloc: Global, remark: Remark<'_>) -> Result<String, AllocError>
     format!(in alloc; "{}:{}:{}", file.as_str(), remark.line, remark.column)
 }
 
-/// The test of a remark up to what became of it.
+/// The test of a remark up to its outcome.
 fn case_head(alloc: Global, remark: Remark<'_>) -> Result<String, AllocError>
     ensures { IfOk result (λ s. string_bytes s ≡ case_head (said_by remark.entry)) }
 {
@@ -159,7 +159,7 @@ fn case_head(alloc: Global, remark: Remark<'_>) -> Result<String, AllocError>
     )
 }
 
-/// The rest of it.
+/// The rest of the test.
 fn case_tail(alloc: Global, remark: Remark<'_>) -> Result<String, AllocError>
     ensures { IfOk result (λ s. string_bytes s ≡ case_tail (said_by remark.entry)) }
 {
@@ -221,7 +221,7 @@ fn refusals_of(remarks: &[Remark<'_>]) -> usize
         .count()
 }
 
-/// What stands before so many tests.
+/// The text before this many tests.
 fn suite_start(
     alloc: Global,
     tests: usize,
@@ -236,7 +236,7 @@ fn suite_start(
     )
 }
 
-/// What stands before the tests.
+/// The text before the tests.
 fn suite_head(alloc: Global, remarks: &[Remark<'_>]) -> Result<String, AllocError>
     ensures { IfOk result (λ text. string_bytes text ≡ suite_head (map said_by remarks.now)) }
 {

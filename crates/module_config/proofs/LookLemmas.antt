@@ -1,4 +1,4 @@
--- Folders above, and what stands in them.
+-- Folders above, and their entries.
 use Rattle.std.proofs.Common.{Global, Vec, ◌≡◌, ◌∙◌, ◌≤◌, ◌<◌, ◌+◌, ◌-◌, ◌++◌, ◌∷◌, [], ℕ, Bool, true, false, List, Contains, All, Option, Some, None, ap, append_assoc, append-nil, arith, get_or, inl, inr, length, map, refl, subst, suc, sym, take, zero}
 use Rattle.std.specs.Prelude.{◌==◌, ◌||◌, Result, Ok, Err, IfOk, codes, drop, filter, nat_lt, if◌then◌else◌}
 use Rattle.std.proofs.lemmas.List.{length-append, length-drop, length-map, take-append-drop, take-map, take_all, take_more}
@@ -45,7 +45,7 @@ pub ups_end : (path : Name) (end : ℕ) (all : List Name) → end ≤ 0 → all 
 ups_end path zero all lt e = sym (append-nil all) ∙ e
 ups_end path (suc n) all lt e = absurd (omega (arith, lt))
 
--- ---- calls that say that nothing is there
+-- ---- calls that say that a name doesn't exist
 
 both_with : (f : Faults) (a b : List TreeFault) → with_faults (with_faults f a) b ≡ with_faults f (a ++ b)
 both_with None a b = refl
@@ -149,7 +149,7 @@ begins_within front name v e t =
     let long : length name ≡ length (front ++ drop (length front) name) = ap length ((starts_is Decides-eqb name front (begins front name) refl).0 (sym e ∙ t)) in
     omega (arith, long, length-append front (drop (length front) name))
 
--- ---- what governs
+-- ---- the governor
 
 pub path_failed : (files : Files) (folder slice path name : Name) → slice ≡ path → Tells (files.path folder) path → IsAskedIn slice name → IsAsked files folder name
 path_failed files folder slice path name e t h = inr (path, t, h.0, subst (λ l. Contains (ups l) h.0) e h.1, h.2)
@@ -174,7 +174,7 @@ counted_top current folders kept top n e lt is =
     let within : top < length (map (λ (f : Bor (List ℕ)). f.now) folders) = omega (arith, e, lt, length-map folders (λ (f : Bor (List ℕ)). f.now)) in
     ap (map (λ (f : Bor (List ℕ)). f.now)) is ∙ sym (take-map (λ (f : Bor (List ℕ)). f.now) (top + 1) folders) ∙ sym (when (nat_lt top (length (map (λ (f : Bor (List ℕ)). f.now) folders))) _ _ (lt-ltb _ _ within))
 
--- ---- full paths, by what begins them
+-- ---- full paths, by their beginnings
 
 shown_if : (v : Bool) (rest path : Name) → v ≡ true → rest ≡ (if v then rest else path)
 shown_if true rest path e = refl

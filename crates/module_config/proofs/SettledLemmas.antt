@@ -1,4 +1,4 @@
--- What stands where nothing is said.
+-- The values of options that nothing gives.
 use Rattle.std.proofs.Common.{◌≡◌, ◌∙◌, ◌∷◌, [], Bool, List, Option, None, ap, cond, refl, sym}
 use Rattle.std.specs.Prelude.{filter, option_map, unwrap_or}
 use Rattle.rule_set.specs.Rules.{all_rules, is_recommended}

@@ -1,4 +1,4 @@
--- What is said, line by line.
+-- The messages, line by line.
 use Rattle.std.proofs.Common.{◌≡◌, ◌∙◌, ◌<◌, ◌+◌, ◌++◌, ℕ, List, [], ap, drop, flat_map, get_or, length, sym}
 use Rattle.std.specs.Prelude.{codes, Option, Some}
 use Rattle.command_line.proofs.ListCutLemmas.{from_here}

@@ -1,4 +1,4 @@
--- What is known of the options of modules before they are linted. Our own choice.
+-- The known options of modules before they are linted. Our own choice.
 use Rattle.std.specs.Prelude.{◌≡◌, ◌&&◌, ◌-◌, ℕ, Bool, List, [], ◌∷◌, Option, Some, None, flat_map, length, map}
 use Rattle.std.specs.List.{list_any}
 use Rattle.file_tree.specs.Files.{Faults, Files, Name, Tells, with_fault}
@@ -21,7 +21,7 @@ use Rattle.module_config.specs.declared.governor.Governor.{Governor}
 use Rattle.module_config.specs.declared.governor.Governor.TheVariants as governor
 use Rattle.module_config.specs.declared.governor.Placed.{Placed}
 
--- what a file says, whose bytes these are where the device tells them
+-- the contents of a file, which are these bytes if the device tells them
 abbrev pub IsRead : Files → Name → Faults → Faults → ConfigText → Type 0
 IsRead files name was is (Says config) = (is ≡ was) × ((text : List ℕ) × Tells (told_in files name) text × IsText text × (read_of config ≡ read_text text))
 IsRead files name was is (Refused fault) = (is ≡ was) × ((bytes : List ℕ) × Tells (told_in files name) bytes × IsLoadFault bytes fault)
@@ -45,13 +45,13 @@ abbrev pub file_in : Governor → List (Name × Option TreeFault)
 file_in (governor.File name) = (name.items, None) ∷ []
 file_in _ = []
 
--- the name for which that isn't known
+-- the name because of which the governor isn't known
 abbrev pub failure_in : Governor → List (Name × Option TreeFault)
 failure_in (governor.Unknown f) = (f.name.items, f.fault) ∷ []
 failure_in _ = []
 
--- WHAT IS KNOWN of these modules' options, where the line has these: each governing file was read once, and each call that
--- failed is noted. The modules whose options aren't known are counted, and the others are linted.
+-- THE KNOWN OPTIONS of these modules, with these on the line: each governing file was read once, and each failed call
+-- is noted. The modules whose options aren't known are counted, and the others are linted.
 pub record Configures (files : Files) (line : Options) (reads : Bool) (modules : List Module) (was is : Faults) (c : Configured) : Type 0 where
   pub begun : Faults
   pub start : IsStart files (reads && list_any wants modules) was begun c.start

@@ -14,14 +14,14 @@ ups_to path (suc n) = if get_or path n 0 == 47 then take (suc n) path ∷ ups_to
 abbrev pub ups : Name → List Name
 ups folder = ups_to folder (length folder)
 
--- so many of these folders lack this entry, and the next one has it, if there is one
+-- this many of these folders lack the entry, and the next one has it, if there is one
 pub record IsFirst (files : Files) (entry : Name) (folders : List Name) (n : ℕ) : Type 0 where
   pub within : n ≤ length folders
   pub lack : All (λ folder. files.entry (folder ++ entry) ≡ None) (take n folders)
   pub has : n < length folders → (kind : Kind) × Tells (files.entry (get_or folders n [] ++ entry)) kind
 
--- the folders whose `.tfrules` counts: up to the top of the repository, which is the first that has `.git`; where none is, the
--- folder itself, and those that aren't above the current one
+-- the folders whose `.tfrules` counts: up to the top of the repository, which is the first that has `.git`; if none
+-- has, the folder itself, and those that aren't above the current one
 abbrev pub counted : Name → List Name → ℕ → List Name
 counted current folders top =
     if nat_lt top (length folders) then take (top + 1) folders else filter (λ folder. bytes_eq folder (get_or folders 0 []) || begins current folder) folders

@@ -1,4 +1,4 @@
--- Files that are bad, and calls that failed, as refusals. Our own choice.
+-- Bad files and failed calls, as refusals. Our own choice.
 use Rattle.std.specs.Prelude.{ℕ, List, [], ◌∷◌, ◌++◌, Option, Some, None, flat_map, map, min, string_bytes}
 use Rattle.file_tree.specs.FaultTexts.{tree_fault_text}
 use Rattle.file_tree.specs.Files.{Name}
@@ -14,7 +14,7 @@ use Rattle.module_config.specs.declared.config_file.ConfigText.TheVariants.{Says
 use Rattle.module_config.specs.declared.configure.Configured.{Configured}
 use Rattle.module_config.specs.declared.start.Start.{Start}
 
--- the number of a line, where there are so many
+-- the number of a line, if it fits
 abbrev pub line_number : ℕ → ℕ
 line_number line = min line 4294967295
 

@@ -1,4 +1,5 @@
--- By what a module is linted: what the command line says goes before what its `.tfrules` says, and that before the default.
+-- The options by which a module is linted: the command line takes precedence over its `.tfrules`, and that over the
+-- default.
 use Rattle.std.specs.Prelude.{◌==◌, ◌||◌, Bool, List, [], ◌∷◌, Option, Some, None, filter, find, length, option_map, unwrap_or, if◌then◌else◌}
 use Rattle.std.specs.Str.{bytes_eq}
 use Rattle.file_tree.specs.Files.{Name}
@@ -20,8 +21,8 @@ use Rattle.module_config.specs.declared.governor.Governor.{Governor}
 use Rattle.module_config.specs.declared.governor.Governor.TheVariants as governor
 use Rattle.module_config.specs.declared.governor.Placed.{Placed}
 
--- by what each module is linted: rules and naming, the severity from which on an issue fails the run, whether nothing does, and
--- whether comments are looked at
+-- the options of each module: rules and naming, the severity from which on an issue fails the run, whether nothing
+-- does, and whether comments are checked
 pub record Wanted : Type 0 where
   pub asked : Asked
   pub minimum : Severity
@@ -46,7 +47,7 @@ settled line own = record {
   checks = line.checks || own.checks;
 }
 
--- what a file says, unless a line of it is bad or it has no text
+-- the options in a file, unless a line of it is bad or it isn't text
 abbrev pub good_text : ConfigText → Option Options
 good_text (Says config) = if length config.faults.items == 0 then Some (options_of config.said) else None
 good_text _ = None
@@ -58,7 +59,7 @@ good_file (Some file) = good_text file.text
 abbrev pub said_in : List ConfigFile → Name → Option Options
 said_in files name = good_file (find (λ file. bytes_eq name file.name.items) files)
 
--- BY WHAT A MODULE IS LINTED, unless what governs it isn't known or is bad
+-- THE OPTIONS by which a module is linted, unless its governor isn't known or is bad
 abbrev pub wanted_by : Options → List ConfigFile → Governor → Option Wanted
 wanted_by line files governor.Free = Some (settled line nothing)
 wanted_by line files (governor.File name) = option_map (settled line) (said_in files name.items)

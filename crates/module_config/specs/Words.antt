@@ -1,4 +1,4 @@
--- What is said of files that are bad, and of modules that aren't linted for them. Our own choice.
+-- Messages about bad files, and about modules that aren't linted because of them. Our own choice.
 use Rattle.std.specs.Prelude.{ℕ, ◌==◌, List, [], ◌++◌, Option, Some, None, codes, decimal, flat_map, string_bytes, if◌then◌else◌}
 use Rattle.command_line.specs.Rows.{error, line}
 use Rattle.file_tree.specs.FaultTexts.{tree_fault_text}
@@ -36,14 +36,14 @@ abbrev pub fault_line : Name → Option TreeFault → List ℕ
 fault_line name None = []
 fault_line name (Some fault) = refusal_line (refusal_of name (tree_fault_text fault))
 
--- a call that failed
+-- a failed call
 abbrev pub failure_lines : Start → Found → List ℕ
 failure_lines start f = fault_line (shown_from start f.name.items) f.fault
 
 abbrev pub configured_words : Configured → List ℕ
 configured_words c = flat_map (failure_lines c.start) c.failures.items ++ flat_map (config_lines c.start) c.files.items
 
--- how many modules aren't linted, if there are such
+-- how many modules aren't linted, if any
 abbrev pub unlinted_line : ℕ → List ℕ
 unlinted_line n =
     if n == 0 then []

@@ -1,4 +1,4 @@
-//! What the `.tfrules` say.
+//! The contents of the `.tfrules`.
 
 ghost use Rattle.std.specs.Prelude.{◌≡◌, ◌++◌, ◌∷◌, [], IfOk, OnOk};
 ghost use Rattle.module_config.specs.Configs.{AreRead, IsRead};
@@ -11,24 +11,24 @@ use hcl_source::{Fault, LoadError, Source};
 use lint_config::{Config, config_in};
 use std::alloc::{AllocError, Global};
 
-/// What a file says, or why it says nothing.
+/// The contents of a file, or why it has none.
 #[derive(Drop)]
 pub enum ConfigText {
     Says(Config),
-    /// It is no text.
+    /// It isn't text.
     Refused(Fault),
     /// It can't be opened or read.
     Unread(TreeFault),
 }
 
-/// A `.tfrules` by its full path, and what it says.
+/// A `.tfrules` by its full path, and its contents.
 #[derive(Drop)]
 pub struct ConfigFile {
     pub name: Vec<u8>,
     pub text: ConfigText,
 }
 
-/// What a loaded text says.
+/// The contents in a loaded text.
 fn text_of(alloc: Global, loaded: Result<Source, LoadError>) -> Result<ConfigText, AllocError>
     ensures { IfOk result (IsTextOf loaded) }
 {
@@ -40,7 +40,7 @@ fn text_of(alloc: Global, loaded: Result<Source, LoadError>) -> Result<ConfigTex
     }
 }
 
-/// What the file of this name says.
+/// The contents of the file with this name.
 fn read_text<T: Tree>(alloc: Global, name: &[u8], tree: &mut T) -> Result<ConfigText, AllocError>
     ensures files { T.files tree.new ≡ T.files tree.old }
     ensures asked { T.asked tree.new ≡ T.asked tree.old }
@@ -65,7 +65,7 @@ fn keep(file: ConfigFile, files: &mut Vec<ConfigFile>) -> Result<(), AllocError>
     }
 }
 
-/// Reads one file more.
+/// Reads another file.
 fn add_file<T: Tree>(
     alloc: Global,
     found: Found,
@@ -85,7 +85,7 @@ fn add_file<T: Tree>(
     keep(file, files)
 }
 
-/// What the files of these names say, in their order.
+/// The contents of the files with these names, in order.
 pub(crate) fn read_all<T: Tree>(
     alloc: Global,
     found: Vec<Found>,

@@ -1,4 +1,4 @@
-//! By what modules are linted, as far as that is known.
+//! The options by which modules are linted, as far as they are known.
 
 ghost use Rattle.std.specs.Prelude.{◌≡◌, ◌&&◌, ◌++◌, ◌∷◌, [], IfOk, OnOk, flat_map, map};
 ghost use Rattle.std.specs.List.{list_any};
@@ -19,16 +19,16 @@ use module_find::Module;
 use std::alloc::{AllocError, Global};
 use tree_lint::policy::Governed;
 
-/// What is known of modules before they are linted.
+/// The known options of modules before they are linted.
 #[derive(Drop)]
 pub struct Configured {
-    /// The modules whose options are known, each with what it is linted by.
+    /// The modules whose options are known, each with its policy.
     pub governed: Vec<Governed>,
-    /// How many others there are.
+    /// The number of the other modules.
     pub unlinted: usize,
-    /// From where full paths are shown.
+    /// The folder from which full paths are shown.
     pub start: Start,
-    /// The calls that failed, by the names that they were asked of.
+    /// The failed calls, by the names that they were for.
     pub failures: Vec<Found>,
     /// The files that govern modules, in the order of their names, each once.
     pub files: Vec<ConfigFile>,
@@ -56,7 +56,7 @@ fn keep(one: Placed, placed: &mut Vec<Placed>) -> Result<(), AllocError>
     }
 }
 
-/// Adds a module, and what governs it.
+/// Appends a module and its governor.
 fn add_placed<T: Tree>(
     alloc: Global,
     start: &Start,
@@ -77,7 +77,7 @@ fn add_placed<T: Tree>(
     keep(placed_one, placed)
 }
 
-/// What governs each of these modules.
+/// The governors of these modules.
 fn place_all<T: Tree>(
     alloc: Global,
     start: &Start,
@@ -96,7 +96,7 @@ fn place_all<T: Tree>(
     Ok(placed)
 }
 
-/// Adds a name, and why it can't be looked at, if it can't.
+/// Appends a name and why it can't be looked at, if it can't.
 fn add_noted(
     alloc: Global,
     name: &[u8],
@@ -113,7 +113,7 @@ fn add_noted(
     }
 }
 
-/// Adds the file that governs a module, if one does.
+/// Appends the file that governs a module, if one does.
 fn add_file(alloc: Global, governor: &Governor, all: &mut Vec<Found>) -> Result<(), AllocError>
     ensures { OnOk result (map noted_of all.new.items
         ≡ map noted_of all.old.items ++ file_in governor.now) }
@@ -124,7 +124,7 @@ fn add_file(alloc: Global, governor: &Governor, all: &mut Vec<Found>) -> Result<
     }
 }
 
-/// Adds the name for which it isn't known what governs a module.
+/// Appends the name because of which the governor of a module isn't known.
 fn add_failure(alloc: Global, governor: &Governor, all: &mut Vec<Found>) -> Result<(), AllocError>
     ensures { OnOk result (map noted_of all.new.items
         ≡ map noted_of all.old.items ++ failure_in governor.now) }
@@ -144,12 +144,12 @@ fn files_of(alloc: Global, placed: &[Placed]) -> Result<Vec<Found>, AllocError>
     for each in placed {
         add_file(alloc, &each.governor, &mut all)?;
     }
-    // However many modules it governs.
+    // Even if it governs several modules.
     let files = in_order(all);
     Ok(files)
 }
 
-/// The names for which it isn't known what governs a module, in their order, each once.
+/// The names because of which the governors of modules aren't known, in order, each once.
 fn failures_of(alloc: Global, placed: &[Placed]) -> Result<Vec<Found>, AllocError>
     ensures { IfOk result (λ failures. AreInOrder
         (flat_map (λ p. failure_in p.governor) placed.now) failures.items) }
@@ -161,7 +161,8 @@ fn failures_of(alloc: Global, placed: &[Placed]) -> Result<Vec<Found>, AllocErro
     Ok(in_order(all))
 }
 
-/// By what these modules are linted: by the options of a line, and by the files that govern them, if those are read.
+/// The options by which these modules are linted: those of the line, and those of the files that govern them, if these
+/// are read.
 pub fn configure<T: Tree>(
     alloc: Global,
     line: Said,
@@ -169,7 +170,7 @@ pub fn configure<T: Tree>(
     modules: Vec<Module>,
     tree: &mut T,
 ) -> Result<Configured, AllocError>
-    // Nothing is changed, nor asked to be.
+    // Nothing is changed, and no change is asked for.
     ensures files { T.files tree.new ≡ T.files tree.old }
     ensures asked { T.asked tree.new ≡ T.asked tree.old }
     ensures configures { IfOk result (Configures (T.files tree.old) (options_of line) reads

@@ -9,15 +9,15 @@ use file_tree::tree::Tree;
 use file_tree::walk::Found;
 use std::alloc::Global;
 
-/// Why it isn't known which file governs a module.
+/// Why the governor of a module isn't known.
 #[derive(Drop)]
 pub(crate) enum Stuck {
     OutOfMemory,
-    /// A call failed that was asked of this name.
+    /// A call failed for this name.
     Failed(Found),
 }
 
-/// Whether something stands under a name.
+/// Whether a name exists.
 fn stands<T: Tree>(name: Vec<u8>, tree: &mut T) -> Result<bool, Stuck>
     ensures files { T.files tree.new ≡ T.files tree.old }
     ensures asked { T.asked tree.new ≡ T.asked tree.old }
@@ -52,7 +52,7 @@ fn has<T: Tree>(alloc: Global, folder: &[u8], entry: &[u8], tree: &mut T) -> Res
     }
 }
 
-/// How many of these folders stand before the first that has this entry: all of them, where none has it.
+/// How many of these folders come before the first that has this entry: all of them, if none has it.
 pub(crate) fn first_with<T: Tree>(
     alloc: Global,
     folders: &[&[u8]],

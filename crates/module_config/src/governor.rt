@@ -1,4 +1,4 @@
-//! What governs a module.
+//! The governor of a module.
 
 ghost use Rattle.std.specs.Prelude.{◌≡◌, ◌++◌, ◌∷◌, [], IfErr, IfOk, OnOk, filter, map, option_map};
 ghost use Rattle.file_tree.specs.Files.{Tells};
@@ -18,18 +18,18 @@ use file_tree::walk::Found;
 use module_find::Module;
 use std::alloc::{AllocError, Global};
 
-/// What governs a module.
+/// The governor of a module.
 #[derive(Drop)]
 pub enum Governor {
     /// No file does.
     Free,
     /// The file of this full path.
     File(Vec<u8>),
-    /// That isn't known, for what this name couldn't be asked for.
+    /// It isn't known, because a call failed for this name.
     Unknown(Found),
 }
 
-/// A module, and what governs it.
+/// A module and its governor.
 #[derive(Drop)]
 pub struct Placed {
     pub module: Module,
@@ -53,7 +53,7 @@ pub(crate) fn noted(
     })
 }
 
-/// That a call failed of this name.
+/// The failure of a call for this name.
 fn failed_of(alloc: Global, name: &[u8], fault: TreeFault) -> Stuck
     ensures { IsStuckOf name.now fault result }
 {
@@ -79,14 +79,14 @@ fn path_of<T: Tree>(alloc: Global, folder: &[u8], tree: &mut T) -> Result<Vec<u8
     }
 }
 
-/// Whether the `.tfrules` of a folder counts where there is no repository.
+/// Whether the `.tfrules` of a folder counts outside a repository.
 fn counts(current: &[u8], own: &[u8], folder: &[u8]) -> bool
     ensures { result ≡ counts current.now own.now folder.now }
 {
     folder == own || folder.starts_with(current)
 }
 
-/// Adds a folder whose `.tfrules` counts where there is no repository.
+/// Appends a folder whose `.tfrules` counts outside a repository.
 fn add_counted<'p>(
     current: &[u8],
     own: &[u8],
@@ -106,7 +106,7 @@ fn add_counted<'p>(
     }
 }
 
-/// The folders whose `.tfrules` counts where there is no repository.
+/// The folders whose `.tfrules` counts outside a repository.
 fn all_counted<'p>(
     alloc: Global,
     current: &[u8],
@@ -143,7 +143,7 @@ fn counted<'p>(
     all_counted(alloc, current, folders[0], folders.as_slice())
 }
 
-/// The file in the folder of this place, where there is one.
+/// The file in the folder of this place, if there is one.
 fn file_at(alloc: Global, folders: &[&[u8]], at: usize) -> Result<Option<Vec<u8>>, AllocError>
     ensures { IfOk result (λ file. option_map (λ name. name.items) file
         ≡ file_at (map (λ folder. folder.now) folders.now) at) }
@@ -155,7 +155,7 @@ fn file_at(alloc: Global, folders: &[&[u8]], at: usize) -> Result<Option<Vec<u8>
     Ok(Some(name))
 }
 
-/// The same, or that memory ran out.
+/// The file in the folder of this place, if there is one, or running out of memory.
 fn found_at(alloc: Global, folders: &[&[u8]], at: usize) -> Result<Option<Vec<u8>>, Stuck>
     ensures ok { IfOk result (λ file. option_map (λ name. name.items) file
         ≡ file_at (map (λ folder. folder.now) folders.now) at) }
@@ -197,7 +197,7 @@ fn file_over<T: Tree>(
     }
 }
 
-/// What is known where a call failed.
+/// The governor after a failed call.
 fn unknown(stuck: Stuck) -> Result<Governor, AllocError>
     ensures { IfOk result (IsUnknownBy stuck) }
 {
@@ -207,7 +207,7 @@ fn unknown(stuck: Stuck) -> Result<Governor, AllocError>
     }
 }
 
-/// What governs the modules of a folder.
+/// The governor of the modules of a folder.
 fn governor_over<T: Tree>(
     alloc: Global,
     current: &[u8],
@@ -237,7 +237,7 @@ pub(crate) fn wants(one: &Module) -> bool
     !one.files.is_empty() && one.is_whole
 }
 
-/// What governs a module.
+/// The governor of a module.
 pub(crate) fn governor_of<T: Tree>(
     alloc: Global,
     start: &Start,

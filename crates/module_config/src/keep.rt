@@ -1,4 +1,4 @@
-//! Files that are bad, and calls that failed, kept for the end of a form.
+//! Bad files and failed calls, kept for the end of a form.
 
 ghost use Rattle.std.specs.Prelude.{◌≡◌, ◌∷◌, [], flat_map, map};
 ghost use Rattle.module_config.specs.Refusals.{config_refusals, configured_refusals, failure_refusals, line_number, line_refusal};
@@ -14,7 +14,7 @@ use std::alloc::Global;
 use tree_lint::kept::Kept;
 use tree_lint::refusal::Refusal;
 
-/// The number of a line, where there are so many.
+/// The number of a line, if it fits.
 fn line_number(line: usize) -> u32
     ensures { result ≡ line_number line }
 {
@@ -24,7 +24,7 @@ fn line_number(line: usize) -> u32
     4_294_967_295
 }
 
-/// Keeps what is wrong with a line of the file of this name.
+/// Keeps the fault of a line of the file with this name.
 fn keep_line(alloc: Global, name: &[u8], bad: &BadLine, kept: &mut Kept)
     ensures { KeepsAll kept.old kept.new (line_refusal name.now bad.now ∷ []) }
 {
@@ -43,7 +43,7 @@ fn keep_line(alloc: Global, name: &[u8], bad: &BadLine, kept: &mut Kept)
     );
 }
 
-/// Keeps which lines of the file of this name are wrong.
+/// Keeps the faults of the wrong lines of the file with this name.
 fn keep_lines(alloc: Global, name: &[u8], all: &[BadLine], kept: &mut Kept)
     ensures { KeepsAll kept.old kept.new (map (line_refusal name.now) all.now) }
 {
@@ -52,7 +52,7 @@ fn keep_lines(alloc: Global, name: &[u8], all: &[BadLine], kept: &mut Kept)
     }
 }
 
-/// Keeps what is wrong with a file.
+/// Keeps the fault of a file.
 fn keep_file(alloc: Global, start: &Start, file: &ConfigFile, kept: &mut Kept)
     ensures { KeepsAll kept.old kept.new (config_refusals start.now file.now) }
 {
@@ -80,7 +80,7 @@ fn keep_file(alloc: Global, start: &Start, file: &ConfigFile, kept: &mut Kept)
     }
 }
 
-/// Keeps what is wrong with each of these files.
+/// Keeps the faults of these files.
 fn keep_files(alloc: Global, start: &Start, files: &[ConfigFile], kept: &mut Kept)
     ensures { KeepsAll kept.old kept.new (flat_map (config_refusals start.now) files.now) }
 {
@@ -89,7 +89,7 @@ fn keep_files(alloc: Global, start: &Start, files: &[ConfigFile], kept: &mut Kep
     }
 }
 
-/// Keeps which call failed.
+/// Keeps a failed call.
 fn keep_failure(alloc: Global, start: &Start, found: &Found, kept: &mut Kept)
     ensures { KeepsAll kept.old kept.new (failure_refusals start.now found.now) }
 {
@@ -106,7 +106,7 @@ fn keep_failure(alloc: Global, start: &Start, found: &Found, kept: &mut Kept)
     }
 }
 
-/// Keeps which calls failed.
+/// Keeps the failed calls.
 fn keep_failures(alloc: Global, start: &Start, all: &[Found], kept: &mut Kept)
     ensures { KeepsAll kept.old kept.new (flat_map (failure_refusals start.now) all.now) }
 {
@@ -115,7 +115,7 @@ fn keep_failures(alloc: Global, start: &Start, all: &[Found], kept: &mut Kept)
     }
 }
 
-/// Keeps which files are bad, and what couldn't be looked at to find them.
+/// Keeps bad files, and the failed calls of the search for them.
 pub fn keep_configured(alloc: Global, configured: &Configured, kept: &mut Kept)
     ensures { KeepsAll kept.old kept.new (configured_refusals configured.now) }
 {

@@ -1,4 +1,4 @@
-//! Which `.tfrules` governs a module, and by what it is linted then.
+//! Which `.tfrules` governs a module, and the options by which it is then linted.
 #![tactic(auto)]
 
 pub mod config_file;

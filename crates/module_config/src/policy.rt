@@ -1,4 +1,4 @@
-//! By what modules are linted.
+//! The options by which modules are linted.
 
 ghost use Rattle.std.specs.Prelude.{◌≡◌, ◌++◌, IfOk, OnOk, find, flat_map, map, option_map, unwrap_or};
 ghost use Rattle.std.specs.Str.{bytes_eq};
@@ -15,7 +15,7 @@ use std::alloc::{AllocError, Global};
 use tf_rules::{Naming, Settings};
 use tree_lint::policy::{Governed, Policy};
 
-/// The rules of the file, or those by default.
+/// The rules of the file, or the default ones.
 fn own_rules(own: Option<RuleSet>) -> RuleSet
     ensures { rules_of result ≡ unwrap_or (option_map rules_of own) default_rules }
 {
@@ -25,7 +25,7 @@ fn own_rules(own: Option<RuleSet>) -> RuleSet
     }
 }
 
-/// The rules: those of the line, else those of the file, else those by default.
+/// The rules: those of the line, or of the file, or the default ones.
 fn rules_by(line: Option<RuleSet>, own: Option<RuleSet>) -> RuleSet
     ensures { rules_of result
         ≡ first_said (option_map rules_of line) (option_map rules_of own) default_rules }
@@ -36,7 +36,7 @@ fn rules_by(line: Option<RuleSet>, own: Option<RuleSet>) -> RuleSet
     }
 }
 
-/// One of these: that of the line, else that of the file, else the default.
+/// One of these: that of the line, or of the file, or the default.
 fn first_said<A: Copy>(line: Option<A>, own: Option<A>, default: A) -> A
     ensures { result ≡ first_said line own default }
 {
@@ -46,7 +46,7 @@ fn first_said<A: Copy>(line: Option<A>, own: Option<A>, default: A) -> A
     }
 }
 
-/// By what a module is linted where both say something.
+/// The options of a module from those of the line and of the file.
 pub fn settled(line: Said, own: Said) -> Policy
     ensures { wanted_of result ≡ settled (options_of line) (options_of own) }
 {
@@ -61,7 +61,7 @@ pub fn settled(line: Said, own: Said) -> Policy
     }
 }
 
-/// What a file says, if all of its lines are good.
+/// The options in a file, if all of its lines are good.
 fn good_text(text: &ConfigText) -> Option<Said>
     ensures { option_map options_of result ≡ good_text text.now }
 {
@@ -79,7 +79,7 @@ fn file_named<'f>(files: &'f [ConfigFile], name: &[u8]) -> Option<&'f ConfigFile
     files.iter().find(|file| *name == *file.name.as_slice())
 }
 
-/// What the file of this name says, if all of its lines are good.
+/// The options in the file with this name, if all of its lines are good.
 fn said_in(files: &[ConfigFile], name: &[u8]) -> Option<Said>
     ensures { option_map options_of result ≡ said_in files.now name.now }
 {
@@ -89,7 +89,7 @@ fn said_in(files: &[ConfigFile], name: &[u8]) -> Option<Said>
     }
 }
 
-/// By what a module is linted, if that is known.
+/// The options of a module, if they are known.
 fn policy_by(line: Said, files: &[ConfigFile], governor: &Governor) -> Option<Policy>
     ensures { option_map wanted_of result ≡ wanted_by (options_of line) files.now governor.now }
 {
@@ -103,7 +103,7 @@ fn policy_by(line: Said, files: &[ConfigFile], governor: &Governor) -> Option<Po
     }
 }
 
-/// Adds a module with its policy, if that is known.
+/// Appends a module with its policy, if that is known.
 fn add_governed(
     line: Said,
     files: &[ConfigFile],

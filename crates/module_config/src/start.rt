@@ -9,7 +9,7 @@ use file_tree::tree::Tree;
 /// The current folder, as far as it has to be known.
 #[derive(Drop)]
 pub enum Start {
-    /// No `.tfrules` is looked for.
+    /// No `.tfrules` is searched for.
     Unneeded,
     /// Its full path isn't known, for this reason.
     Unknown(TreeFault),
@@ -34,7 +34,7 @@ impl Start {
         }
     }
 
-    /// A full path as it is shown: from the current folder, where it is below it.
+    /// A full path as it is shown: from the current folder, if it is below it.
     pub(crate) fn shown<'n>(&self, path: &'n [u8]) -> &'n [u8]
         ensures { result.now ≡ shown_from self.now path.entry.now }
     {

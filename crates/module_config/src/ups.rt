@@ -6,7 +6,7 @@ ghost use Rattle.module_config.specs.Inner.Looking.{up_at};
 
 use std::alloc::{AllocError, Global};
 
-/// Adds the folder that ends before this byte, if one does.
+/// Appends the folder that ends before this byte, if one does.
 fn add_up<'p>(path: &'p [u8], end: usize, folders: &mut Vec<&'p [u8]>) -> Result<(), AllocError>
     requires some { 0 < end }
     requires within { end ≤ length path.now }

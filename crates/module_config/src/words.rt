@@ -1,4 +1,4 @@
-//! What is said of files that are bad, and of modules that aren't linted for them.
+//! Messages about bad files, and about modules that aren't linted because of them.
 
 ghost use Rattle.std.specs.Prelude.{◌≡◌, ◌++◌, Some, false, flat_map, is_err};
 ghost use Rattle.command_line.specs.Rows.{Took, writer};
@@ -16,7 +16,7 @@ use itoa::Buffer;
 use lint_config::BadLine;
 use tree_lint::refusal::{Refusal, tell_refusal};
 
-/// Writes what follows the name of a file with a bad line.
+/// Writes the text after the name of a file with a bad line.
 fn tell_line_words<S: ByteSink>(sink: &mut S, bad: &BadLine) -> Result<(), Failed>
     requires { S.failed sink.old ≡ false }
     ensures took { Took (writer S.ByteSink sink.old sink.new) (line_words bad.now) }
@@ -28,7 +28,7 @@ fn tell_line_words<S: ByteSink>(sink: &mut S, bad: &BadLine) -> Result<(), Faile
     write_pieces(sink, &[b":", line, b": ", text, b"\n"])
 }
 
-/// Writes a name as it is shown, and what is wrong with a line of this file.
+/// Writes a name as it is shown, and the fault of a line of this file.
 fn tell_named_line<S: ByteSink>(sink: &mut S, name: &[u8], bad: &BadLine) -> Result<(), Failed>
     requires { S.failed sink.old ≡ false }
     ensures took { Took (writer S.ByteSink sink.old sink.new)
@@ -41,7 +41,7 @@ fn tell_named_line<S: ByteSink>(sink: &mut S, name: &[u8], bad: &BadLine) -> Res
     tell_line_words(sink, bad)
 }
 
-/// Says what is wrong with a line of the file of this name.
+/// Reports the fault of a line of the file with this name.
 fn tell_line<S: ByteSink>(sink: &mut S, name: &[u8], bad: &BadLine) -> Result<(), Failed>
     requires { S.failed sink.old ≡ false }
     ensures took { Took (writer S.ByteSink sink.old sink.new) (bad_line name.now bad.now) }
@@ -53,7 +53,7 @@ fn tell_line<S: ByteSink>(sink: &mut S, name: &[u8], bad: &BadLine) -> Result<()
     tell_named_line(sink, name, bad)
 }
 
-/// Says which lines of the file of this name are wrong.
+/// Reports the wrong lines of the file with this name.
 fn tell_lines<S: ByteSink>(sink: &mut S, name: &[u8], all: &[BadLine]) -> Result<(), Failed>
     requires { S.failed sink.old ≡ false }
     ensures took { Took (writer S.ByteSink sink.old sink.new)
@@ -66,7 +66,7 @@ fn tell_lines<S: ByteSink>(sink: &mut S, name: &[u8], all: &[BadLine]) -> Result
     Ok(())
 }
 
-/// Says what is wrong with a file.
+/// Reports the fault of a file.
 fn tell_file<S: ByteSink>(sink: &mut S, start: &Start, file: &ConfigFile) -> Result<(), Failed>
     requires { S.failed sink.old ≡ false }
     ensures took { Took (writer S.ByteSink sink.old sink.new) (config_lines start.now file.now) }
@@ -96,7 +96,7 @@ fn tell_file<S: ByteSink>(sink: &mut S, start: &Start, file: &ConfigFile) -> Res
     }
 }
 
-/// Says what is wrong with each of these files.
+/// Reports the faults of these files.
 fn tell_files<S: ByteSink>(sink: &mut S, start: &Start, files: &[ConfigFile]) -> Result<(), Failed>
     requires { S.failed sink.old ≡ false }
     ensures took { Took (writer S.ByteSink sink.old sink.new)
@@ -109,7 +109,7 @@ fn tell_files<S: ByteSink>(sink: &mut S, start: &Start, files: &[ConfigFile]) ->
     Ok(())
 }
 
-/// Says which call failed.
+/// Reports a failed call.
 fn tell_failure<S: ByteSink>(sink: &mut S, start: &Start, found: &Found) -> Result<(), Failed>
     requires { S.failed sink.old ≡ false }
     ensures took { Took (writer S.ByteSink sink.old sink.new) (failure_lines start.now found.now) }
@@ -129,7 +129,7 @@ fn tell_failure<S: ByteSink>(sink: &mut S, start: &Start, found: &Found) -> Resu
     }
 }
 
-/// Says which calls failed.
+/// Reports the failed calls.
 fn tell_failures<S: ByteSink>(sink: &mut S, start: &Start, all: &[Found]) -> Result<(), Failed>
     requires { S.failed sink.old ≡ false }
     ensures took { Took (writer S.ByteSink sink.old sink.new)
@@ -142,7 +142,7 @@ fn tell_failures<S: ByteSink>(sink: &mut S, start: &Start, all: &[Found]) -> Res
     Ok(())
 }
 
-/// Says which files are bad, and what couldn't be looked at to find them.
+/// Reports bad files, and the failed calls of the search for them.
 pub fn tell_configured<S: ByteSink>(sink: &mut S, configured: &Configured) -> Result<(), Failed>
     requires { S.failed sink.old ≡ false }
     ensures took { Took (writer S.ByteSink sink.old sink.new) (configured_words configured.now) }
@@ -155,7 +155,7 @@ pub fn tell_configured<S: ByteSink>(sink: &mut S, configured: &Configured) -> Re
     tell_files(sink, start, configured.files.as_slice())
 }
 
-/// Says how many modules aren't linted since their options aren't known, if there are such.
+/// Reports how many modules aren't linted because their options aren't known, if any.
 pub fn tell_unlinted<S: ByteSink>(sink: &mut S, count: usize) -> Result<(), Failed>
     requires { S.failed sink.old ≡ false }
     ensures took { Took (writer S.ByteSink sink.old sink.new) (unlinted_line count) }

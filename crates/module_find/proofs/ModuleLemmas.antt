@@ -1,4 +1,4 @@
--- Folders and modules, one after another.
+-- Folders and modules, in turn.
 use Rattle.std.proofs.Common.{Option, flat_map, ◌≡◌, ◌∙◌, ◌<◌, ◌+◌, ◌⊎◌, ◌++◌, ◌∷◌, [], ℕ, Bool, true, false, Global, List, None, String, Contains, ap, append-nil, append_assoc, get_or, inl, inr, length, map, refl, subst, string_bytes, sym, take, true≢false}
 use Rattle.std.specs.String.{string_vec}
 use Rattle.std.specs.Prelude.{◌&&◌, Some, is_some, not, slice_get, Result, Ok, Err, IfOk, OnOk, if◌then◌else◌}
@@ -92,14 +92,14 @@ folders_by true found f old new e (inl h) before = record {
     turn g s (inl c) = let w = before.all g c s in (w.0, subst (λ l. Contains l w.0) (sym h.3) (Contains-append_left old (h.0 ∷ []) w.0 w.1), w.2)
     turn g s (inr q) = (h.0, subst (λ l. Contains l h.0) (sym h.3) (Contains-push old h.0), subst (λ (x : Found). h.0.name.items ≡ folder_of x.name.items) q h.1)
 
--- one more of some, after others
+-- one more, after others
 pub folders_more : (before found : List Found) (i : ℕ) (f : Found) (old new : List Found) → i < length found → f ≡ get_or found i f → AreFoldersOf (before ++ take i found) old → AddsFolder (stands f) f old new
     → AreFoldersOf (before ++ take (i + 1) found) new
 folders_more before found i f old new within is so h =
     subst (λ l. AreFoldersOf l new) (append_assoc before (take i found) (f ∷ []) ∙ ap (λ l. before ++ l) (sym (take_more found i f within ∙ ap (λ x. take i found ++ x ∷ []) (sym is))))
     (folders_by (stands f) (before ++ take i found) f old new refl h so)
 
--- ---- folder after folder
+-- ---- folder by folder
 
 pub looked_more : (named : List Found) (looked : List Looked) (i : ℕ) (l : Looked) → i < length looked → l ≡ get_or looked i l → all_found named (take i looked) ++ l.found.items ≡ all_found named (take (i + 1) looked)
 looked_more named looked i l within is =
@@ -125,12 +125,12 @@ pub folder_added : (v : Bool) (f d : Found) (old new : List Found) → v ≡ tru
 folder_added true f d old new e named good h = inl (d, named, good, h)
 folder_added false f d old new e named good h = absurd (true≢false (sym e))
 
--- that was added last
+-- it was added last
 pub folder_passed : (v : Bool) (f : Found) (old : List Found) → v ≡ true → HasName old (folder_of f.name.items) → AddsFolder v f old old
 folder_passed true f old e has = inr (refl, has)
 folder_passed false f old e has = absurd (true≢false (sym e))
 
--- ---- what is told, by names and faults
+-- ---- reported names, by names and faults
 
 told_both : (v : Bool) (f : Found) → map told_as (if v then f ∷ [] else []) ≡ (if v then told_as f ∷ [] else [])
 told_both true f = refl
@@ -139,7 +139,7 @@ told_both false f = refl
 told_of_lost : (f : Found) → map told_as (lost_in f) ≡ told_by (told_as f)
 told_of_lost f = told_both (is_lost f) f
 
--- one more of some
+-- one more
 pub told_more : (tells : Found → List Found) (found : List Found) (i : ℕ) (f : Found) (first old new : List Found) → i < length found → f ≡ get_or found i f
     → map told_as old ≡ map told_as first ++ map told_as (flat_map tells (take i found)) → map told_as new ≡ map told_as old ++ map told_as (tells f)
     → map told_as new ≡ map told_as first ++ map told_as (flat_map tells (take (i + 1) found))
@@ -175,7 +175,7 @@ file_taken f text old new good named is same whole folder told files = record {
     none : fault_by f.fault f.file f.name.items ≡ None
     none = subst (λ o. fault_by o f.file f.name.items ≡ None) (sym good) (by f.file is)
 
--- what is told for this reason
+-- the name that is reported for this reason
 pub fault_taken : (f : Found) (fault : TreeFault) (old new : Sorted) (sound : Bool) → fault_by f.fault f.file f.name.items ≡ Some fault → new.module ≡ record old.module { is_whole = old.module.is_whole && sound } → sound ≡ not (is_of_module f.name.items)
     → map told_as new.faults.items ≡ map told_as old.faults.items ++ told_by (f.name.items, Some fault) → TakesFound f old new
 fault_taken f fault old new sound why is so told = record {
@@ -187,7 +187,7 @@ fault_taken f fault old new sound why is so told = record {
       (told ∙ ap (λ l. map told_as old.faults.items ++ l) (sym (told_of_lost (record f { fault = Some fault }))));
 }
 
--- some more, after others
+-- more, after others
 told_then : (tells : Found → List Found) (before more : List Found) (old new : List Found) → map told_as old ≡ map told_as (flat_map tells before) → map told_as new ≡ map told_as old ++ map told_as (flat_map tells more)
     → map told_as new ≡ map told_as (flat_map tells (before ++ more))
 told_then tells before more old new so h = h ∙ ap (λ l. l ++ map told_as (flat_map tells more)) so ∙ sym (map-append told_as (flat_map tells before) (flat_map tells more)) ∙ ap (map told_as) (sym (flat_map-append tells before more))
@@ -229,7 +229,7 @@ modules_then files looked (x ∷ folders) d (y ∷ modules) m beside here was be
       modules_then files looked folders d modules m rest here a.2 between is a.5 h,
     )
 
--- in whatever order the folders stand that were looked into
+-- in whatever order the listed folders are
 module_any : (files : Files) (sorted looked : List Looked) (name : Name) (m : Module) (here : List Found) (was is : Faults) → ((l : Looked) → Contains sorted l → Contains looked l) → IsModule files sorted name m here was is → IsModule files looked name m here was is
 module_any files sorted looked name m here was is within h = (h.0, by h.1, h.2)
   where

@@ -18,7 +18,7 @@ tofu = refl
 variables : is_module_file (codes "x.tfvars") ≡ false
 variables = refl
 
--- a file that was deleted, or that can't be read, stands for its folder, and so does a folder that can't be read
+-- a deleted or unreadable file stands for its folder, and so does an unreadable folder
 deleted : stands_by (Some Missing) (codes "a/main.tf") ≡ true
 deleted = refl
 
@@ -28,7 +28,7 @@ unreadable = refl
 closed : stands_by (Some UnreadableFolder) (codes "a/") ≡ true
 closed = refl
 
--- a name that isn't there stands for none, and nothing that is no file of a module breaks one
+-- a name that doesn't exist stands for none, and an entry that is no file of a module breaks none
 mistyped : stands_by (Some Missing) (codes "modulse") ≡ false
 mistyped = refl
 
@@ -42,7 +42,7 @@ pipe = refl
 other_pipe : name_fault None (codes "a/p") ≡ None
 other_pipe = refl
 
--- a deleted file isn't told where it was named, and a dead link where no module has such a file
+-- a deleted file isn't reported if it was named, nor a dead link if no module has such a file
 not_told : is_gone_by (Some Missing) (codes "a/main.tf") ≡ true
 not_told = refl
 

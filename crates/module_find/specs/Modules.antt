@@ -17,18 +17,17 @@ use Rattle.module_find.specs.declared.module.Module.{Module}
 abbrev pub is_module_file : Name → Bool
 is_module_file name = ends (codes ".tf") name || ends (codes ".tofu") name
 
--- THE FOLDER of a path, with the slash at its end: nothing where it has none
+-- THE FOLDER of a path, with the slash at its end: empty if it has none
 abbrev pub folder_of : Name → Name
 folder_of path = take (length path - suffix_len (λ b. not (b == 47)) path) path
 
 -- ---- which folders are modules
 
--- a name that says something of a module: that of one of its files, or of a folder
+-- a name that matters to a module: that of one of its files, or of a folder
 abbrev pub is_of_module : Name → Bool
 is_of_module name = is_module_file name || ends (codes "/") name
 
--- a name stands for its folder: one that was found; and one that can't be looked at, where the module may lack what
--- stands there
+-- a name stands for its folder: a found name; and one that can't be looked at, if the module may lack that file
 abbrev pub stands_by : Option TreeFault → Name → Bool
 stands_by None name = true
 stands_by (Some fault) name = is_of_module name
@@ -36,7 +35,7 @@ stands_by (Some fault) name = is_of_module name
 abbrev pub stands : Found → Bool
 stands f = stands_by f.fault f.name.items
 
--- THE FOLDERS for which names stand: nothing else, and none left out
+-- THE FOLDERS that names stand for: nothing else, and none left out
 pub record AreFoldersOf (found folders : List Found) : Type 0 where
   pub good : (d : Found) → Contains folders d → d.fault ≡ None
   pub real : (d : Found) → Contains folders d
@@ -48,13 +47,13 @@ pub record AreFoldersOf (found folders : List Found) : Type 0 where
 abbrev pub AreFolders : List Found → List Found → Type 0
 AreFolders found folders = Rises folders × AreFoldersOf found folders
 
--- ---- what is told
+-- ---- reported names
 
 -- a name, and why it can't be looked at
 abbrev pub told_as : Found → Name × Option TreeFault
 told_as f = (f.name.items, f.fault)
 
--- these are told, each once, in the order of their names
+-- these are reported, each once, in the order of their names
 pub record AreTold (lost told : List Found) : Type 0 where
   pub rises : Rises told
   pub only : (f : Found) → Contains told f → (g : Found) × Contains lost g × (told_as g ≡ told_as f)
@@ -68,7 +67,7 @@ abbrev pub is_dead_link : TreeFault → Bool
 is_dead_link DeadLink = true
 is_dead_link fault = false
 
--- a name of files that are formatted and that no module has
+-- a name of files that are formatted and that aren't a module's
 abbrev pub is_other_file : Name → Bool
 is_other_file name = is_taken name && not (is_module_file name)
 
@@ -76,7 +75,7 @@ is_other_file name = is_taken name && not (is_module_file name)
 abbrev pub is_no_matter : TreeFault → Name → Bool
 is_no_matter fault name = is_dead_link fault && is_other_file name
 
--- what can't be looked at is told, but for these
+-- each name that can't be looked at is reported, except these
 abbrev pub is_lost_by : Option TreeFault → Name → Bool
 is_lost_by None name = false
 is_lost_by (Some fault) name = not (is_no_matter fault name)
@@ -87,18 +86,18 @@ is_lost f = is_lost_by f.fault f.name.items
 abbrev pub lost_in : Found → List Found
 lost_in f = if is_lost f then f ∷ [] else []
 
--- a file of a module that isn't there, for which its folder stands
+-- a file of a module that doesn't exist, and so stands for its folder
 abbrev pub is_gone_by : Option TreeFault → Name → Bool
 is_gone_by None name = false
 is_gone_by (Some fault) name = is_missing fault && is_module_file name
 
--- WHAT IS TOLD of the names that were found: that of a file that was deleted isn't, since its folder tells
+-- THE REPORTS for the found names: a deleted file isn't among them, since its folder stands for it
 abbrev pub lost_of : Found → List Found
 lost_of f = if is_lost f && not (is_gone_by f.fault f.name.items) then f ∷ [] else []
 
 -- ---- one module
 
--- why what stands under this name is no file of a module that can be linted, if it can't be
+-- why the entry under this name is no file of a module that can be linted, if it can't be
 abbrev pub name_fault : Option FoundFile → Name → Option TreeFault
 name_fault None name = if is_module_file name then Some NotAFile else None
 name_fault (Some file) name = if is_module_file name && not (is_utf8 name) then Some NotUtf8 else None
@@ -107,7 +106,7 @@ abbrev pub fault_by : Option TreeFault → Option FoundFile → Name → Option 
 fault_by None file name = name_fault file name
 fault_by (Some fault) file name = Some fault
 
--- what was found, with the reason why it can't be linted
+-- the found name, with the reason why it can't be linted
 abbrev pub judged : Found → Found
 judged f = record f { fault = fault_by f.fault f.file f.name.items }
 
@@ -133,24 +132,24 @@ is_sound f = not (breaks_by (judged f).fault f.name.items)
 abbrev pub told_in : Found → List Found
 told_in f = lost_in (judged f)
 
--- the module of a folder in which this was found: its files, and whether it is whole; and what is told of the folder
+-- the module of a folder with these entries: its files, and whether it is whole; and the reports for the folder
 pub record IsModuleOf (name : Name) (found : List Found) (m : Module) (told : List Found) : Type 0 where
   pub folder : m.folder.items ≡ name
   pub files : map string_bytes m.files.items ≡ flat_map file_in found
   pub whole : m.is_whole ≡ list_all is_sound found
   pub lost : map told_as told ≡ map told_as (flat_map told_in found)
 
--- what stands in a folder: it was looked into before, or it is now, where the device has had these faults before and after
+-- the entries of a folder: it was listed before, or it is now, and then the device has these faults before and after
 abbrev pub StandsIn : Files → List Looked → Name → List Found → Faults → Faults → Type 0
 StandsIn files looked folder found was is =
     ((is ≡ was) × ((l : Looked) × Contains looked l × (l.folder.items ≡ folder) × (l.found.items ≡ found)))
     ⊎ (FindsIn files folder found × AreHeard was is found)
 
--- A MODULE has what stands in its folder
+-- A MODULE has the entries of its folder
 abbrev pub IsModule : Files → List Looked → Name → Module → List Found → Faults → Faults → Type 0
 IsModule files looked folder m told was is = (found : List Found) × StandsIn files looked folder found was is × IsModuleOf folder found m told
 
--- THE MODULES of folders, and all that is told of these
+-- THE MODULES of folders, and all reports for these
 abbrev pub AreModules : Files → List Looked → List Found → List Module → List Found → Faults → Faults → Type 0
 AreModules files looked [] [] told was is = (told ≡ []) × (is ≡ was)
 AreModules files looked [] (m ∷ ms) told was is = ⊥

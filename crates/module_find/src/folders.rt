@@ -13,7 +13,7 @@ use file_tree::path::joined;
 use file_tree::walk::{Found, Looked, in_order};
 use std::alloc::{AllocError, Global};
 
-/// Whether a name stands for its folder: one that was found, and one that says something of a module and can't be looked at.
+/// Whether a name stands for its folder: a found name, and one that matters to a module and can't be looked at.
 fn stands(found: &Found) -> bool
     ensures { result ≡ stands found.now }
 {
@@ -42,7 +42,7 @@ fn is_last(folders: &[Found], name: &[u8]) -> bool
     }
 }
 
-/// Adds the folder of what was found, if it stands for it, unless that was added last.
+/// Appends the folder of the found name, if the name stands for it, unless it was added last.
 fn add_folder(alloc: Global, found: &Found, folders: &mut Vec<Found>) -> Result<(), AllocError>
     ensures { OnOk result (AddsFolder (stands found.now) found.now
         folders.old.items folders.new.items) }
@@ -63,7 +63,7 @@ fn add_folder(alloc: Global, found: &Found, folders: &mut Vec<Found>) -> Result<
     keep(folder, folders)
 }
 
-/// Adds the folders for which names stand to those of others.
+/// Appends the folders that names stand for to those of others.
 fn add_folders(alloc: Global, found: &[Found], folders: &mut Vec<Found>) -> Result<(), AllocError>
     ensures { OnOk result ((before : List Found) → AreFoldersOf before folders.old.items
         → AreFoldersOf (before ++ found.now) folders.new.items) }
@@ -74,7 +74,7 @@ fn add_folders(alloc: Global, found: &[Found], folders: &mut Vec<Found>) -> Resu
     Ok(())
 }
 
-/// The folders for which names stand, some of them more than once.
+/// The folders that names stand for, some of them more than once.
 fn all_folders(alloc: Global, named: &[Found], looked: &[Looked]) -> Result<Vec<Found>, AllocError>
     ensures { IfOk result (λ folders. AreFoldersOf (all_found named.now looked.now)
         folders.items) }
@@ -87,7 +87,7 @@ fn all_folders(alloc: Global, named: &[Found], looked: &[Looked]) -> Result<Vec<
     Ok(folders)
 }
 
-/// The folders for which the names stand that were found, in the order of their names, each once.
+/// The folders that the found names stand for, in order, each once.
 pub fn folders_of(
     alloc: Global,
     named: &[Found],
@@ -100,7 +100,7 @@ pub fn folders_of(
     Ok(in_order(folders))
 }
 
-/// Whether it is the name of a file of a module that was deleted.
+/// Whether it is the name of a deleted file of a module.
 fn is_gone(found: &Found) -> bool
     ensures { result ≡ is_gone_by found.now.fault found.now.name.items }
 {
@@ -110,7 +110,7 @@ fn is_gone(found: &Found) -> bool
     }
 }
 
-/// The same name with its fault.
+/// This name with its fault.
 fn copy_of(alloc: Global, found: &Found) -> Result<Found, AllocError>
     ensures { IfOk result (λ copy. told_as copy ≡ told_as found.now) }
 {
@@ -122,7 +122,7 @@ fn copy_of(alloc: Global, found: &Found) -> Result<Found, AllocError>
     })
 }
 
-/// Adds what is told.
+/// Appends the report for a name.
 fn add_fault(alloc: Global, found: &Found, faults: &mut Vec<Found>) -> Result<(), AllocError>
     ensures { OnOk result (map told_as faults.new.items
         ≡ map told_as faults.old.items ++ map told_as (lost_of found.now)) }
@@ -134,7 +134,7 @@ fn add_fault(alloc: Global, found: &Found, faults: &mut Vec<Found>) -> Result<()
     keep(copy, faults)
 }
 
-/// Adds what is told of these.
+/// Appends the reports for these names.
 fn add_faults(alloc: Global, found: &[Found], faults: &mut Vec<Found>) -> Result<(), AllocError>
     ensures { OnOk result (map told_as faults.new.items
         ≡ map told_as faults.old.items ++ map told_as (flat_map lost_of found.now)) }
@@ -145,7 +145,7 @@ fn add_faults(alloc: Global, found: &[Found], faults: &mut Vec<Found>) -> Result
     Ok(())
 }
 
-/// What of the names that were found can't be looked at and is told: of a file that was deleted its folder tells.
+/// The found names that can't be looked at and are reported: a deleted file isn't, since its folder stands for it.
 pub fn faults_of(
     alloc: Global,
     named: &[Found],

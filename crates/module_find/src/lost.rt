@@ -1,4 +1,4 @@
-//! What can't be looked at and is told.
+//! Names that can't be looked at and are reported.
 
 ghost use Rattle.std.specs.Prelude.{◌≡◌};
 ghost use Rattle.module_find.specs.Modules.{is_dead_link, is_lost, is_missing, is_no_matter, is_other_file};
@@ -20,21 +20,21 @@ fn is_dead_link(fault: TreeFault) -> bool
     matches!(fault, TreeFault::DeadLink)
 }
 
-/// Whether files of this name are formatted, and no module has them.
+/// Whether files of this name are formatted, and aren't a module's.
 fn is_other_file(name: &[u8]) -> bool
     ensures { result ≡ is_other_file name.now }
 {
     is_taken(name) && !is_module_file(name)
 }
 
-/// A link that leads nowhere is no matter under the name of a file that no module has, as `terraform.tfvars`.
+/// A link that leads nowhere doesn't matter under the name of a file that no module has, such as `terraform.tfvars`.
 fn is_no_matter(fault: TreeFault, name: &[u8]) -> bool
     ensures { result ≡ is_no_matter fault name.now }
 {
     is_dead_link(fault) && is_other_file(name)
 }
 
-/// Whether it is told that this can't be looked at.
+/// Whether it is reported that this name can't be looked at.
 pub(crate) fn is_lost(found: &Found) -> bool
     ensures { result ≡ is_lost found.now }
 {

@@ -3,7 +3,7 @@
 /// The files of one folder that are linted together.
 #[derive(Drop)]
 pub struct Module {
-    /// The name of the folder, with a `/` at its end, or empty where it is the current one.
+    /// The name of the folder, with a `/` at its end, or empty for the current one.
     pub folder: Vec<u8>,
     /// The names of the files, in order.
     pub files: Vec<String>,

@@ -20,7 +20,7 @@ fn both(one: bool, other: bool) -> bool
     one && other
 }
 
-/// The module of a folder, and what is told of the folder.
+/// The module of a folder, and the reports for the folder.
 #[derive(Drop)]
 struct Sorted {
     module: Module,
@@ -28,7 +28,7 @@ struct Sorted {
 }
 
 impl Sorted {
-    /// Tells what can't be linted, if that is told.
+    /// Reports a name that can't be linted, if that is reported.
     fn tell(&mut self, found: Found) -> Result<(), AllocError>
         ensures faults { OnOk result (map told_as self.new.faults.items
             ≡ map told_as self.old.faults.items ++ told_by (told_as found)) }
@@ -43,7 +43,7 @@ impl Sorted {
         Ok(())
     }
 
-    /// Adds a file.
+    /// Appends a file.
     fn add_file(&mut self, name: String) -> Result<(), AllocError>
         ensures files { OnOk result (map string_bytes self.new.module.files.items
             ≡ map string_bytes self.old.module.files.items ++ string_bytes name ∷ []) }
@@ -57,7 +57,7 @@ impl Sorted {
         }
     }
 
-    /// Takes what was found of a folder and can't be linted, for this reason.
+    /// Takes an entry of a folder that can't be linted, for this reason.
     fn take_fault(&mut self, found: Found, fault: TreeFault) -> Result<(), AllocError>
         requires why { fault_by found.fault found.file found.name.items ≡ Some fault }
         ensures { OnOk result (TakesFound found self.old self.new) }
@@ -71,7 +71,7 @@ impl Sorted {
         })
     }
 
-    /// Takes what was found of a folder and has the name of a file of a module.
+    /// Takes an entry of a folder with the name of a file of a module.
     fn take_file(&mut self, found: Found) -> Result<(), AllocError>
         requires good { found.fault ≡ None }
         requires named { is_module_file found.name.items ≡ true }
@@ -90,7 +90,7 @@ impl Sorted {
         }
     }
 
-    /// Takes what was found of a folder.
+    /// Takes an entry of a folder.
     fn take(&mut self, found: Found) -> Result<(), AllocError>
         ensures { OnOk result (TakesFound found self.old self.new) }
     {
@@ -104,7 +104,7 @@ impl Sorted {
     }
 }
 
-/// The module of a folder in which this was found.
+/// The module of a folder with these entries.
 fn module_of(alloc: Global, folder: Vec<u8>, found: Vec<Found>) -> Result<Sorted, AllocError>
     ensures { IfOk result (λ s. IsModuleOf folder.items found.items s.module s.faults.items) }
 {
@@ -122,8 +122,8 @@ fn module_of(alloc: Global, folder: Vec<u8>, found: Vec<Found>) -> Result<Sorted
     Ok(taken)
 }
 
-/// Takes out what was found in a folder, if it is one of these: their last one is the first by its name. What comes before the
-/// folder is let go.
+/// Removes and returns the entries of a folder, if it is one of these: their last one is the first by its name. Folders
+/// before it are dropped.
 fn take_looked(looked: &mut Vec<Looked>, folder: &[u8]) -> Option<Vec<Found>>
     ensures taken { IfSome result (λ found. (l : Looked) × Contains looked.old.items l
         × (l.folder.items ≡ folder.now) × (l.found.items ≡ found.items)) }
@@ -141,7 +141,7 @@ fn take_looked(looked: &mut Vec<Looked>, folder: &[u8]) -> Option<Vec<Found>>
     None
 }
 
-/// The module of a folder, which is looked into unless it was before.
+/// The module of a folder, which is listed unless it was before.
 fn module_in<T: Tree>(
     alloc: Global,
     folder: Vec<u8>,
@@ -161,7 +161,7 @@ fn module_in<T: Tree>(
     module_of(alloc, folder, found)
 }
 
-/// Modules, and what is told of their folders.
+/// Modules, and the reports for their folders.
 #[derive(Drop)]
 pub struct Modules {
     pub modules: Vec<Module>,
@@ -169,7 +169,7 @@ pub struct Modules {
 }
 
 impl Modules {
-    /// Adds the module of a folder.
+    /// Appends the module of a folder.
     fn add<T: Tree>(
         &mut self,
         alloc: Global,
@@ -194,18 +194,18 @@ impl Modules {
     }
 }
 
-/// The modules of folders, in their order, and what is told of these: each name that can't be looked at or linted, and why.
-/// A folder that was looked into isn't listed again.
+/// The modules of folders, in order, and the reports for these: each name that can't be looked at or linted, and why. A
+/// folder that was listed isn't listed again.
 pub fn modules_of<T: Tree>(
     alloc: Global,
     folders: Vec<Found>,
     mut looked: Vec<Looked>,
     tree: &mut T,
 ) -> Result<Modules, AllocError>
-    // Nothing is changed, nor asked to be.
+    // Nothing is changed, and no change is asked for.
     ensures files { T.files tree.new ≡ T.files tree.old }
     ensures asked { T.asked tree.new ≡ T.asked tree.old }
-    // Where the device tells the faults of its calls, each that is told is one of these, or that of a name.
+    // If the device tells the faults of its calls, each reported fault is one of these, or that of a name.
     ensures are { IfOk result (λ all. AreModules (T.files tree.old) looked.items folders.items
         all.modules.items all.faults.items (T.faults tree.old) (T.faults tree.new)) }
 {

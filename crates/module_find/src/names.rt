@@ -11,14 +11,14 @@ pub fn is_module_file(name: &[u8]) -> bool
     name.ends_with(b".tf") || name.ends_with(b".tofu")
 }
 
-/// Whether a name says something of a module: that of one of its files, or of a folder.
+/// Whether a name matters to a module: that of one of its files, or of a folder.
 pub fn is_of_module(name: &[u8]) -> bool
     ensures { result ≡ is_of_module name.now }
 {
     is_module_file(name) || name.ends_with(b"/")
 }
 
-/// How many bytes of a path stand up to its last slash, with it.
+/// How many bytes of a path are before its last slash, including it.
 fn folder_len(path: &[u8]) -> usize
     ensures { result ≡ length path.now - suffix_len (λ b. not (b == 47)) path.now }
 {
@@ -29,7 +29,7 @@ fn folder_len(path: &[u8]) -> usize
     len
 }
 
-/// The folder of a path, with the slash at its end: nothing where it has none.
+/// The folder of a path, with the slash at its end: empty if it has none.
 pub fn folder_of(path: &[u8]) -> &[u8]
     ensures { result.now ≡ folder_of path.now }
 {

@@ -32,7 +32,7 @@ filter_same : {A : Type 0} (p q : A → Bool) (xs : List A) → ((x : A) → p x
 filter_same p q [] h = refl
 filter_same p q (x ∷ xs) h = ap (λ b. cond b (x ∷ filter p xs) (filter p xs)) (h x) ∙ ap (λ l. cond (q x) (x ∷ l) l) (filter_same p q xs h)
 
--- whether a set has any is whether its definition has
+-- a set has any rule if and only if its definition has
 pub any_of : (set : RuleSet) (p : Rule → Bool) (b r : Bool) → b ≡ list_any (holds set) all_rules → ((rule : Rule) → holds set rule ≡ p rule) → b ≡ r → list_any p all_rules ≡ r
 any_of set p b r e h is = sym (any_same (holds set) p all_rules h) ∙ sym e ∙ is
 
@@ -50,7 +50,7 @@ first_way false false c e s i = e ∙ ap (λ x. if x then false else false) i
 
 -- ---- one part
 
--- after a dash stands the name
+-- the name is after the dash
 dashed : (part name : List ℕ) → part ≡ 45 ∷ name → (takes_away part ≡ true) × (part_name part ≡ name)
 dashed part name e = (ap takes_away e, ap part_name e)
 

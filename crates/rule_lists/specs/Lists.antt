@@ -1,5 +1,5 @@
--- What a list of rules stands for, such as `all,-terraform_typed_variables`: names with commas between them, each of which
--- gives its rules, or takes them away after a dash. Our own choice.
+-- The meaning of a list of rules, such as `all,-terraform_typed_variables`: names with commas between them, each of
+-- which adds its rules, or removes them after a dash. Our own choice.
 use Rattle.std.specs.Prelude.{◌==◌, ℕ, Bool, true, false, not, List, [], Result, Ok, Err, codes, drop, filter, find, fold, option_map, unwrap_or, if◌then◌else◌}
 use Rattle.std.specs.List.{list_all, list_any, slice_split, starts_with}
 use Rattle.std.specs.Str.{bytes_eq}
@@ -13,13 +13,13 @@ use Rattle.rule_lists.specs.declared.fault.ListFault.TheVariants.{UnknownRule, N
 abbrev pub is_rule_named : List ℕ → Rule → Bool
 is_rule_named name rule = bytes_eq (rule_name rule) name
 
--- a name stands for a rule: `all` for each, `default` for those that are recommended, and any other for its own
+-- the rules of a name: `all` means each, `default` the recommended ones, and any other its own
 abbrev pub stands_for : List ℕ → Rule → Bool
 stands_for name rule =
     if bytes_eq name (codes "all") then true
     else (if bytes_eq name (codes "default") then is_recommended rule else is_rule_named name rule)
 
--- a part of a list takes its rules away if it begins with a dash
+-- a part of a list removes its rules if it begins with a dash
 abbrev pub takes_away : List ℕ → Bool
 takes_away part = starts_with (λ a b. a == b) part (codes "-")
 
@@ -30,7 +30,7 @@ part_name part = if takes_away part then drop 1 part else part
 abbrev pub is_known_part : List ℕ → Bool
 is_known_part part = list_any (stands_for (part_name part)) all_rules
 
--- A RULE IS ASKED FOR by parts one after another: the last that stands for it decides
+-- A RULE IS REQUESTED by the parts in turn: the last that covers it decides
 abbrev pub is_asked_after : Rule → Bool → List ℕ → Bool
 is_asked_after rule before part = if stands_for (part_name part) rule then not (takes_away part) else before
 
@@ -46,11 +46,11 @@ rules_of_parts parts =
 abbrev pub rules_in : List ℕ → Result (List Rule) ListFault
 rules_in list = rules_of_parts (slice_split (λ b. b == 44) list)
 
--- THE NAME of a list that is told where it isn't one: the first that stands for no rule
+-- THE NAME that is reported if a text isn't a list: the first that isn't a rule's
 abbrev pub unknown_in : List ℕ → List ℕ
 unknown_in list = unwrap_or (option_map part_name (find (λ part. not (is_known_part part)) (slice_split (λ b. b == 44) list))) []
 
--- those of a set that stands for a list
+-- the rules of a set that represents a list
 abbrev pub rules_found : Result RuleSet ListFault → Result (List Rule) ListFault
 rules_found (Ok set) = Ok (rules_of set)
 rules_found (Err fault) = Err fault

@@ -9,7 +9,7 @@ use crate::fault::ListFault;
 use crate::part::{is_known_part, part_name, with_part};
 use rule_set::RuleSet;
 
-/// The set after all parts of a list, or nothing where a part names no rule.
+/// The set after all parts of a list, or nothing if a part names no rule.
 fn after_parts(list: &str) -> Option<RuleSet>
     ensures { Listed (slice_split (λ b. b == 44) list.now) result }
 {
@@ -31,13 +31,12 @@ fn unless_empty(set: RuleSet) -> Result<RuleSet, ListFault>
     Err(ListFault::NoneLeft)
 }
 
-/// The rules that a list of names with commas between them stands for: `all` for each rule, `default` for those that are
-/// recommended, and any other name for its own rule. A dash before a name takes its rules away; the last name that stands for
-/// a rule decides.
+/// The rules of a list of names with commas between them: `all` means each rule, `default` the recommended ones, and
+/// any other name its own rule. A dash before a name removes its rules; the last name that covers a rule decides.
 ///
 /// # Errors
 ///
-/// `UnknownRule` where a name stands for no rule, and `NoneLeft` where the list takes every rule away.
+/// `UnknownRule` if a name isn't a rule's, and `NoneLeft` if the list removes every rule.
 pub fn rules_in(list: &str) -> Result<RuleSet, ListFault>
     ensures { rules_found result ≡ rules_in list.now }
 {
@@ -60,7 +59,7 @@ fn unknown_part(list: &str) -> Option<&str>
     None
 }
 
-/// The first name of a list that stands for no rule, or nothing where each does.
+/// The first name of a list that isn't a rule's, or nothing if each is.
 pub fn unknown_in(list: &str) -> &str
     ensures { result.now ≡ unknown_in list.now }
 {

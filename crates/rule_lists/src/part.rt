@@ -18,7 +18,7 @@ fn rule_alone(name: &str) -> RuleSet
     }
 }
 
-/// The rules for which a name stands.
+/// The rules of a name.
 fn rules_of_name(name: &str) -> RuleSet
     ensures { (rule : Rule) → holds result rule ≡ stands_for name.now rule }
 {
@@ -31,7 +31,7 @@ fn rules_of_name(name: &str) -> RuleSet
     rule_alone(name)
 }
 
-/// The set with the rules for which a name stands, or nothing where it stands for none.
+/// The set with the rules of a name, or nothing if it has none.
 fn with_name(set: RuleSet, name: &str) -> Option<RuleSet>
     ensures { IsSetByName true name.now set result }
 {
@@ -42,7 +42,7 @@ fn with_name(set: RuleSet, name: &str) -> Option<RuleSet>
     None
 }
 
-/// The set without the rules for which a name stands, or nothing where it stands for none.
+/// The set without the rules of a name, or nothing if it has none.
 fn without_name(set: RuleSet, name: &str) -> Option<RuleSet>
     ensures { IsSetByName false name.now set result }
 {
@@ -70,7 +70,7 @@ pub fn is_known_part(part: &str) -> bool
     rules_of_name(part_name(part)).holds_any()
 }
 
-/// The set after one part more, or nothing where a part names no rule.
+/// The set after another part, or nothing if a part names no rule.
 pub fn with_part(set: Option<RuleSet>, part: &str) -> Option<RuleSet>
     ensures { (parts : List (List ℕ)) → Listed parts set → Listed (parts ++ part.now ∷ []) result }
 {

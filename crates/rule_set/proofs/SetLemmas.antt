@@ -4,7 +4,7 @@ use Rattle.std.specs.Prelude.{◌||◌, ◌⊎◌}
 use Rattle.std.proofs.lemmas.Bool.{cases_eq}
 use Rattle.std.proofs.lemmas.List.{get_or-set_same, get_or-set_other}
 
--- those before a number are made of those of two lists
+-- the flags before a number are made of those of two lists
 pub record AreJoined (f : Bool → Bool → Bool) (a b held : List Bool) (n : ℕ) : Type 0 where
   pub long : length held ≡ 10
   pub joined : (k : ℕ) → k < n → get_or held k false ≡ f (get_or a k false) (get_or b k false)

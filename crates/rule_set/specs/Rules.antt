@@ -1,5 +1,5 @@
--- The ten rules, their names, and how severe their issues are. The names are those of rules of TFLint's Terraform rule
--- set; what each reports, the severities and the recommended set are our own choice.
+-- The ten rules, their names, and the severity of their issues. The names are those of rules of TFLint's Terraform rule
+-- set; the reports of each, the severities and the recommended set are our own choice.
 use Rattle.std.specs.Prelude.{ℕ, Bool, true, false, List, [], ◌∷◌, codes}
 use Rattle.std.specs.List.{position_or_len}
 use Rattle.std.specs.Str.{bytes_eq}
@@ -38,7 +38,7 @@ is_rule a b = bytes_eq (rule_name a) (rule_name b)
 abbrev pub rank : Rule → ℕ
 rank rule = position_or_len (is_rule rule) all_rules
 
--- the rules that are asked for where none is named
+-- the default rules
 abbrev pub is_recommended : Rule → Bool
 is_recommended CommentSyntax = false
 is_recommended DocumentedOutputs = false

@@ -1,6 +1,6 @@
 //! The ten rules of the linter, their names and severities, and sets of them.
 //!
-//! The module [`laws`] holds what is proved of the definitions alone.
+//! The module [`laws`] has laws of the definitions alone.
 #![tactic(auto)]
 
 pub mod laws;

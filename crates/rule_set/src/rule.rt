@@ -1,10 +1,10 @@
-//! The rules, their names, and how severe their issues are.
+//! The rules, their names, and the severity of their issues.
 
 ghost use Rattle.std.specs.Prelude.{◌≡◌, ◌<◌, MatchOption, find, None};
 ghost use Rattle.std.specs.Str.{bytes_eq};
 ghost use Rattle.rule_set.specs.Rules.{all_rules, rank, rule_name, severity, severity_text};
 
-/// A rule. The variants stand in the order of the names.
+/// A rule. The variants are in the order of the names.
 #[derive(Clone, Copy, Debug, PartialEq, Eq)]
 pub enum Rule {
     CommentSyntax,
@@ -42,7 +42,7 @@ pub enum Severity {
 }
 
 impl Severity {
-    /// The word for it in a report.
+    /// Its word in a report.
     pub fn text(self) -> &'static str
         ensures { result.now ≡ severity_text self }
     {
@@ -89,7 +89,7 @@ impl Rule {
         }
     }
 
-    /// How severe its issues are.
+    /// The severity of its issues.
     pub fn severity(self) -> Severity
         ensures { result ≡ severity self }
     {
@@ -101,7 +101,7 @@ impl Rule {
         }
     }
 
-    /// The rule of this name, where there is one.
+    /// The rule of this name, if there is one.
     pub fn from_name(name: &str) -> Option<Rule>
         ensures { MatchOption result ((rule : Rule) → rule_name rule ≡ name.now → ⊥)
             (λ rule. rule_name rule ≡ name.now) }

@@ -27,7 +27,7 @@ impl RuleSet {
         RuleSet { held: [false; 10] }
     }
 
-    /// The rules that are asked for where none is named.
+    /// The default rules.
     pub fn recommended() -> RuleSet
         ensures { (rule : Rule) → holds result rule ≡ is_recommended rule }
     {
@@ -45,7 +45,7 @@ impl RuleSet {
         RuleSet { held: [true; 10] }
     }
 
-    /// The set with one rule more, where it doesn't hold it yet.
+    /// The set with another rule.
     pub fn with(self, rule: Rule) -> RuleSet
         ensures { (other : Rule) → holds result other ≡ (holds self other || is_rule other rule) }
     {
@@ -54,7 +54,7 @@ impl RuleSet {
         RuleSet { held }
     }
 
-    /// Whether a rule is in the set. All are looked at, whatever the first are, so that nothing branches.
+    /// Whether a rule is in the set. All are looked at, whatever the first ones are, so that nothing branches.
     pub fn holds_any(self) -> bool
         ensures { result ≡ list_any (holds self) all_rules }
     {
@@ -96,7 +96,7 @@ fn first_alone(one: bool, other: bool) -> bool
     one && !other
 }
 
-/// The rules of a set that another hasn't.
+/// The rules of one set that another lacks.
 pub fn rules_without(one: RuleSet, other: RuleSet) -> RuleSet
     ensures { (rule : Rule) → holds result rule ≡ (holds one rule && not (holds other rule)) }
 {

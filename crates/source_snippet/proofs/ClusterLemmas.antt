@@ -1,4 +1,4 @@
--- A line before and after so many of its clusters.
+-- A line before and after a number of its clusters.
 use Rattle.std.proofs.Common.{◌≡◌, ◌∙◌, ◌+◌, ◌-◌, ◌≤◌, ℕ, suc, zero, true, List, [], ◌∷◌, ◌++◌, length, take, drop, refl, sym, ap, subst, arith, add-one, length-append, append_assoc}
 use Rattle.std.proofs.Math.Seq.{take-append_seam}
 use Rattle.std.specs.List.{concat, slice_range}
@@ -31,7 +31,7 @@ all_dropped (suc m) (suc n) (x ∷ xs) h e = all_dropped m n xs (omega (arith, h
 from_front : (xs : List ℕ) (n : ℕ) → slice_range xs 0 n ≡ take n xs
 from_front xs n = grind arith
 
--- where what stands after so many clusters begins
+-- the beginning of the text after this many clusters
 pub record IsSeam (line before after : List ℕ) : Type 0 where
   pub whole : line ≡ before ++ after
   pub within : length after ≤ length line

@@ -1,4 +1,4 @@
--- The lines of a text: where the first ends, how many characters it has at least, and what is left after the last.
+-- The lines of a text: the end of the first, the least number of its characters, and the text after the last.
 use Rattle.std.proofs.Common.{◌≡◌, ◌*◌, ◌<◌, ◌≤◌, ◌==◌, ◌⊎◌, ℕ, suc, zero, true, false, List, [], ◌∷◌, length, take, get_or, refl, sym, ap, subst, arith, ⊎_elim, length-append, inl, inr}
 use Rattle.std.specs.Prelude.{encode_utf8, encode_utf8_all}
 use Rattle.std.specs.List.{after_first, before_first, position_or_len}
@@ -11,7 +11,7 @@ use Rattle.source_snippet.specs.Snippets.{after_lines, longest_line}
 less : (a b : ℕ) → (a < b) ⊎ (b ≤ a)
 less a b = grind arith
 
--- where the first line ends
+-- the end of the first line
 abbrev pub line_len : List ℕ → ℕ
 line_len text = position_or_len (λ b. b == 10) text
 
@@ -38,7 +38,7 @@ line_len_above text n within none here = by (apart n (line_len text))
     by (inr (inl h)) = absurd (none _ h (found (omega arith)))
     by (inr (inr h)) = absurd (here (subst (λ k. get_or text k 0 ≡ 10) h (found (omega arith))))
 
--- the end of a line is no place within a character
+-- the end of a line isn't within a character
 pub line_boundary : (text : List ℕ) → IsUtf8 text → IsCharBoundary text (line_len text)
 line_boundary text utf8 = by (less (line_len text) (length text))
   where

@@ -1,4 +1,4 @@
--- What is shown of a line takes no more bytes than the line.
+-- The shown line takes no more bytes than the line.
 use Rattle.std.proofs.Common.{◌≡◌, ◌∙◌, ◌+◌, ◌<◌, ◌≤◌, ℕ, suc, zero, Bool, true, false, List, [], ◌∷◌, ap, arith, get_or, length, length-append, map, subst, sym, take}
 use Rattle.std.specs.Prelude.{◌++◌, Ok, Err, IsOk, OnOk, Result, encode_utf8, encode_utf8_all, if◌then◌else◌}
 use Rattle.std.specs.Str.{chars, IsUtf8}
@@ -34,7 +34,7 @@ next_fits text bytes seen c most utf8 within so_far is h next =
     let front : length bytes ≡ length (encode_utf8_all (map shown_char (take (length seen) (chars text)))) = ap length is ∙ ap (λ l. length (encode_utf8_all (map shown_char l))) so_far in
     omega (arith, within, front, more_short (chars text) (length seen) c h next, ap length (encodes-chars text utf8))
 
--- it is added to those so far
+-- it is appended to those so far
 pub shown_more : (seen bytes new : List ℕ) (c d : ℕ) → bytes ≡ encode_utf8_all (map shown_char seen) → d ≡ shown_char c → new ≡ bytes ++ encode_utf8 d → new ≡ encode_utf8_all (map shown_char (seen ++ c ∷ []))
 shown_more seen bytes new c d is shows added =
     added ∙ (λ i. is i ++ encode_utf8 (shows i)) ∙ ap (λ l. encode_utf8_all (map shown_char seen) ++ l) (sym (append-nil (encode_utf8 (shown_char c))))

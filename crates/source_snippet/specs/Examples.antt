@@ -12,7 +12,7 @@ second_line : snippet (codes "a = 1\nb = ]\n") (at 2 5) ≡ codes "  b = ]\n    
 unfolding unicode_segmentation unicode_width
 second_line = refl
 
--- a tab is one column of a place, and a blank of the line that is shown
+-- a tab is one column of a place, and a blank of the shown line
 tab : snippet (codes "\tb = ]") (at 1 6) ≡ codes "   b = ]\n       ^\n"
 unfolding unicode_segmentation unicode_width
 tab = refl
@@ -31,7 +31,7 @@ crlf : snippet (codes "a\r\nb ]\r\n") (at 2 3) ≡ codes "  b ] \n    ^\n"
 unfolding unicode_segmentation unicode_width
 crlf = refl
 
--- past the end of the line, the caret stands right after it
+-- past the end of the line, the caret is right after it
 past_the_end : snippet (codes "a = 1") (at 1 9) ≡ codes "  a = 1\n       ^\n"
 unfolding unicode_segmentation unicode_width
 past_the_end = refl

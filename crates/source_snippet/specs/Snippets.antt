@@ -6,11 +6,11 @@ use Rattle.unicode_segmentation.specs.Grapheme.{graphemes}
 use Rattle.unicode_width.specs.Width.{str_width}
 use Rattle.hcl_source.specs.declared.fault.Position.{Position}
 
--- the most characters of a line that is shown: a longer one fills a terminal many times over
+-- the most characters of a shown line: a longer one fills a terminal many times over
 abbrev pub longest_line : ℕ
 longest_line = 240
 
--- what stands in a text after so many lines, each of which ends at its LF
+-- the text after this many lines, each of which ends at its LF
 abbrev pub after_lines : ℕ → List ℕ → List ℕ
 after_lines zero text = text
 after_lines (suc n) text = after_first (λ b. b == 10) (after_lines n text)
@@ -19,11 +19,11 @@ after_lines (suc n) text = after_first (λ b. b == 10) (after_lines n text)
 abbrev pub nth_line : ℕ → List ℕ → List ℕ
 nth_line number text = before_first (λ b. b == 10) (after_lines (number - 1) text)
 
--- a terminal may take it for more than a character: a control, or what ends a line or turns the direction of writing
+-- a terminal may treat it as more than a character: a control, or one that ends a line or turns the direction of writing
 abbrev pub is_hidden : ℕ → Bool
 is_hidden c = nat_lt c 32 || is_in_range 127 159 c || is_in_range 0x2028 0x202E c || is_in_range 0x2066 0x2069 c
 
--- the character that is shown for one: a blank for one that is hidden
+-- the character that is shown for one: a blank for a hidden one
 abbrev pub shown_char : ℕ → ℕ
 shown_char c = if is_hidden c then 32 else c
 
@@ -31,7 +31,7 @@ shown_char c = if is_hidden c then 32 else c
 abbrev pub visible : List ℕ → List ℕ
 visible part = encode_utf8_all (map shown_char (chars part))
 
--- what stands in a line before a column; columns count extended grapheme clusters, as in a place
+-- the part of a line before a column; columns count extended grapheme clusters, as in a place
 abbrev pub before_column : ℕ → List ℕ → List ℕ
 before_column column line = concat (take (column - 1) (graphemes true line))
 
@@ -43,13 +43,13 @@ blanks_below part = replicate (str_width false (chars (visible part))) 32
 abbrev pub with_caret : ℕ → List ℕ → List ℕ
 with_caret column line = codes "  " ++ (visible line ++ (codes "\n  " ++ (blanks_below (before_column column line) ++ codes "^\n")))
 
--- the same of a line that is shown: it has a character or more, and not too many
+-- that snippet for a line that is shown: it has a character or more, and not too many
 abbrev pub snippet_of_line : ℕ → List ℕ → List ℕ
 snippet_of_line column line = if length line == 0 || nat_lt longest_line (length (chars line)) then [] else with_caret column line
 
 abbrev pub snippet : List ℕ → Position → List ℕ
 snippet text at = snippet_of_line at.column (nth_line at.line text)
 
--- the same where it is to be shown
+-- the snippet, if it is to be shown
 abbrev pub snippet_if : Bool → List ℕ → Position → List ℕ
 snippet_if shows text at = if shows then snippet text at else []

@@ -1,4 +1,4 @@
-//! The line of a text that a message speaks of, with a mark below the place, for who reads it on a terminal.
+//! The line of a text that a message is about, with a mark below the place, for readers on a terminal.
 #![tactic(auto)]
 
 mod line;

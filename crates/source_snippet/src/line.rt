@@ -1,4 +1,4 @@
-//! Lines of a text, one after the other.
+//! Lines of a text in turn.
 
 ghost use Rattle.std.specs.Prelude.{◌≡◌, ◌==◌, ◌<◌, ◌≤◌, ◌*◌, length, chars, IfSome, MatchOption};
 ghost use Rattle.std.specs.List.{after_first, before_first, position_or_len};
@@ -7,10 +7,10 @@ ghost use Rattle.source_snippet.specs.Snippets.{longest_line};
 /// The most characters of a line that is shown.
 const LONGEST_LINE: usize = 240;
 
-/// The most bytes of so many characters.
+/// The most bytes of a shown line.
 pub(crate) const MOST_BYTES: usize = 4 * LONGEST_LINE;
 
-/// What stands after the first line of a text.
+/// The text after the first line.
 pub fn after_line(text: &str) -> &str
     ensures { result.now ≡ after_first (λ b. b == 10) text.now }
 {
@@ -20,7 +20,7 @@ pub fn after_line(text: &str) -> &str
     }
 }
 
-/// Where the first line of a text ends, unless it has too many bytes. No more than those are looked at.
+/// The end of the first line of a text, unless it has too many bytes. It reads no more than these.
 fn near_line_end(bytes: &[u8]) -> Option<usize>
     ensures end { MatchOption result (MOST_BYTES < position_or_len (λ b. b == 10) bytes.now)
         (λ end. end ≡ position_or_len (λ b. b == 10) bytes.now) }

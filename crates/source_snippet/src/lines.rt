@@ -11,7 +11,7 @@ use hcl_source::{Position, Source};
 use std::alloc::{AllocError, Global};
 use std::marker::Model;
 
-/// A text, and how far its lines were passed: snippets in the order of their lines take one walk over the text.
+/// A text, and how far its lines were passed: snippets in line order take one walk over the text.
 #[derive(Debug, Drop)]
 pub struct Lines<'t> {
     text: &'t str,
@@ -30,7 +30,7 @@ impl<'t> Model for Lines<'t> {
     ghost invariant = { λ s. s.rest.now ≡ after_lines s.passed s.text.now };
 }
 
-/// The snippet of a line, or nothing where none is shown.
+/// The snippet of a line, or nothing if none is shown.
 fn snippet_of_line(rest: &str, column: u32) -> Snippet
     ensures { result.items ≡ snippet_of_line column (before_first (λ b. b == 10) rest.now) }
 {
@@ -51,7 +51,7 @@ impl<'t> Lines<'t> {
         }
     }
 
-    /// What stands after so many lines.
+    /// The text after this many lines.
     fn after(&mut self, count: u32) -> &'t str
         ensures rest { result.now ≡ after_lines count self.old }
         ensures same { self.new ≡ self.old }
@@ -80,7 +80,7 @@ impl<'t> Lines<'t> {
     }
 }
 
-/// The snippet for a place in a source, where one is to be shown.
+/// The snippet for a place in a source, if one is to be shown.
 pub fn snippet_of(
     alloc: Global,
     shows: bool,

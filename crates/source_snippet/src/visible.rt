@@ -10,14 +10,14 @@ use arrayvec::{ArrayString, ArrayVec};
 use unicode_segmentation::UnicodeSegmentation;
 use unicode_width::UnicodeWidthStr;
 
-/// The most bytes of a line with a caret below it: both begin with two blanks and end with LF, and of the caret's there are at
-/// most two for each byte of the line, and the caret.
+/// The most bytes of a line with a caret below it: both begin with two blanks and end with LF, and the blanks before
+/// the caret are at most two for each byte of the line.
 const MOST_SHOWN: usize = 3 * MOST_BYTES + 7;
 
-/// A line with a caret below it, or nothing where no line is shown.
+/// A line with a caret below it, or nothing if no line is shown.
 pub type Snippet = ArrayVec<u8, MOST_SHOWN>;
 
-/// Whether a terminal may take it for more than a character.
+/// Whether a terminal may treat it as more than a character.
 fn is_hidden(c: char) -> bool
     ensures { result ≡ is_hidden_of c }
 {
@@ -34,7 +34,7 @@ fn shown(c: char) -> char
     if is_hidden(c) { ' ' } else { c }
 }
 
-/// A part of a line as it is shown. No character takes more bytes than the one for which it is shown.
+/// A part of a line as it is shown. No character takes more bytes than the one that it replaces.
 fn visible(part: &str) -> ArrayString<MOST_BYTES>
     requires { length part.now ≤ MOST_BYTES }
     ensures { result.bytes ≡ visible_of part.now }
@@ -46,7 +46,7 @@ fn visible(part: &str) -> ArrayString<MOST_BYTES>
     text
 }
 
-/// What stands in a line after so many clusters.
+/// The part of a line after a number of clusters.
 fn after_clusters(line: &str, count: u32) -> &str
     ensures { result.now ≡ concat (drop count (graphemes true line.now)) }
 {
@@ -60,7 +60,7 @@ fn after_clusters(line: &str, count: u32) -> &str
     clusters.as_str()
 }
 
-/// What stands in a line before a column.
+/// The part of a line before a column.
 fn before_column(line: &str, column: u32) -> &str
     ensures before { result.now ≡ before_column_of column line.now }
     ensures within { length result.now ≤ length line.now }
@@ -69,7 +69,7 @@ fn before_column(line: &str, column: u32) -> &str
     &line[..line.len() - after.len()]
 }
 
-/// Adds a text for which there is room.
+/// Appends a text for which there is room.
 fn put(snippet: &mut Snippet, text: &[u8])
     requires { length snippet.old.items + length text.now ≤ MOST_SHOWN }
     ensures { snippet.new.items ≡ snippet.old.items ++ text.now }
@@ -77,7 +77,7 @@ fn put(snippet: &mut Snippet, text: &[u8])
     let _ = snippet.try_extend_from_slice(text);
 }
 
-/// Adds blanks for which there is room.
+/// Appends blanks for which there is room.
 fn put_blanks(snippet: &mut Snippet, count: usize)
     requires { length snippet.old.items + count ≤ MOST_SHOWN }
     ensures { snippet.new.items ≡ snippet.old.items ++ replicate count 32 }

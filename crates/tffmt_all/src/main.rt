@@ -26,7 +26,7 @@ fn main(rt: HostRuntime) -> ExitCode {
     ExitCode::from(status)
 }
 
-/// Runs the program by these words over the files of the system.
+/// Runs the program with these words over the system's files.
 fn run_over<O: ByteSink, E: ByteSink>(
     rt: &HostRuntime,
     words: &[Vec<u8>],

@@ -5,16 +5,17 @@ use std::time::{Duration, Instant};
 use tree_format::outcome::Outcome;
 use tree_format::progress::Progress;
 
-/// How often the line is shown anew, in milliseconds.
+/// The interval at which the line is shown anew, in milliseconds.
 const EVERY: u64 = 1_000;
 
-/// On a terminal the lines of faults are shown, and work that takes longer than a second shows on standard error how many
-/// files were looked at, and how many of them change. That line is taken away before anything else is said, and at the end.
+/// On a terminal the lines of faults are shown, and work that takes longer than a second shows on standard error how
+/// many files were looked at, and how many of them change. That line is removed before anything else is printed, and at
+/// the end.
 #[derive(Drop)]
 pub struct ProgressLine {
     rt: HostRuntime,
     is_terminal: bool,
-    /// When the run began or the line was shown last. None where nothing is shown.
+    /// The time when the run began or the line was last shown. None if nothing is shown.
     last: Option<Instant>,
     looked: u64,
     changed: u64,

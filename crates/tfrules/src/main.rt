@@ -21,12 +21,12 @@ fn main(rt: HostRuntime) -> ExitCode {
         return ExitCode::from(NO_WORDS);
     };
     let status = lint(&rt, &mut buffered);
-    // Dropped whole, the buffer would try again what a failed write left.
+    // If it were dropped whole, the buffer would repeat what a failed write left.
     let (_, _) = buffered.into_parts();
     ExitCode::from(status)
 }
 
-/// Hands the process's words, its files and its streams to the program, and answers the status.
+/// Passes the process's words, its files and its streams to the program, and returns the status.
 fn lint<W: Write>(rt: &HostRuntime, stdout: &mut W) -> u8 {
     let mut out = ToWrite::new(stdout);
     let mut err = ToWrite::new(rt.stderr());
@@ -37,7 +37,7 @@ fn lint<W: Write>(rt: &HostRuntime, stdout: &mut W) -> u8 {
     }
 }
 
-/// Runs the program by these words over the files of the system.
+/// Runs the program with these words over the system's files.
 fn lint_files<O: ByteSink, E: ByteSink>(
     rt: &HostRuntime,
     words: &[String],

@@ -8,7 +8,7 @@ use std::hash::RandomState;
 use tfrules_command::Hashing;
 use tfrules_command::module_files::{ModuleFiles, OpenFault};
 
-/// A file that was opened. It tells no bytes. Where the run got no seed, its first read fails.
+/// An opened file. It tells no bytes. If the run got no seed, its first read fails.
 #[derive(Drop)]
 pub struct FileReader {
     reader: FromRead<File>,
@@ -45,8 +45,8 @@ pub struct SystemFiles {
 }
 
 impl SystemFiles {
-    /// Files of which none was opened yet. What they name is hashed by the seed. Where the system gave none, no file can be
-    /// read, since names could be made that fall together under a seed that is known.
+    /// The system's files, none opened yet. Names in them are hashed with the seed. If the system gave none, no file
+    /// can be read, since names could be made that collide under a known seed.
     pub fn new(rt: HostRuntime, seed: Option<RandomState>) -> SystemFiles
         ensures opened { ⟦<SystemFiles as ModuleFiles>⟧.open_failed result ≡ false }
         ensures read { ⟦<SystemFiles as ModuleFiles>⟧.read_failed result ≡ false }

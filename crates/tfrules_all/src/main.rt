@@ -15,7 +15,7 @@ use tfrules_command::Hashing;
 use tree_lint::module_tree::ModuleTree;
 use tree_lint::written::Terminals;
 
-/// The status of a run that got no words, or no seed by which names are hashed: nothing is printed.
+/// The status of a run that got no words, or no seed for hashing names: nothing is printed.
 const NO_WORDS: u8 = 1;
 
 fn main(rt: HostRuntime) -> ExitCode {
@@ -28,8 +28,8 @@ fn main(rt: HostRuntime) -> ExitCode {
     ExitCode::from(status)
 }
 
-/// Runs the program by these words over the files of the system. Names could be made that fall together under a seed that is
-/// known, so without one nothing is read.
+/// Runs the program with these words over the system's files. Names could be made that collide under a known seed, so
+/// without a seed of its own the run reads nothing.
 fn lint<O: ByteSink, E: ByteSink>(
     rt: &HostRuntime,
     words: &[Vec<u8>],

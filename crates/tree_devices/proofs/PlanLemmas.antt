@@ -36,6 +36,6 @@ untold_at : (bytes : List ℕ) (v : Bool) → untold ≡ (if v then option_map (
 untold_at bytes true = refl
 untold_at bytes false = refl
 
--- a file is replaced whose bytes aren't told
+-- a file whose bytes aren't told is replaced
 pub untold_put : (rows : List PlannedName) (name : Name) (bytes : List ℕ) → planned_files rows ≡ put (planned_files rows) name bytes
 untold_put rows name bytes = λ i. record (planned_files rows) { told = λ other. untold_at bytes (bytes_eq other name) i }

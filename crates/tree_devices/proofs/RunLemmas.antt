@@ -26,7 +26,7 @@ notes_one before after answer fresh notes = by notes.is
     by (inl h) = inl (h ∙ ap (λ f. with_fault f (failure_of answer)) fresh ∙ one_told (failure_of answer))
     by (inr h) = inr (h.0, h.1 ∙ fresh)
 
--- ---- files that are told
+-- ---- files that the tree tells
 
 pub ready_in : (files : Files) (f : Found) (name : List ℕ) → f.fault ≡ None → name ≡ f.name.items → IsToldIn files name → IsReadyIn files f
 ready_in files f name none is told =

@@ -1,4 +1,4 @@
--- A text that is stored before others.
+-- A text stored before others.
 use Rattle.std.proofs.Common.{◌≡◌, ℕ, Bool, true, false, List, ◌∷◌, Option, Some, None, refl, sym, subst, cond, true≢false}
 use Rattle.std.specs.Prelude.{IsSome, find, option_map, if◌then◌else◌}
 use Rattle.std.specs.Str.{bytes_eq}

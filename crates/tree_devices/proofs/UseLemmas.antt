@@ -1,4 +1,4 @@
--- What a walk says over a tree that tells all its faults.
+-- The result of a walk over a tree that tells all its faults.
 use Rattle.std.proofs.Common.{◌≡◌, ◌∙◌, [], List, ap, Some, Result, Ok, Err}
 use Rattle.std.specs.Prelude.{IfOk}
 use Rattle.file_tree.specs.Choices.{Chosen}

@@ -1,5 +1,5 @@
--- What a tree in memory tells: what its names stand for, what its folders list, the bytes of its files, and where its links
--- lead. Our own choice.
+-- What a tree in memory tells: what its names stand for, the names in its folders, the bytes of its files, and where
+-- its links lead. Our own choice.
 use Rattle.std.specs.Prelude.{ℕ, List, Option, Some, None, find, option_map, unwrap_or}
 use Rattle.std.specs.Str.{bytes_eq}
 use Rattle.file_tree.specs.Files.{Files, Name}
@@ -11,11 +11,11 @@ use Rattle.tree_devices.specs.declared.stored.Stored.{Stored}
 abbrev pub text_in : List Stored → Name → Option (List ℕ)
 text_in stored name = option_map (λ s. s.bytes.items) (find (λ s. bytes_eq name s.name.items) stored)
 
--- where a name leads: where the link of this name does, or to the name itself
+-- where a name leads: to the target of its link, or to the name itself
 abbrev pub real_in : List Stored → Name → Name
 real_in links name = unwrap_or (text_in links name) name
 
--- the first answers that are known of a name
+-- the first known answers for a name
 abbrev pub known_in : List Known → Name → Option Known
 known_in known name = find (λ k. bytes_eq name k.name.items) known
 

@@ -1,4 +1,4 @@
--- What a tree tells whose calls fail by a plan. Our own choice.
+-- What a tree whose calls fail by a plan tells. Our own choice.
 use Rattle.std.specs.Prelude.{List, [], ◌∷◌, Option, Some, None, find, option_map}
 use Rattle.std.specs.Str.{bytes_eq}
 use Rattle.file_tree.specs.Files.{Files, Name}

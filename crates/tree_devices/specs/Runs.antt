@@ -1,4 +1,4 @@
--- What runs over trees in memory say.
+-- The results of runs over trees in memory.
 use Rattle.std.specs.Prelude.{◌≡◌, ◌≢◌, ◌⊎◌, ◌||◌, Bool, true, false, ℕ, List, [], ◌∷◌, Option, Some, None}
 use Rattle.std.specs.List.{list_any}
 use Rattle.command_line.specs.Rows.{End}
@@ -15,16 +15,16 @@ use Rattle.tree_format.specs.declared.mode.Mode.{Mode}
 use Rattle.tree_format.specs.declared.mode.Mode.TheVariants.{Write}
 use Rattle.tree_format.specs.declared.outcome.Outcome.{Outcome}
 
--- a fault in a list, where there is one
+-- a fault in a list, if there is one
 abbrev pub faults_of : Option TreeFault → List TreeFault
 faults_of None = []
 faults_of (Some fault) = fault ∷ []
 
--- the tree told the fault of this answer as the one fault of its calls, or none where memory ran out
+-- the tree told the fault of this answer as the one fault of its calls, or none if memory ran out
 abbrev pub NotesOne : Faults → Outcome → Type 0
 NotesOne told answer = (told ≡ Some (faults_of (failure_of answer))) ⊎ ((failure_of answer ≡ Some OutOfMemory) × (told ≡ Some []))
 
--- where this run has status 4 and no writer failed, a look of it failed
+-- if this run has status 4 and no writer failed, one of its looks failed
 abbrev pub FailsByALook : Mode → List Found → State → State → End → Type 0
 FailsByALook mode found before after end =
     end.status ≡ 4 → (end.out.failed || end.err.failed) ≡ false → (run : IsRun false mode found (λ answers. []) before after end) × (list_any is_failed run.answers ≡ true)
@@ -33,7 +33,7 @@ FailsByALook mode found before after end =
 abbrev pub IsToldIn : Files → Name → Type 0
 IsToldIn files name = (bytes : List ℕ) × (files.told (files.real name) ≡ Some bytes) × HasFormatOrFault bytes
 
--- nothing stands in the way of a look at a file that is to be written, where no lines of faults are shown
+-- nothing prevents a look at a file that is to be written, if no lines of faults are shown
 abbrev pub IsReadyIn : Files → Found → Type 0
 IsReadyIn files f = (writing : Writing) → (f.fault ≡ None) × IsReady false (Write writing) f.name.items (files.told (files.real f.name.items))
 

@@ -1,4 +1,4 @@
--- What walks over trees in memory say.
+-- The results of walks over trees in memory.
 use Rattle.std.specs.Prelude.{◌≡◌, ◌⊎◌, List, Some, map}
 use Rattle.std.specs.List.{Contains}
 use Rattle.file_tree.specs.Choices.{Chosen}
@@ -7,7 +7,7 @@ use Rattle.file_tree.specs.Finds.{Failure, IsOtherIn}
 use Rattle.file_tree.specs.declared.fault.TreeFault.{TreeFault}
 use Rattle.file_tree.specs.declared.walk.Found.{Found}
 
--- the tree told all its calls that failed, under which names they are reported; each name that is reported is one of these,
+-- the tree told all its failed calls, with the names under which they are reported; each reported name is one of these,
 -- with its fault, or is of another kind
 pub record AreOfCalls (files : Files) (chosen : Chosen) (paths : List Name) (told : Faults) (found : List Found) : Type 0 where
   pub noted : List Failure

@@ -4,7 +4,7 @@ use file_tree::fault::TreeFault;
 use file_tree::tree::{Replaced, Writing};
 use std::alloc::Global;
 
-/// What a call does.
+/// The steps of a call.
 #[derive(Clone, Copy, Debug, PartialEq, Eq)]
 pub enum Step {
     Kind,
@@ -25,7 +25,7 @@ pub enum Step {
 }
 
 impl Step {
-    /// Why it can't be done, where nothing else is said.
+    /// Why it fails, if no other fault is given.
     fn usual_fault(self) -> TreeFault {
         match self {
             Step::Kind | Step::EntryKind | Step::Opening => TreeFault::Unreadable,
@@ -42,7 +42,7 @@ impl Step {
         }
     }
 
-    /// Whether there is a file beside the old one while it is done.
+    /// Whether there is a file beside the old one during this step.
     pub fn has_file_beside(self) -> bool {
         matches!(
             self,
@@ -56,9 +56,9 @@ impl Step {
 pub struct Failures {
     /// The call of this number, from 0 on.
     pub call: Option<usize>,
-    /// Why that call fails, where it isn't for the usual fault.
+    /// The fault of that call, if it isn't the usual one.
     pub fault: Option<TreeFault>,
-    /// Of the file that is opened at this number, from 0 on, the read after so many good ones.
+    /// In the file that is opened at this number, from 0 on, the read after this many good ones.
     pub read: Option<(usize, usize)>,
     /// Each making of a file beside another.
     pub making: bool,
@@ -78,7 +78,7 @@ pub const STEADY: Failures = Failures {
     group: false,
 };
 
-/// The calls so far: how many there were, and which failed.
+/// The calls so far: their number, and which failed.
 #[derive(Drop)]
 pub struct Calls {
     failures: Failures,
@@ -101,7 +101,7 @@ impl Calls {
         }
     }
 
-    /// What the call did that failed, where one did.
+    /// The step of the call that failed, if one did.
     pub fn failed(&self) -> Option<Step> {
         self.failed
     }
@@ -111,7 +111,7 @@ impl Calls {
         self.failed_name.as_slice()
     }
 
-    /// Why it failed, if it is of this kind.
+    /// Its fault, if it is of this kind.
     pub fn fault(&self, step: Step) -> TreeFault {
         match self.failures.fault {
             Some(fault) => fault,
@@ -119,7 +119,7 @@ impl Calls {
         }
     }
 
-    /// How many files stand beside others for which they were made.
+    /// How many files there are beside others for which they were made.
     pub fn beside(&self) -> usize {
         self.beside
     }
@@ -129,7 +129,7 @@ impl Calls {
         let _ = self.failed_name.extend_from_slice(name);
     }
 
-    /// One call more, which fails if it is its turn.
+    /// Another call, which fails if it is its turn.
     pub fn make(&mut self, step: Step, name: &[u8]) -> Result<(), TreeFault> {
         let number = self.count;
         self.count = number.saturating_add(1);
@@ -141,7 +141,7 @@ impl Calls {
         Err(self.fault(step))
     }
 
-    /// A file is opened. Answers how many of its reads are good, where one fails.
+    /// A file is opened. Returns how many of its reads are good, if one is to fail.
     pub fn open(&mut self, name: &[u8]) -> Option<usize> {
         let number = self.opened;
         self.opened = number.saturating_add(1);
@@ -154,7 +154,7 @@ impl Calls {
         }
     }
 
-    /// A read of the file failed of which one was to fail.
+    /// The read of the file that was to fail has failed.
     pub fn note_read(&mut self) {
         self.failed = Some(Step::Reading);
     }
@@ -177,7 +177,7 @@ impl Calls {
         self.make(Step::Renaming, name)
     }
 
-    /// Makes a file beside the old one and renames it. Where that fails, it is removed.
+    /// Makes a file beside the old one and renames it. If that fails, it is removed.
     fn put_beside(&mut self, name: &[u8], is_same: bool, sync: bool) -> Result<(), TreeFault> {
         self.make(Step::Making, name)?;
         if self.failures.making {
@@ -196,7 +196,7 @@ impl Calls {
         self.make(Step::Overwriting, name)
     }
 
-    /// What a new file keeps of the rights to the old one.
+    /// The rights of a new file in place of the old one.
     fn kept(&self) -> Replaced {
         if self.failures.group {
             Replaced::Narrowed
@@ -205,7 +205,7 @@ impl Calls {
         }
     }
 
-    /// All that a replacement does until the new bytes are there. What is written over keeps all rights.
+    /// All steps of a replacement before the new bytes are in place. A file that is overwritten keeps all rights.
     pub fn replace(
         &mut self,
         name: &[u8],

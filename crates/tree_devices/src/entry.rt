@@ -1,8 +1,8 @@
-//! What a tree in memory is made of.
+//! The entries of a tree in memory.
 
 use file_tree::kind::{Identity, Kind};
 
-/// What stands under a name.
+/// The entry under a name.
 #[derive(Clone, Copy, Debug, PartialEq, Eq)]
 pub enum Stands<'a> {
     Folder,
@@ -10,8 +10,7 @@ pub enum Stands<'a> {
     File(&'a [u8]),
     /// A file of these bytes, which another program changes after it was read.
     Busy(&'a [u8]),
-    /// A file of these bytes, which stands under this other name too. Where one of the two is replaced, the other keeps its
-    /// bytes.
+    /// A file of these bytes, which has this other name too. If one of the two is replaced, the other keeps its bytes.
     Same(&'a [u8], &'a [u8]),
     /// A file that is gone before it is opened.
     Gone,
@@ -21,7 +20,7 @@ pub enum Stands<'a> {
 }
 
 impl<'a> Stands<'a> {
-    /// What it is, a link being one, where its file is this one.
+    /// Its kind, with links not followed, if its file is this one.
     pub fn kind(self, identity: Identity) -> Kind {
         match self {
             Stands::Folder => Kind::Folder,
@@ -34,7 +33,7 @@ impl<'a> Stands<'a> {
     }
 }
 
-/// A name with what stands under it. A folder has no slash at its end, and the current one no name.
+/// A name with its entry. A folder has no slash at its end, and the current one no name.
 #[derive(Clone, Copy, Debug)]
 pub struct Entry<'a> {
     pub name: &'a [u8],

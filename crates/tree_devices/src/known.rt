@@ -2,14 +2,14 @@
 
 use file_tree::kind::Kind;
 
-/// A name as it may be asked for, and what is answered.
+/// A name as it may be looked up, and the answers.
 #[derive(Debug, Drop)]
 pub struct Known {
     pub name: Vec<u8>,
     /// Links followed, unless the link leads nowhere.
     pub kind: Option<Kind>,
-    /// A link being one.
+    /// Links not followed.
     pub entry: Kind,
-    /// The names in it, each ended by NUL, where it is a folder.
+    /// The names in it, each ended by NUL, if it is a folder.
     pub listing: Option<Vec<u8>>,
 }

@@ -1,5 +1,5 @@
-//! Trees in memory, for tests and as devices that tell what they have: of one the calls fail that are named, and the other's
-//! calls go by a plan.
+//! Trees in memory, for tests and as devices that tell: in one the named calls fail, and in the other calls fail by a
+//! plan.
 #![tactic(auto)]
 
 pub mod calls;

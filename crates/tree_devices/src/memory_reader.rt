@@ -5,7 +5,7 @@ ghost use Rattle.std.specs.Prelude.{◌≡◌, Some, false};
 use hcl_scan::{ByteSource, Failed};
 use std::io::{Cursor, Read};
 
-/// A file in memory that was opened.
+/// An opened file in memory.
 #[derive(Drop)]
 pub struct MemoryReader {
     cursor: Cursor<Vec<u8>>,
@@ -14,7 +14,7 @@ pub struct MemoryReader {
 }
 
 impl MemoryReader {
-    /// A reader of these bytes. The read after so many good ones fails, where one is to fail.
+    /// A reader of these bytes. The read after this many good ones fails, if one is to fail.
     pub fn new(bytes: Vec<u8>, good_reads: Option<usize>) -> MemoryReader
         ensures left { ⟦<MemoryReader as ByteSource>⟧.left result ≡ Some bytes.items }
         ensures fresh { ⟦<MemoryReader as ByteSource>⟧.failed result ≡ false }

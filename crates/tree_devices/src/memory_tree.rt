@@ -1,4 +1,4 @@
-//! A tree in memory, of which calls fail.
+//! A tree in memory with calls that fail.
 
 ghost use Rattle.std.specs.Prelude.{◌≡◌, Err, false, IfOk, None, OnErr, OnOk, Some, find, option_map};
 ghost use Rattle.std.specs.Str.{bytes_eq};
@@ -18,9 +18,9 @@ use file_tree::tree::{Replaced, Tree, WritableTree, Writing};
 use hcl_scan::ByteSource;
 use std::alloc::{AllocError, Global};
 
-/// Folders, files, links and pipes in memory. It tells what its names stand for and what its folders list, the bytes of its
-/// files, and where its links lead; a link to a link leads nowhere. A file is told from others by the number of its entry.
-/// A name that isn't UTF-8 it doesn't take, as the system's.
+/// Folders, files, links and pipes in memory. It tells what its names stand for and the names in its folders, the bytes
+/// of its files, and where its links lead; a link to a link leads nowhere. The number of its entry identifies a file.
+/// It doesn't take a name that isn't UTF-8, like the system's.
 #[derive(Drop)]
 pub struct MemoryTree<'a> {
     alloc: Global,
@@ -33,7 +33,7 @@ pub struct MemoryTree<'a> {
     calls: Calls,
 }
 
-/// What is stored under a name.
+/// The text stored under a name.
 fn stored_as<'s>(stored: &'s [Stored], name: &[u8]) -> Option<&'s Stored>
     ensures { option_map (λ s. s.now) result
         ≡ find (λ s. bytes_eq name.now s.name.items) stored.now }
@@ -41,7 +41,7 @@ fn stored_as<'s>(stored: &'s [Stored], name: &[u8]) -> Option<&'s Stored>
     stored.iter().find(|s| *name == *s.name.as_slice())
 }
 
-/// What is known of a name.
+/// The known answers for a name.
 fn known_as<'s>(known: &'s [Known], name: &[u8]) -> Option<&'s Known>
     ensures { option_map (λ k. k.now) result ≡ known_in known.now name.now }
 {
@@ -68,7 +68,7 @@ fn real_in<'s>(links: &'s [Stored], name: &'s [u8]) -> &'s [u8]
     }
 }
 
-/// Stores a text before those that are there.
+/// Stores a text before the present ones.
 fn store(
     alloc: Global,
     stored: &mut Vec<Stored>,
@@ -83,7 +83,7 @@ fn store(
     }
 }
 
-/// A name as entries have it that isn't below the current folder by its full path.
+/// A name as entries have it, if its full path isn't below the current folder.
 fn tidied(name: &[u8]) -> &[u8] {
     let name = match name.strip_prefix(b"./".as_slice()) {
         Some(rest) => rest,
@@ -96,7 +96,7 @@ fn tidied(name: &[u8]) -> &[u8] {
     if name == b".".as_slice() { b"" } else { name }
 }
 
-/// What of a full path stands below this folder, where it is below.
+/// The part of a full path below this folder, if it is below.
 fn below<'n>(current: &[u8], path: &'n [u8]) -> Option<&'n [u8]> {
     if path == current {
         return Some(b"");
@@ -113,7 +113,7 @@ fn plain<'n>(current: &[u8], name: &'n [u8]) -> &'n [u8] {
     below(current, name).unwrap_or(name)
 }
 
-/// The name that an entry has in a folder, where it is in it.
+/// The name that an entry has in a folder, if it is in it.
 fn name_in<'n>(folder: &[u8], name: &'n [u8]) -> Option<&'n [u8]> {
     let rest = if folder.is_empty() {
         name
@@ -127,7 +127,7 @@ fn name_in<'n>(folder: &[u8], name: &'n [u8]) -> Option<&'n [u8]> {
 }
 
 impl<'a> MemoryTree<'a> {
-    /// A tree that has these entries, whose current folder is the top of all.
+    /// A tree with these entries, whose current folder is the top of all.
     pub fn new(
         alloc: Global,
         entries: &'a [Entry<'a>],
@@ -151,8 +151,8 @@ impl<'a> MemoryTree<'a> {
         Ok(tree)
     }
 
-    /// The same, but that the current folder has this full path, without a `/` at its end. An entry that isn't below it is
-    /// named by its full path, and the others have that name too.
+    /// A tree with these entries, whose current folder has this full path, without a `/` at its end. An entry that
+    /// isn't below it is named by its full path, and the others have that name too.
     pub fn new_in(
         alloc: Global,
         current: &'a [u8],
@@ -169,7 +169,7 @@ impl<'a> MemoryTree<'a> {
         Ok(tree)
     }
 
-    /// Stores what an entry has under a name.
+    /// Stores the contents of an entry under a name.
     fn keep(&mut self, name: &[u8], stands: Stands<'_>) -> Result<(), AllocError> {
         match stands {
             Stands::File(bytes) | Stands::Busy(bytes) | Stands::Same(bytes, _) => {
@@ -208,7 +208,7 @@ impl<'a> MemoryTree<'a> {
         Ok(path)
     }
 
-    /// Keeps the answers of an entry: of its name, and where it is a folder, of that with a slash.
+    /// Keeps the answers for an entry: for its name, and for a folder also for the name with a slash.
     fn learn(&mut self, entry: &Entry<'_>) -> Result<(), AllocError> {
         self.keep_answers(entry.name)?;
         if entry.name.is_empty() {
@@ -247,7 +247,7 @@ impl<'a> MemoryTree<'a> {
         }
     }
 
-    /// What is told of a name, links followed.
+    /// What the tree tells of a name, with links followed.
     fn told_kind(&self, name: &[u8]) -> Result<Kind, TreeFault>
         ensures { IfOk result (Tells (kind_told (known_in self.now.known.items name.now))) }
     {
@@ -260,7 +260,7 @@ impl<'a> MemoryTree<'a> {
         }
     }
 
-    /// What is told of a name, a link being one.
+    /// What the tree tells of a name, with links not followed.
     fn told_entry(&self, name: &[u8]) -> Result<Kind, TreeFault>
         ensures kind { IfOk result
             (Tells (option_map (λ k. k.entry) (known_in self.now.known.items name.now))) }
@@ -273,7 +273,7 @@ impl<'a> MemoryTree<'a> {
         }
     }
 
-    /// What is told of the names in a folder.
+    /// What the tree tells of the names in a folder.
     fn told_names(&self, folder: &[u8]) -> Result<Vec<u8>, TreeFault>
         ensures { IfOk result
             (λ names. Tells (listing_told (known_in self.now.known.items folder.now)) names.items) }
@@ -318,7 +318,7 @@ impl<'a> MemoryTree<'a> {
         None
     }
 
-    /// What tells the file of this name from others: how many entries stand before its own, or before that of its other name.
+    /// The identity of the file with this name: the number of entries before its own, or before that of its other name.
     fn identity_of(&self, name: &[u8]) -> Identity {
         let name = match self.stands(name) {
             Some(Stands::Same(_, other)) => other,
@@ -335,7 +335,7 @@ impl<'a> MemoryTree<'a> {
         }
     }
 
-    /// What a name stands for, a link being one, where it stands for something.
+    /// The kind of a name, with links not followed, if it exists.
     fn kind_at(&self, name: &[u8]) -> Option<Kind> {
         match self.stands(name) {
             Some(stands) => Some(stands.kind(self.identity_of(name))),
@@ -343,7 +343,7 @@ impl<'a> MemoryTree<'a> {
         }
     }
 
-    /// What a name stands for, a link being one.
+    /// The kind of a name, with links not followed.
     fn entry_kind_of(&self, name: &[u8]) -> Result<Kind, TreeFault> {
         if std::str::from_utf8(name).is_err() {
             return Err(TreeFault::NotUtf8);
@@ -355,7 +355,7 @@ impl<'a> MemoryTree<'a> {
         }
     }
 
-    /// What a name stands for, links followed.
+    /// The kind of a name, with links followed.
     fn kind_of(&self, name: &[u8]) -> Result<Kind, TreeFault> {
         let Some(Stands::Link(to)) = self.stands(name) else {
             return self.entry_kind_of(name);
@@ -414,7 +414,7 @@ impl<'a> MemoryTree<'a> {
         }
     }
 
-    /// Whether the file to which a name leads has these bytes still.
+    /// Whether the file to which a name leads still has these bytes.
     fn has_bytes(&self, name: &[u8], bytes: &[u8]) -> bool {
         if let Some(Stands::Busy(_)) = self.stands(name) {
             return false;
@@ -473,7 +473,7 @@ impl<'a> Tree for MemoryTree<'a> {
     fn entry_kind(&mut self, name: &[u8]) -> Result<Kind, TreeFault> {
         match self.calls.make(Step::EntryKind, name) {
             Ok(()) => self.told_entry(name),
-            // That a call fails doesn't say that nothing stands there.
+            // A failed call doesn't say that a name doesn't exist.
             Err(TreeFault::Missing) => Err(TreeFault::Unreadable),
             Err(fault) => Err(fault),
         }

@@ -10,13 +10,13 @@ use file_tree::tree::{Replaced, Tree, WritableTree, Writing};
 use hcl_scan::{ByteSource, Failed};
 use std::alloc::Global;
 
-/// A name, and what stands under it.
+/// A name and its entry.
 #[derive(Clone, Copy, Debug)]
 pub struct PlannedName<'a> {
     pub name: &'a [u8],
     /// Links followed.
     pub kind: Kind,
-    /// A link being one.
+    /// Links not followed.
     pub entry: Kind,
 }
 
@@ -38,9 +38,10 @@ impl ByteSource for EmptyReader {
     }
 }
 
-/// A tree that tells what its names stand for, links followed, and the faults of its calls: each call takes the next place of the plan, and
-/// after the last one no call fails. Its folders are empty, and it tells no bytes: to give away names or bytes takes memory,
-/// which may be refused at any time, so a tree that tells them can't tell all its faults too.
+/// A tree that tells what its names stand for, with links followed, and the faults of its calls: each call takes the
+/// next place of the plan, and after the last one no call fails. Its folders are empty, and it tells no bytes: to
+/// return names or bytes takes memory, which may be refused at any time, so a tree that tells them can't tell all its
+/// faults too.
 #[derive(Drop)]
 pub struct PlannedTree<'a> {
     alloc: Global,
@@ -50,7 +51,7 @@ pub struct PlannedTree<'a> {
 }
 
 impl<'a> PlannedTree<'a> {
-    /// A tree of these names, whose first calls fail as the plan says.
+    /// A tree with these names, whose first calls fail as the plan says.
     pub fn new(
         alloc: Global,
         names: &'a [PlannedName<'a>],
@@ -67,7 +68,7 @@ impl<'a> PlannedTree<'a> {
         }
     }
 
-    /// Makes a call more. Answers why it fails, if it does.
+    /// Makes another call. Returns its fault, if it fails.
     #[tactic(auto, using(crate::proofs::PlanLemmas::taken))]
     fn call(&mut self) -> Result<(), TreeFault>
         ensures rows { self.new.names.now ≡ self.old.names.now }

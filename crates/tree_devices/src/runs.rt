@@ -1,4 +1,4 @@
-//! Looks and runs over the trees of this crate: what the laws of runs ask for, these have.
+//! Looks and runs over the trees of this crate, which meet the premises of the laws of runs.
 
 ghost use Rattle.std.specs.Prelude.{◌≡◌, ◌&&◌, [], Some, false, true};
 ghost use Rattle.command_line.specs.Rows.{end_of};
@@ -18,7 +18,7 @@ use tree_format::outcome::Outcome;
 use tree_format::progress::Progress;
 use tree_format::run::run_over;
 
-/// Who watches nothing.
+/// An observer that does nothing.
 #[derive(Drop)]
 struct Nobody;
 
@@ -45,13 +45,13 @@ pub fn visit_planned<'a>(
     tree: &mut PlannedTree<'a>,
 ) -> Outcome
     requires fresh { ⟦<PlannedTree<'a> as Tree>⟧.faults tree.old ≡ Some [] }
-    // Where it fails, that is the one fault of the tree's calls, or memory ran out.
+    // If it fails, that is the one fault of the tree's calls, or memory ran out.
     ensures notes { NotesOne (⟦<PlannedTree<'a> as Tree>⟧.faults tree.new) result }
 {
     visit(alloc, false, mode, name, tree)
 }
 
-/// A run over files that were found in a tree whose calls fail by a plan. Answers its status.
+/// A run over found files in a tree whose calls fail by a plan. Returns its status.
 pub fn run_planned<'a, O: ByteSink, E: ByteSink>(
     alloc: Global,
     mode: Mode,
@@ -72,7 +72,7 @@ pub fn run_planned<'a, O: ByteSink, E: ByteSink>(
     ran.status
 }
 
-/// Whether the bytes of the file to which a name leads are told.
+/// Whether the tree tells the bytes of the file to which a name leads.
 fn is_told<'a>(name: &[u8], tree: &MemoryTree<'a>) -> bool
     ensures { result ≡ true → IsToldIn (⟦<MemoryTree<'a> as Tree>⟧.files tree.now) name.now }
 {
@@ -85,7 +85,7 @@ fn is_told<'a>(name: &[u8], tree: &MemoryTree<'a>) -> bool
     }
 }
 
-/// Whether nothing stands in the way of a look at a file that was found.
+/// Whether nothing prevents a look at a found file.
 fn is_ready<'a>(found: &Found, tree: &MemoryTree<'a>) -> bool
     ensures { result ≡ true → IsReadyIn (⟦<MemoryTree<'a> as Tree>⟧.files tree.now) found.now }
 {
@@ -101,7 +101,7 @@ fn both(one: bool, other: bool) -> bool
     one && other
 }
 
-/// Whether there is a run over these files of the tree in which nothing fails: each is told.
+/// Whether there is a run over these files of the tree in which nothing fails: the tree tells each.
 pub fn has_good_run<'a>(found: &[Found], tree: &MemoryTree<'a>) -> bool
     ensures { result ≡ true
         → HasGoodRun found.now (state_of ⟦<MemoryTree<'a> as Tree>⟧ tree.now) }

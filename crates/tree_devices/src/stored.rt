@@ -1,6 +1,6 @@
 //! A text under a name.
 
-/// A text under a name: the bytes of a file, or where a link leads.
+/// A text under a name: the bytes of a file, or the target of a link.
 #[derive(Debug, Drop)]
 pub struct Stored {
     pub name: Vec<u8>,

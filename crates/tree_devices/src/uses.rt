@@ -1,4 +1,4 @@
-//! Walks over the trees of this crate: what `find` promises of a tree that tells holds of these.
+//! Walks over the trees of this crate: the promises of `find` for a tree that tells hold for these.
 
 ghost use Rattle.std.specs.Prelude.{◌≡◌, [], IfOk, Some, map};
 ghost use Rattle.file_tree.specs.Choices.{chosen};

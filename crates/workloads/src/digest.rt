@@ -1,4 +1,4 @@
-//! A digest of all that a run wrote.
+//! A digest of a run's output.
 
 ghost use Rattle.std.specs.Prelude.{◌≡◌, false, None};
 
@@ -7,11 +7,11 @@ use hcl_source::Flushes;
 
 const FACTOR: u64 = 0x9e37_79b9_7f4a_7c15;
 
-/// A digest of bytes, whatever the calls that brought them.
+/// A digest of bytes, however the calls divide them.
 #[derive(Clone, Copy)]
 pub struct Digest {
     mixed: u64,
-    /// The bytes that are no whole word yet, the first one lowest, and how many.
+    /// The bytes that are no whole word yet, the first one lowest, and their number.
     begun: u64,
     count: u32,
     length: u64,
@@ -76,14 +76,14 @@ impl Digest {
         self.add(&[status]);
     }
 
-    /// Adds what another digest is.
+    /// Adds another digest.
     pub fn add_words(&mut self, other: Digest) {
         let (mixed, length) = other.value();
         self.add(&mixed.to_le_bytes());
         self.add(&length.to_le_bytes());
     }
 
-    /// The digest, and of how many bytes.
+    /// The digest, and the number of bytes.
     pub fn value(mut self) -> (u64, u64) {
         let length = self.length;
         let begun = self.begun;
@@ -93,7 +93,7 @@ impl Digest {
     }
 }
 
-/// A sink of which a digest is all that is left. It never fails and tells nothing.
+/// A sink that keeps only a digest. It never fails and tells nothing.
 #[derive(Clone, Copy)]
 pub struct DigestSink {
     digest: Digest,
@@ -102,7 +102,7 @@ pub struct DigestSink {
 }
 
 impl DigestSink {
-    /// A sink that goes on with a digest.
+    /// A sink that continues with a digest.
     pub fn new(digest: Digest) -> DigestSink
         ensures { ⟦<DigestSink as ByteSink>⟧.failed result ≡ false }
     {

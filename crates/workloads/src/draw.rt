@@ -1,8 +1,8 @@
-//! Numbers by chance, the same for the same seed.
+//! Random numbers, the same for the same seed.
 
 ghost use Rattle.std.specs.Prelude.{◌≤◌};
 
-/// What numbers are drawn from: a counter, whose values are mixed.
+/// The state of the generator: a counter, whose values are mixed.
 #[derive(Clone, Copy)]
 pub struct Draw {
     state: u64,

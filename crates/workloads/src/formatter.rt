@@ -1,4 +1,4 @@
-//! Files that are formatted, one after another.
+//! Files that are formatted, in turn.
 
 use crate::digest::{Digest, DigestSink};
 use crate::made_text::MadeText;
@@ -7,7 +7,7 @@ use crate::texts::{Maker, Shape};
 use std::alloc::{AllocError, Global};
 use tffmt_command::run::program;
 
-/// Formats a text, as the program does that is given it.
+/// Formats a text, like the program.
 fn format(alloc: Global, text: Vec<u8>, digest: &mut Digest) {
     let mut input = MadeText::new(text);
     let mut out = DigestSink::new(*digest);
@@ -18,13 +18,13 @@ fn format(alloc: Global, text: Vec<u8>, digest: &mut Digest) {
     digest.add_words(err.digest());
 }
 
-/// Sizes as files have that a person edits, and one as generated files have, in bytes.
+/// The sizes of files that people edit, and of a generated file, in bytes.
 static SIZES: [usize; 16] = [
     1_000, 40_000, 4_000, 12_000, 2_000, 25_000, 7_000, 1_500, 350_000, 3_000, 9_000, 50_000,
     1_000_000, 5_000, 18_000, 600,
 ];
 
-/// Formats files of pieces of a shape: as often as is said, files of all sizes.
+/// Formats files of pieces of a shape, of all sizes, a number of times.
 fn format_sizes(
     alloc: Global,
     shape: &Shape,
@@ -81,7 +81,7 @@ fn format_line(
     Ok(())
 }
 
-/// Files that few write, of all kinds that take long.
+/// Rare files of all kinds that take long.
 pub fn format_awkward(
     alloc: Global,
     turns: u64,

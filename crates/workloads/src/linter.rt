@@ -1,4 +1,4 @@
-//! Large modules that are linted, one after another.
+//! Large modules that are linted, in turn.
 
 ghost use Rattle.std.specs.Prelude.{◌≡◌, ◌||◌, false, None};
 
@@ -12,7 +12,7 @@ use tfrules_command::Hashing;
 use tfrules_command::module_files::{ModuleFiles, OpenFault};
 use tfrules_command::run::program;
 
-/// Files whose texts are made when they are opened, in the order in which they are.
+/// Files whose texts are made when they are opened, in the order of opening.
 #[derive(Drop)]
 struct MadeFiles<'a> {
     alloc: Global,
@@ -65,7 +65,7 @@ impl<'a> ModuleFiles for MadeFiles<'a> {
     }
 }
 
-/// Lints a module by these words.
+/// Lints a module with these words.
 fn lint_module<'a>(alloc: Global, words: &[&str], files: &mut MadeFiles<'a>, digest: &mut Digest)
     requires opened { ⟦<MadeFiles<'a> as ModuleFiles>⟧.open_failed files.old ≡ false }
     requires read { ⟦<MadeFiles<'a> as ModuleFiles>⟧.read_failed files.old ≡ false }
@@ -79,7 +79,7 @@ fn lint_module<'a>(alloc: Global, words: &[&str], files: &mut MadeFiles<'a>, dig
     digest.add_words(err.digest());
 }
 
-/// Lints a module of pieces of a shape. Answers what makes the next one.
+/// Lints a module of pieces of a shape. Returns the generator for the next one.
 fn lint_shape(
     alloc: Global,
     hashing: Hashing,

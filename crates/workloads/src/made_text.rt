@@ -1,4 +1,4 @@
-//! A text that is read as a file is.
+//! A text that is read like a file.
 
 ghost use Rattle.std.specs.Prelude.{◌≡◌, false, None};
 

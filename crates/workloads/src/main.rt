@@ -1,5 +1,5 @@
-//! Jobs that users of the programs wait for, on texts that are made by a seed: `workloads JOB TURNS SEED` does one so many
-//! times, each on other texts, and prints a digest of all that the programs wrote. `bench/run OLD NEW` takes its times.
+//! Jobs that users of the programs wait for, on texts that are made from a seed: `workloads JOB TURNS SEED` runs one
+//! this many times, each on other texts, and prints a digest of all output. `bench/run OLD NEW` times it.
 #![tactic(auto)]
 
 mod digest;
@@ -19,7 +19,7 @@ use std::hash::RandomState;
 use std::process::ExitCode;
 use tfrules_command::Hashing;
 
-/// What a run was asked for.
+/// The request of a run.
 #[derive(Clone, Copy)]
 struct Task<'a> {
     job: &'a str,
@@ -27,7 +27,7 @@ struct Task<'a> {
     seed: u64,
 }
 
-/// The task of these words, the program's name first.
+/// The task in these words, with the program's name first.
 fn task_of(words: &[String]) -> Option<Task<'_>> {
     let [_, job, turns, seed] = words else {
         return None;
@@ -41,7 +41,7 @@ fn task_of(words: &[String]) -> Option<Task<'_>> {
     })
 }
 
-/// Does a job, and answers the digest of what the programs wrote, or nothing where there is no such job.
+/// Runs a job, and returns the digest of the programs' output, or nothing if there is no such job.
 fn digest_of(rt: &HostRuntime, task: Task<'_>) -> Result<Option<Digest>, AllocError> {
     let alloc = rt.alloc();
     let hashing = match RandomState::new(rt) {

@@ -149,7 +149,7 @@ resource "aws_iam_role" "service_@" {
 "#,
 ];
 
-/// Blocks with other blanks than the style has.
+/// Blocks with blanks that aren't in the style.
 pub static MESSY: &[&str] = &[
     r#"# How many instances of service @ run.
 variable "service_@_count" {

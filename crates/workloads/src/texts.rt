@@ -5,7 +5,7 @@ ghost use Rattle.std.specs.Prelude.{◌≤◌};
 use crate::draw::Draw;
 use std::alloc::{AllocError, Global};
 
-/// A piece, as what stands between its numbers.
+/// A piece, as the texts between its numbers.
 #[derive(Drop)]
 pub struct Piece {
     parts: Vec<&'static str>,
@@ -63,7 +63,7 @@ fn add_piece(text: &mut Vec<u8>, piece: &Piece, number: u32) -> Result<(), Alloc
     Ok(())
 }
 
-/// What makes one text after another, with numbers that all differ.
+/// A generator of texts, with numbers that all differ.
 #[derive(Clone, Copy)]
 pub struct Maker {
     draw: Draw,
@@ -84,7 +84,7 @@ impl Maker {
         self.draw.below(bound)
     }
 
-    /// Adds pieces of a shape until the text has at least so many bytes.
+    /// Appends pieces of a shape until the text has at least this many bytes.
     pub fn add(
         &mut self,
         text: &mut Vec<u8>,
@@ -104,7 +104,7 @@ impl Maker {
         Ok(())
     }
 
-    /// A text of pieces of a shape, of at least so many bytes.
+    /// A text of pieces of a shape, of at least this many bytes.
     pub fn text(
         &mut self,
         alloc: Global,

@@ -44,18 +44,18 @@ struct Shapes {
     declared: Shape,
 }
 
-/// A tree of folders `m0`, `m1` and so on, each with files. It tells nothing, and what is written to it goes into a digest.
+/// A tree of folders `m0`, `m1` and so on, each with files. It tells nothing, and writes to it go into a digest.
 #[derive(Drop)]
 pub struct MadeTree {
     alloc: Global,
     shapes: Shapes,
     folders: usize,
     seed: u64,
-    /// Of how many files one isn't in the style.
+    /// One file in this many isn't in the style.
     messy_in: usize,
-    /// Of how many files one has something to report.
+    /// One file in this many has something to report.
     declared_in: usize,
-    /// What was written.
+    /// The digest of the writes.
     written: Digest,
 }
 
@@ -106,13 +106,13 @@ impl MadeTree {
         })
     }
 
-    /// What makes the texts of a folder or of a file in it.
+    /// The generator for the texts of a folder or of a file in it.
     fn maker(&self, folder: u64, place: usize) -> Maker {
         let number = folder.wrapping_mul(16).wrapping_add(place as u64);
         Maker::new(self.seed.wrapping_mul(0x1_0000_0001).wrapping_add(number))
     }
 
-    /// Adds the names of the files in a folder, three of them or more.
+    /// Appends the names of the files in a folder, three of them or more.
     fn add_files(&self, folder: u64, names: &mut Vec<u8>) -> Result<(), AllocError> {
         let count = 3 + self.maker(folder, 15).below(6);
         for name in NAMES.iter().take(count) {
@@ -159,7 +159,7 @@ impl MadeTree {
         maker.text(self.alloc, shape, size)
     }
 
-    /// Adds what is written to the digest.
+    /// Adds the written bytes to the digest.
     fn note(&mut self, name: &[u8], new: &[u8]) -> Result<Replaced, TreeFault> {
         self.written.add(name);
         self.written.add(new);
@@ -245,7 +245,7 @@ impl WritableTree for MadeTree {
     }
 }
 
-/// Watches nothing.
+/// An observer that does nothing.
 #[derive(Drop)]
 struct Nobody;
 
@@ -263,7 +263,7 @@ impl Progress for Nobody {
     fn end(&mut self) {}
 }
 
-/// Runs the formatter of trees by these words.
+/// Runs the formatter of trees with these words.
 fn format(alloc: Global, words: &[&[u8]], mut tree: MadeTree, digest: &mut Digest) {
     let mut input = MadeText::new(Vec::new(alloc));
     let mut out = DigestSink::new(*digest);
@@ -284,7 +284,7 @@ fn format(alloc: Global, words: &[&[u8]], mut tree: MadeTree, digest: &mut Diges
     digest.add_words(tree.written);
 }
 
-/// Checks trees of which nearly all files are in the style, and writes the others, to a digest.
+/// Checks trees in which nearly all files are in the style, and writes the others, to a digest.
 pub fn format_trees(
     alloc: Global,
     turns: u64,

@@ -1,4 +1,4 @@
--- How a text about names grows.
+-- The growth of a text about names.
 use Rattle.std.specs.Prelude.{ℕ, List, [], ◌∷◌, ◌++◌, codes, if◌then◌else◌}
 use Rattle.file_tree.specs.Quotes.{in_quotes}
 use Rattle.comment_faults.specs.CommentTexts.{is_known}
@@ -7,10 +7,10 @@ abbrev pub before_name : List ℕ → List ℕ
 before_name [] = codes "no rule is called "
 before_name (b ∷ bs) = codes " or "
 
--- with one name more
+-- with another name
 abbrev pub with_name : List ℕ → List ℕ → List ℕ
 with_name text name = (text ++ before_name text) ++ in_quotes name
 
--- unless it is known
+-- with a name, unless it is known
 abbrev pub with_unknown : List ℕ → List ℕ → List ℕ
 with_unknown text name = if is_known name then text else with_name text name

@@ -1,4 +1,4 @@
--- How far the comments of a file were looked at.
+-- The comments of a file that were checked so far.
 use Rattle.std.specs.Prelude.{◌≡◌, ◌≤◌, ℕ, List, ◌++◌, Some, map, slice_get}
 use Rattle.hcl_grammar.specs.Numbered.{Numbered}
 use Rattle.hcl_grammar.specs.Verdict.{start_of}
@@ -13,7 +13,7 @@ use Rattle.comment_faults.specs.declared.fault.CommentFault as code
 abbrev pub number_of : ℕ → Lexeme → Numbered
 number_of n t = record { number = n; kind = t.kind; text = t.text }
 
--- a file's token of this number was looked at
+-- a file's token of this number was checked
 abbrev pub Adds : File → ℕ → List code.CommentFault → List code.CommentFault → Type 0
 Adds file n old new = (t : Lexeme) → slice_get file.source.tokens n ≡ Some t → map fault_told new ≡ map fault_told old ++ fault_of file (number_of n t)
 

@@ -1,4 +1,4 @@
--- What one option adds.
+-- The effect of one option.
 use Rattle.std.specs.Prelude.{ℕ, true, List, Some, Result, Ok, Err, ok_or, if◌then◌else◌}
 use Rattle.rule_lists.specs.Lists.{rules_in}
 use Rattle.tfrules_command.specs.Line.{naming_asked, severity_asked}

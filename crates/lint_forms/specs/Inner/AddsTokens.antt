@@ -1,4 +1,4 @@
--- Tokens are added to those that a writer has.
+-- Tokens are appended to those of a writer.
 use Rattle.std.specs.Prelude.{◌≡◌, ◌++◌, List, OnOk, Result}
 use Rattle.json.specs.Token.{Token}
 use Rattle.json.specs.Written.{Written}

@@ -1,4 +1,4 @@
--- Parts of what stands before the results.
+-- Parts of the text before the results.
 use Rattle.std.specs.Prelude.{ℕ, List, [], ◌∷◌, codes, flat_map}
 use Rattle.json.specs.Tree.{json_tokens}
 use Rattle.rule_set.specs.declared.rule.Rule.{Rule}

@@ -1,4 +1,4 @@
--- What of an entry stands in an array of JSON.
+-- The part of an entry that is in a JSON array.
 use Rattle.std.specs.Prelude.{ℕ, Bool, List, [], ◌∷◌, flat_map, string_bytes}
 use Rattle.json.specs.Json.{Json}
 use Rattle.lint_forms.specs.Gitlab.{quality_json}

@@ -1,4 +1,4 @@
--- A part of what stands before the tests of a suite.
+-- A part of the text before the tests of a suite.
 use Rattle.std.specs.Prelude.{ℕ, ◌++◌, List, codes, decimal}
 
 abbrev pub suite_start : ℕ → ℕ → ℕ → List ℕ

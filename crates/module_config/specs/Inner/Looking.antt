@@ -1,4 +1,4 @@
--- How the file that governs is looked for.
+-- The search for the governing file.
 use Rattle.std.specs.Prelude.{◌≡◌, ◌==◌, ◌⊎◌, ◌||◌, ◌++◌, ◌-◌, ℕ, Bool, true, false, List, [], ◌∷◌, Some, None, codes, get_or, take, if◌then◌else◌}
 use Rattle.std.specs.List.{Contains}
 use Rattle.std.specs.Str.{bytes_eq}
@@ -17,11 +17,11 @@ use Rattle.module_config.specs.declared.first.Stuck.TheVariants as stuck
 abbrev pub up_at : Name → ℕ → List Name
 up_at path end = if get_or path (end - 1) 0 == 47 then take end path ∷ [] else []
 
--- the folder's `.tfrules` counts where there is no repository
+-- the folder's `.tfrules` counts outside a repository
 abbrev pub counts : Name → Name → Name → Bool
 counts current own folder = bytes_eq folder own || begins current folder
 
--- memory ran out, or a call failed of such a name
+-- memory ran out, or a call failed for such a name
 abbrev pub StuckBy : (Name → Type 0) → Faults → Faults → Stuck → Type 0
 StuckBy P was is stuck.OutOfMemory = Unit {0}
 StuckBy P was is (stuck.Failed f) = P f.name.items × FailsAt was is f
@@ -37,7 +37,7 @@ LooksFirst files entry folders was is n = OnlyMissing was is × IsFirst files en
 abbrev pub IsEntryOf : Name → List Name → Name → Type 0
 IsEntryOf entry folders name = (folder : Name) × Contains folders folder × (name ≡ folder ++ entry)
 
--- a name that is asked for in the folder of this full path or above it
+-- a name that is looked up in the folder of this full path or above it
 abbrev pub IsAskedIn : Name → Name → Type 0
 IsAskedIn path name = (up : Name) × Contains (ups path) up × ((name ≡ up ++ codes ".git") ⊎ (name ≡ up ++ codes ".tfrules"))
 

@@ -7,12 +7,12 @@ use Rattle.rule_set.specs.declared.rule.Rule.{Rule}
 use Rattle.rule_set.specs.declared.rule_set.RuleSet.{RuleSet}
 use Rattle.rule_lists.specs.Lists.{is_asked, is_known_part, stands_for}
 
--- each part names a rule, and the set has the rules that are asked for by them; or one names none
+-- each part names a rule, and the set has the rules that they ask for; or one part names none
 abbrev pub Listed : List (List ℕ) → Option RuleSet → Type 0
 Listed parts None = list_all is_known_part parts ≡ false
 Listed parts (Some set) = (list_all is_known_part parts ≡ true) × ((rule : Rule) → holds set rule ≡ is_asked parts rule)
 
--- of a set it is left, or nothing where a name stands for no rule: those for which it does are given or taken away
+-- the new set after a name, or nothing if the name isn't a rule's: its rules are added or removed
 abbrev pub IsSetByName : Bool → List ℕ → RuleSet → Option RuleSet → Type 0
 IsSetByName gives name set other =
     MatchOption other (list_any (stands_for name) all_rules ≡ false) (λ changed. (list_any (stands_for name) all_rules ≡ true)

@@ -4,7 +4,7 @@ use Rattle.command_line.proofs.WriterLemmas.{Goes}
 use Rattle.module_config.specs.Words.{bad_line}
 use Rattle.module_config.proofs.words.tell_lines.Given as goal
 
--- what is taken of the rest from now on is taken of all from the start on
+-- the bytes taken of the rest from now on complete those of the whole
 abbrev pub invariant-loop-bad : goal.invariant-loop-bad
 invariant-loop-bad g l =
     (g.S.ByteSink.failed l.sink ≡ false)

@@ -4,7 +4,7 @@ use denote.Shadow.{shadow}
 use Rattle.source_snippet.specs.Snippets.{after_lines}
 use Rattle.source_snippet.proofs.lines.Lines.after.Given as goal
 
--- what is left after the lines that were passed
+-- the text after the passed lines
 abbrev pub invariant-loop-passed : goal.invariant-loop-passed
 invariant-loop-passed l = shadow (Utf8 l.rest) × (l.rest ≡ after_lines l.passed l.text) × (l.passed ≤ l.count)
 
