@@ -1,4 +1,4 @@
-//! What the lines of a `.tfrules` say.
+//! The contents of the lines of a `.tfrules`.
 
 use lint_config::{BadLine, Config, Said, config_in};
 use rule_set::{Rule, RuleSet, Severity};
@@ -6,7 +6,7 @@ use std::alloc::Global;
 use std::process::Abort;
 use tf_rules::Naming;
 
-/// What a text says: its good lines, and its bad ones.
+/// The contents of a text: its good lines, and its bad ones.
 struct Row {
     text: &'static str,
     naming: Option<Naming>,
@@ -104,7 +104,7 @@ static ROWS: [Row; 8] = [
     },
 ];
 
-/// Whether the rules are as a row has them: none, or all but one.
+/// Whether the rules are those of a row: none, or all but one.
 fn are_rules(rules: Option<RuleSet>, has_rules: bool) -> bool {
     match rules {
         Some(rules) => {
@@ -138,12 +138,12 @@ fn are_bad(faults: &[BadLine], row: &Row) -> bool {
     faults.len() == row.faults.len()
 }
 
-/// Whether a text says what its row has.
+/// Whether a text has the contents of its row.
 fn says(config: &Config, row: &Row) -> bool {
     is_said(config.said, row) && are_bad(config.faults.as_slice(), row)
 }
 
-/// Reads the text of a row, and compares what it says.
+/// Reads the text of a row, and compares its contents.
 fn reads(rt: &impl Abort, alloc: Global, row: &Row) {
     let config = config_in(alloc, row.text).expect(rt, "memory");
     assert!(rt; says(&config, row), "of {:?}", row.text);

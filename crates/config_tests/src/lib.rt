@@ -1,4 +1,4 @@
-//! Tests of the options of a project by its public items. They stand in a crate of their own, since a crate with tests is
+//! Tests of the options of a project by its public items. They are in a crate of their own, since a crate with tests is
 //! proved twice.
 #![tactic(auto)]
 

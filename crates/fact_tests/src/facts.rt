@@ -1,4 +1,4 @@
-//! What is found in small files, worked out by hand.
+//! The facts of small files, worked out by hand.
 
 use crate::checks::holds;
 use hcl_scan::{Source, scan};
@@ -12,25 +12,25 @@ use tf_facts::{
     facts_of,
 };
 
-/// What a test wants of the facts and the references of a file.
+/// The expected facts and references of a file.
 #[derive(Clone, Copy)]
 enum Wanted<'a> {
-    /// What the source of the first module is.
+    /// The kind of the first module's source.
     Source(ModuleSource),
-    /// Which rules the first comment silences, where there is one.
+    /// The rules that the first comment silences, if there is one.
     Silenced(RuleSet),
     Patterns {
         interpolations: &'a [usize],
         indexes: &'a [usize],
     },
-    /// Of each declaration its kind, and whether it has a type and a source.
+    /// For each declaration its kind, and whether it has a type and a source.
     Declarations(&'a [(DeclarationKind, bool, bool)]),
-    /// Of each comment, whether it has slashes, and whether it silences a rule.
+    /// For each comment, whether it has slashes, and whether it silences a rule.
     Comments(&'a [(bool, bool)]),
     References(&'a [&'a str]),
 }
 
-/// What the source of the first module is, where it has one.
+/// The kind of the first module's source, if it has one.
 fn first_source(found: &[Declared<'_>]) -> Option<ModuleSource> {
     match found.first() {
         Some(declared) => match declared.source {
@@ -49,7 +49,7 @@ fn first_silenced(found: &[FoundComment]) -> RuleSet {
     }
 }
 
-/// Whether the declaration of this number is of the kind, and has a type and a source just where it should.
+/// Whether the declaration of this number is of the kind, and has a type and a source as expected.
 fn is_declared(found: &[Declared<'_>], i: usize, wanted: (DeclarationKind, bool, bool)) -> bool {
     let (kind, is_typed, has_source) = wanted;
     match found.get(i) {
@@ -62,7 +62,7 @@ fn is_declared(found: &[Declared<'_>], i: usize, wanted: (DeclarationKind, bool,
     }
 }
 
-/// That these are the declarations.
+/// Checks the declarations.
 fn are_declared(
     rt: &impl Abort,
     found: &[Declared<'_>],
@@ -80,7 +80,7 @@ fn are_declared(
     }
 }
 
-/// Whether the comment of this number has slashes, and silences a rule, just where it should.
+/// Whether the comment of this number has slashes, and silences a rule, as expected.
 fn is_comment(found: &[FoundComment], i: usize, wanted: (bool, bool)) -> bool {
     let (has_slashes, is_silencing) = wanted;
     match found.get(i) {
@@ -92,7 +92,7 @@ fn is_comment(found: &[FoundComment], i: usize, wanted: (bool, bool)) -> bool {
     }
 }
 
-/// That these are the comments.
+/// Checks the comments.
 fn are_comments(rt: &impl Abort, found: &[FoundComment], wanted: &[(bool, bool)], text: &str) {
     holds(rt, found.len() == wanted.len(), "count of comments", text);
     for i in 0..wanted.len() {
@@ -100,7 +100,7 @@ fn are_comments(rt: &impl Abort, found: &[FoundComment], wanted: &[(bool, bool)]
     }
 }
 
-/// That these are the references.
+/// Checks the references.
 fn are_references(rt: &impl Abort, used: &TextSet, wanted: &[&str], text: &str) {
     holds(rt, used.len() == wanted.len(), "count of references", text);
     for reference in wanted {
@@ -108,7 +108,7 @@ fn are_references(rt: &impl Abort, used: &TextSet, wanted: &[&str], text: &str) 
     }
 }
 
-/// That the facts and the references of a text are the wanted ones.
+/// Checks the facts and the references of a text.
 fn are_found(
     rt: &impl Abort,
     found: &FileFacts<'_>,
@@ -143,7 +143,7 @@ fn are_found(
     }
 }
 
-/// The facts of a file, whose references are put into the set.
+/// The facts of a file; its references are added to the set.
 fn facts_in<'s>(
     alloc: Global,
     accepted: &Accepted<'_, 's>,
@@ -154,14 +154,14 @@ fn facts_in<'s>(
     facts_of(alloc, accepted, &items)
 }
 
-/// The facts of a source that is a file, whose references are put into the set.
+/// The facts of a source that is a file; its references are added to the set.
 fn facts<'s>(alloc: Global, source: &'s Source, used: &mut TextSet) -> Result<FileFacts<'s>, Fail> {
     let tokens = scan(alloc, source)?;
     let accepted = accepts(&tokens)?;
     Ok(facts_in(alloc, &accepted, used)?)
 }
 
-/// That the facts and the references of a file are the wanted ones.
+/// Checks the facts and the references of a file.
 fn finds(rt: &impl Abort, alloc: Global, text: &str, wanted: Wanted<'_>) -> Result<(), Fail> {
     let source = Source::from_bytes(alloc, text.as_bytes())?;
     let mut used = TextSet::new(alloc);
@@ -170,7 +170,7 @@ fn finds(rt: &impl Abort, alloc: Global, text: &str, wanted: Wanted<'_>) -> Resu
     Ok(())
 }
 
-/// That a module with this source has one of this sort.
+/// Checks that a module with this source has one of this sort.
 fn is_source(
     rt: &impl Abort,
     alloc: Global,
@@ -181,7 +181,7 @@ fn is_source(
     finds(rt, alloc, file.as_str(), Wanted::Source(wanted))
 }
 
-/// Texts of sources, and what each is.
+/// Texts of sources, and the kind of each.
 static SOURCES: &[(&str, ModuleSource)] = &[
     (
         "git::https://e.com/r.git?depth=1&ref=v1",
@@ -227,7 +227,7 @@ fn tells_sources(rt: HostRuntime) -> Result<(), Fail> {
     Ok(())
 }
 
-/// That the first comment of each text silences these rules.
+/// Checks that the first comment of each text silences these rules.
 fn silences(rt: &impl Abort, alloc: Global, texts: &[&str], wanted: RuleSet) -> Result<(), Fail> {
     for text in texts {
         finds(rt, alloc, *text, Wanted::Silenced(wanted))?;

@@ -1,4 +1,4 @@
-//! Tests of `tf_facts` by its public items. They stand in a crate of their own, since a crate with tests is proved twice.
+//! Tests of `tf_facts` by its public items. They are in a crate of their own, since a crate with tests is proved twice.
 #![tactic(auto)]
 
 #[cfg(test)]

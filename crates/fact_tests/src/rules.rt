@@ -4,13 +4,13 @@ use crate::checks::holds;
 use rule_set::{Rule, RuleSet, Severity};
 use std::process::Abort;
 
-/// That the name is the rule's, and the rule the name's.
+/// Checks that the name is the rule's, and the rule the name's.
 fn is_named(rt: &impl Abort, name: &str, rule: Rule) {
     holds(rt, rule.name() == name, "name", name);
     holds(rt, Rule::from_name(name) == Some(rule), "rule", name);
 }
 
-/// That the rule is among those that it should be among.
+/// Checks that the rule is in the expected sets.
 fn is_in_sets(rt: &impl Abort, name: &str, rule: Rule, recommended: bool) {
     let is_recommended = RuleSet::recommended().holds(rule);
     holds(rt, is_recommended == recommended, "recommended", name);

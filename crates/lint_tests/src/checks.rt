@@ -1,4 +1,4 @@
-//! What these tests compare by, with one assertion each, so that it is proved once.
+//! The comparisons of these tests, with one assertion each, so that it is proved once.
 
 use std::process::Abort;
 use tree_lint::counts::Counts;
@@ -13,22 +13,22 @@ pub(crate) const PIPES: Terminals = Terminals {
 /// The files of modules.
 pub(crate) type Modules = &'static [&'static [&'static str]];
 
-/// Ends the test unless this is so, with what should have been so and of which row.
+/// Ends the test unless this holds, with the expectation and the row.
 pub(crate) fn holds(rt: &impl Abort, is_so: bool, what: &str, row: &str) {
     assert!(rt; is_so, "{what}: {row}");
 }
 
-/// That bytes are the ones that are wanted of a run over modules.
+/// Checks bytes of a run over modules.
 pub(crate) fn same_bytes(rt: &impl Abort, found: &[u8], wanted: &[u8], modules: Modules) {
     assert_eq!(rt; found, wanted, "over {modules:?}");
 }
 
-/// That a number is the one that is wanted of a run over modules.
+/// Checks a number of a run over modules.
 pub(crate) fn same_number(rt: &impl Abort, found: u64, wanted: u64, modules: Modules) {
     assert_eq!(rt; found, wanted, "over {modules:?}");
 }
 
-/// That numbers are those that are wanted of a run over modules.
+/// Checks numbers of a run over modules.
 pub(crate) fn same_counts(rt: &impl Abort, found: Counts, wanted: Counts, modules: Modules) {
     assert_eq!(rt; found, wanted, "over {modules:?}");
 }

@@ -1,4 +1,4 @@
-//! Whole runs of the program that look at comments.
+//! Whole runs of the program that check comments.
 
 use crate::programs::{Row, shows};
 use tree_devices::entry::{Entry, Stands};
@@ -100,7 +100,7 @@ static ROWS: [Row; 11] = [
         err: C_ALONE,
         status: 2,
     },
-    // Whatever the severity, but not where nothing fails the run.
+    // Whatever the severity, unless nothing fails the run.
     Row {
         words: &[
             b"tfrules-all",
@@ -150,7 +150,7 @@ static ROWS: [Row; 11] = [
         err: b"no issues in 1 module\n",
         status: 0,
     },
-    // A module of which nothing is reported has no empty line after it.
+    // A module without reports has no empty line after it.
     Row {
         words: &[b"tfrules-all", b"--check-comments", b"c", b"f"],
         input: b"",

@@ -22,12 +22,12 @@ const FILE: &[u8] = b"variable \"x\" {}\n";
 
 const FOLDER: Stands<'static> = Stands::Folder;
 
-/// What a run over a tree is given, and what it shows.
+/// A run over a tree, and its output.
 struct Row {
-    /// What stands beside two modules.
+    /// The entries beside two modules.
     entries: &'static [Entry<'static>],
     words: Words,
-    /// How many issues are found in the modules that are linted, and what else is said.
+    /// How many issues are found in the modules that are linted, and the other messages.
     err: &'static [u8],
     status: u8,
 }
@@ -145,7 +145,7 @@ static ROWS: [Row; 25] = [
         err: b"4 issues in 2 of 2 modules\n",
         status: 0,
     },
-    // Outside of a repository no file above the current folder governs.
+    // Outside a repository no file above the current folder governs.
     Row {
         entries: &[Entry {
             name: b"/r/.tfrules",
@@ -213,7 +213,7 @@ static ROWS: [Row; 25] = [
         err: b"2 issues in 1 of 1 module\n",
         status: 0,
     },
-    // No file is read where that is asked for.
+    // No file is read if the words ask for that.
     Row {
         entries: &[Entry {
             name: b"a/.tfrules",
@@ -223,7 +223,7 @@ static ROWS: [Row; 25] = [
         err: b"4 issues in 2 of 2 modules\n",
         status: 2,
     },
-    // The line goes before the file, option by option.
+    // The line takes precedence over the file, option by option.
     Row {
         entries: &[Entry {
             name: b"a/.tfrules",
@@ -238,7 +238,7 @@ static ROWS: [Row; 25] = [
         err: b"2 issues in 2 of 2 modules\n",
         status: 0,
     },
-    // A bad line is told once, and the modules of its file are not linted.
+    // A bad line is reported once, and the modules of its file are not linted.
     Row {
         entries: &[Entry {
             name: b"a/.tfrules",
@@ -297,7 +297,7 @@ static ROWS: [Row; 25] = [
         err: b"no modules found\n",
         status: 0,
     },
-    // What is no file governs too, and is told.
+    // An entry that is no file governs too, and is reported.
     Row {
         entries: &[Entry {
             name: b"a/b/.tfrules",
@@ -325,7 +325,7 @@ static ROWS: [Row; 25] = [
         err: b"tfrules-all: error: a/b/.tfrules: not a file\n1 module not linted: its options aren't known\n",
         status: 1,
     },
-    // A link to a file is one.
+    // A link to a file is a file.
     Row {
         entries: &[
             Entry {
@@ -341,7 +341,7 @@ static ROWS: [Row; 25] = [
         err: b"2 issues in 1 of 1 module\n",
         status: 0,
     },
-    // What is no text is told with its place.
+    // An entry that isn't text is reported with its place.
     Row {
         entries: &[Entry {
             name: b"a/b/.tfrules",
@@ -371,7 +371,7 @@ static ROWS: [Row; 25] = [
     },
 ];
 
-/// Whether a call failed that looks for a `.tfrules` or reads it: these go by full paths, or ask for them.
+/// Whether a failed call was for finding or reading a `.tfrules`: these use full paths, or ask for them.
 fn fails_a_search(calls: &Calls) -> bool {
     match calls.failed() {
         Some(Step::FullPath) => true,
@@ -380,7 +380,7 @@ fn fails_a_search(calls: &Calls) -> bool {
     }
 }
 
-/// Both modules, and what stands beside them.
+/// Both modules, and the entries beside them.
 fn all_of<'a>(alloc: Global, entries: &[Entry<'a>]) -> Result<Vec<Entry<'a>>, AllocError> {
     let mut all = Vec::new(alloc);
     all.extend_from_slice(&MODULES)?;
@@ -388,7 +388,7 @@ fn all_of<'a>(alloc: Global, entries: &[Entry<'a>]) -> Result<Vec<Entry<'a>>, Al
     Ok(all)
 }
 
-/// What a run by these words over both modules shows, and whether such a call failed.
+/// The output of a run with these words over both modules, and whether such a call failed.
 fn run(
     rt: &impl Abort,
     alloc: Global,
@@ -408,7 +408,7 @@ fn run(
     (err, status, fails_a_search(files.tree.calls()))
 }
 
-/// Runs the program by the words of a row over its tree, and compares what it says.
+/// Runs the program with the words of a row over its tree, and compares its output.
 fn shows(rt: &impl Abort, alloc: Global, row: &Row) {
     let (err, status, _) = run(rt, alloc, row.entries, row.words, STEADY);
     assert_eq!(rt; err.bytes(), row.err, "of {:?}", row.words);
@@ -422,7 +422,7 @@ fn rows_are_shown(rt: HostRuntime) {
     }
 }
 
-/// A file of this many bytes is none.
+/// A file of this many bytes is too large.
 const MUCH: usize = 5_000_000;
 
 #[test]
@@ -443,7 +443,7 @@ fn a_large_file_is_told(rt: HostRuntime) {
     assert_eq!(&rt; status, 1, "of a large file");
 }
 
-/// How many calls a run over `a` makes to look for the files of two modules and to read the one that there is.
+/// How many calls a run over `a` makes to look for the files of two modules and to read the one that exists.
 const CALLS: u64 = 16;
 
 #[test]

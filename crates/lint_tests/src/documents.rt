@@ -27,7 +27,7 @@ pub fn document(
     Ok(text)
 }
 
-/// That a text is there, and is this one.
+/// Checks that there is a text, and that it is this one.
 pub fn same_text(rt: &impl Abort, found: Result<Vec<u8>, AllocError>, wanted: &str) {
     let is_same = match found {
         Ok(found) => found.as_slice() == wanted.as_bytes(),

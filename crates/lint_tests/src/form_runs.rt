@@ -28,7 +28,7 @@ static MORE: [Entry<'static>; 5] = [
     },
 ];
 
-/// What can't be linted, as it is said on standard error.
+/// Everything that can't be linted, as reported on standard error.
 const REFUSED: &[u8] =
     b"tfrules-all: error: worse/main.tf:1:5: unexpected token\ntfrules-all: error: bad/lost.tf: the link leads nowhere\ntfrules-all: error: bad/pipe.tf: not a file\ntfrules-all: error: odd/\xff.tf: the name isn't UTF-8\ntfrules-all: error: set/.tfrules:2: unknown rule \"typed\"\n";
 
@@ -83,7 +83,7 @@ static ROWS: [Row; 8] = [
         err: REFUSED,
         status: 1,
     },
-    // Where nothing is said of any file.
+    // Without remarks on any file.
     Row {
         words: &[b"tfrules-all", b"--format=json", b"other"],
         input: b"",

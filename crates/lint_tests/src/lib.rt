@@ -1,5 +1,5 @@
-//! Tests of the linter of trees by its public items. They stand in a crate of their own, since a crate with tests is proved
-//! twice.
+//! Tests of the linter of trees by its public items. They are in a crate of their own, since a crate with tests is
+//! proved twice.
 #![tactic(auto)]
 
 #[cfg(test)]

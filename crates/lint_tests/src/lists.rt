@@ -4,7 +4,7 @@ use crate::checks::holds;
 use rule_lists::{ListFault, rules_in};
 use rule_set::{Rule, RuleSet};
 
-/// A list, and the rules that it stands for.
+/// A list and its rules.
 static LISTS: &[(&str, &[Rule])] = &[
     (
         "default",
@@ -42,7 +42,7 @@ static LISTS: &[(&str, &[Rule])] = &[
     ),
 ];
 
-/// Texts that are no list.
+/// Texts that aren't lists.
 static FAULTS: &[(&str, ListFault)] = &[
     ("", ListFault::UnknownRule),
     ("all,", ListFault::UnknownRule),

@@ -15,7 +15,7 @@ use tree_lint::written::Terminals;
 /// Words of a line.
 pub(crate) type Words = &'static [&'static [u8]];
 
-/// Three modules, one of them refused, in folders with much that is no file of a module.
+/// Three modules, one of them refused, in folders with many files that are no module's.
 pub(crate) static ENTRIES: &[Entry<'static>] = &[
     Entry {
         name: b"",
@@ -91,7 +91,7 @@ pub(crate) static ENTRIES: &[Entry<'static>] = &[
     },
 ];
 
-/// What a run is given, and what it shows.
+/// A run and its output.
 #[derive(Clone, Copy)]
 pub(crate) struct Row {
     pub words: Words,
@@ -115,7 +115,7 @@ const ONE: &[u8] = b"1 issue in 1 of 1 module\n";
 const TWO: &[u8] = b"2 issues in 1 of 1 module\n";
 
 static ROWS: [Row; 32] = [
-    // A folder stands for itself and all below, a file for its folder alone.
+    // A folder stands for itself and everything below, a file for its folder alone.
     Row {
         words: &[b"tfrules-all", b"a"],
         input: b"",
@@ -137,7 +137,7 @@ static ROWS: [Row; 32] = [
         err: TWO,
         status: 2,
     },
-    // So does one that was deleted; a name of which the folder isn't there either is told.
+    // So does a deleted one; a name whose folder is gone too is reported.
     Row {
         words: &[b"tfrules-all", b"a/gone.tf"],
         input: b"",
@@ -152,7 +152,8 @@ static ROWS: [Row; 32] = [
         err: b"tfrules-all: error: gone: no such file or folder\ntfrules-all: error: gone/: no such file or folder\n1 issue in 1 of 2 modules, 1 refused\n",
         status: 1,
     },
-    // A module of which a file can't be read is refused, and so is one with a file that can't be named, or with a pipe in its place.
+    // A module with a file that can't be read is refused, and so is one with a file that can't be named, or with a pipe
+    // in its place.
     Row {
         words: &[b"tfrules-all", b"bad", b"a/main.tf"],
         input: b"",
@@ -160,7 +161,7 @@ static ROWS: [Row; 32] = [
         err: b"tfrules-all: error: bad/lost.tf: the link leads nowhere\ntfrules-all: error: bad/pipe.tf: not a file\n1 issue in 1 of 2 modules, 1 refused\n",
         status: 1,
     },
-    // What is no file of a module is no matter, whatever it is.
+    // An entry that is no file of a module doesn't matter, whatever it is.
     Row {
         words: &[b"tfrules-all", b"other"],
         input: b"",
@@ -229,7 +230,7 @@ static ROWS: [Row; 32] = [
         err: TWO,
         status: 2,
     },
-    // What was found in all is said at the end, unless the run is to be quiet.
+    // The totals are printed at the end, unless the run is to be quiet.
     Row {
         words: &[b"tfrules-all", b"--quiet", b"a", b"bad"],
         input: b"",
@@ -364,12 +365,13 @@ static ROWS: [Row; 32] = [
     },
 ];
 
-/// Runs the program by the words of a row over a tree, and compares what it shows.
+/// Runs the program with the words of a row over a tree, and compares its output.
 pub(crate) fn shows(rt: &impl Abort, alloc: Global, entries: &[Entry<'_>], row: &Row) {
     shows_on(rt, alloc, entries, PIPES, row);
 }
 
-/// The same where these outputs are read on a terminal.
+/// Runs the program with the words of a row over a tree, with these outputs read on a terminal, and compares its
+/// output.
 pub(crate) fn shows_on(
     rt: &impl Abort,
     alloc: Global,
@@ -390,7 +392,7 @@ pub(crate) fn shows_on(
     assert_eq!(rt; status, row.status, "of {:?}", row.words);
 }
 
-/// That a stream has these bytes.
+/// Checks that a stream has these bytes.
 fn shown(rt: &impl Abort, found: &[u8], wanted: &[u8], row: &Row) {
     assert_eq!(rt; found, wanted, "of {:?}", row.words);
 }
@@ -451,13 +453,13 @@ fn modules_of_linked_files_are_linted(rt: HostRuntime) {
     shows(&rt, rt.alloc(), SHARED, &EACH_MODULE);
 }
 
-/// A run whose calls fail in turn: its words, and how many calls of a tree it makes.
+/// A run whose calls fail in turn: its words, and the number of its calls of a tree.
 struct FailingRun {
     words: Words,
     calls: u64,
 }
 
-/// Over folders, which are walked, and over a file that is named, whose folder is looked into by itself.
+/// Over folders, which are walked, and over a named file, whose folder is listed by itself.
 static FAILING: [FailingRun; 2] = [
     FailingRun {
         words: &[b"tfrules-all", b"--quiet", b"a", b"other"],
@@ -469,10 +471,10 @@ static FAILING: [FailingRun; 2] = [
     },
 ];
 
-/// What stands on standard input of a run that isn't to read it.
+/// The standard input of a run that isn't to read it.
 const UNREAD: &[u8] = b"a\0";
 
-/// What a run shows of which this call of the tree fails, and whether one did. It leaves standard input alone.
+/// The output of a run with this call of the tree failing, and whether one failed. It leaves standard input alone.
 fn failing(rt: &impl Abort, alloc: Global, words: Words, call: usize) -> (u8, bool, bool) {
     let failures = Failures {
         call: Some(call),
@@ -491,7 +493,7 @@ fn failing(rt: &impl Abort, alloc: Global, words: Words, call: usize) -> (u8, bo
     (status, has_failed, !err.bytes().is_empty())
 }
 
-/// How many calls of a run fail in turn, each of which is told.
+/// How many calls of a run fail in turn, each of which is reported.
 fn failed_calls(rt: &impl Abort, alloc: Global, words: Words) -> u64 {
     let mut count: u64 = 0;
     for call in 0..100 {

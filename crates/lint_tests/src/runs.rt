@@ -18,7 +18,7 @@ use tree_lint::policy::{Governed, Policy};
 use tree_lint::run::{RunEnd, run_over};
 use tree_lint::written::{Manner, Written};
 
-/// Two modules with issues, one that is refused and one without issues, which stands between them.
+/// Two modules with issues, with a refused one and one without issues between them.
 static ENTRIES: &[Entry<'static>] = &[
     Entry {
         name: b"a/main.tf",
@@ -89,8 +89,8 @@ const TEXT: Written<'static> = Written {
     head: b"",
 };
 
-/// What a run is given: the files of its modules, from which severity on an issue fails it, what fails, and after how many
-/// writes of standard output the next one fails.
+/// A run: the files of its modules, the severity from which on an issue fails it, its failures, and the number of
+/// writes to standard output before the next one fails.
 #[derive(Clone, Copy)]
 struct Given {
     modules: Modules,
@@ -100,7 +100,7 @@ struct Given {
     write: Option<usize>,
 }
 
-/// What it shows: its reports and its messages, and how it ends.
+/// Its output: its reports and its messages, and its end.
 #[derive(Drop)]
 struct Shown {
     out: MemorySink,
@@ -144,7 +144,7 @@ fn module_of(alloc: Global, names: &[&str]) -> Result<Module, AllocError> {
     })
 }
 
-/// A module of these files, linted as a run is to be.
+/// A module of these files, with the run's policy.
 fn governed_of(alloc: Global, given: &Given, names: &[&str]) -> Result<Governed, AllocError> {
     Ok(Governed {
         module: module_of(alloc, names)?,
@@ -179,7 +179,7 @@ fn run(alloc: Global, given: &Given, modules: &[Governed]) -> Result<Shown, Allo
     Ok(Shown { out, err, end })
 }
 
-/// That a run shows this.
+/// Checks the output of a run.
 fn shows(rt: &impl Abort, alloc: Global, given: Given, out: &str, err: &str, status: u8) {
     let modules = modules_of(alloc, &given).expect(rt, "memory");
     let shown = run(alloc, &given, modules.as_slice()).expect(rt, "memory");
@@ -264,7 +264,7 @@ fn a_failed_write_ends_the_run(rt: HostRuntime) {
     shows(&rt, rt.alloc(), unwritten, "", "", 1);
 }
 
-/// So many modules without issues, and one with an issue after them.
+/// This many modules without issues, and one with an issue after them.
 fn many(alloc: Global, count: usize) -> Result<Vec<Governed>, AllocError> {
     let given = steady(NONE);
     let mut modules = Vec::new(alloc);
@@ -275,7 +275,7 @@ fn many(alloc: Global, count: usize) -> Result<Vec<Governed>, AllocError> {
     Ok(modules)
 }
 
-/// One module of so many files.
+/// One module of this many files.
 fn large(alloc: Global, count: usize) -> Result<Vec<Governed>, AllocError> {
     let given = steady(NONE);
     let mut one = governed_of(alloc, &given, &["c/main.tf"])?;
@@ -312,7 +312,7 @@ fn too_many_files_are_told(rt: HostRuntime) {
     same_number(&rt, u64::from(shown.end.status), 1, A_ALONE);
 }
 
-/// That a run over modules gives these numbers.
+/// Checks the numbers of a run over modules.
 fn counts(rt: &impl Abort, alloc: Global, given: Given, wanted: Counts) {
     let modules = modules_of(alloc, &given).expect(rt, "memory");
     let shown = run(alloc, &given, modules.as_slice()).expect(rt, "memory");

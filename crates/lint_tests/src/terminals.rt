@@ -5,8 +5,8 @@ use crate::programs::{Row, Words, shows_on};
 use tree_devices::entry::{Entry, Stands};
 use tree_lint::written::Terminals;
 
-/// A module with issues and comments in two files, one of which a terminal shows otherwise than its bytes are, and a module
-/// that is refused.
+/// A module with issues and comments in two files, one with bytes that a terminal shows differently, and a refused
+/// module.
 static ENTRIES: &[Entry<'static>] = &[
     Entry {
         name: b"",
@@ -44,7 +44,7 @@ static ENTRIES: &[Entry<'static>] = &[
     },
 ];
 
-/// A module with two issues, one with none, one with one, and one that is refused.
+/// A module with two issues, one with none, one with one, and a refused one.
 static OTHERS: &[Entry<'static>] = &[
     Entry {
         name: b"",
@@ -120,7 +120,7 @@ const TOLD: &[u8] =
 const TOLD_WITH_LINES: &[u8] =
     b"tfrules-all: error: a/main.tf:4:21: no rule is called \"z\"\n   value = \"${var.x}\" # tflint-ignore: z\n                      ^\ntfrules-all: error: a/z.tf:1:17: no rule is called \"\\033\"\n  variable \"\xe5\x90\x8d\" {} # tflint-ignore:  \n                   ^\ntfrules-all: error: bad/main.tf:2:5: unexpected token\n  y = ]\n      ^\ntfrules-all: error: utf/main.tf:1:6: invalid UTF-8\n";
 
-/// What is shown where these outputs are read on a terminal.
+/// The output with these outputs read on a terminal.
 static ROWS: [(Terminals, &[u8], &[u8]); 4] = [
     (PIPES, REPORT, TOLD),
     (BOTH, REPORT_WITH_LINES, TOLD_WITH_LINES),
@@ -142,7 +142,7 @@ fn lines_are_shown_on_terminals(rt: HostRuntime) {
     }
 }
 
-/// A second report stands after an empty line, and one of no issue isn't shown.
+/// A second report comes after an empty line, and a module without issues isn't shown.
 static TWO: Row = Row {
     words: &[b"tfrules-all", b"--quiet", b"c", b"d", b"e"],
     input: b"",

@@ -1,4 +1,4 @@
-//! What is reported of small modules, worked out by hand.
+//! The reports for small modules, worked out by hand.
 
 use crate::checks::holds;
 use crate::reports::{add, asking, has_issues};
@@ -7,7 +7,7 @@ use std::process::Abort;
 use std::test::Fail;
 use tf_rules::{Facts, Naming, Rule, RuleSet, Settings};
 
-/// The rules that are asked for.
+/// The requested rules.
 #[derive(Clone, Copy)]
 enum Asked {
     All,
@@ -40,14 +40,14 @@ fn add_files(alloc: Global, facts: &mut Facts, files: &[&str]) -> Result<(), Fai
     Ok(())
 }
 
-/// What is kept of a module, whose files are numbered from 0.
+/// The stored facts of a module whose files are numbered from 0.
 fn facts_of(alloc: Global, files: &[&str]) -> Result<Facts, Fail> {
     let mut facts = Facts::new(alloc)?;
     add_files(alloc, &mut facts, files)?;
     Ok(facts)
 }
 
-/// That this is reported of a module.
+/// Checks the report of a module.
 fn reports(
     rt: &impl Abort,
     alloc: Global,
@@ -61,7 +61,7 @@ fn reports(
     Ok(has_issues(rt, alloc, &facts, &settings, (wanted, what))?)
 }
 
-/// A module, the rules that are asked for, and what is reported.
+/// A module, the requested rules, and the report.
 type Row = (&'static [&'static str], Asked, &'static str);
 
 fn all_report(rt: &impl Abort, alloc: Global, rows: &[Row]) -> Result<(), Fail> {
@@ -168,7 +168,7 @@ fn push_between(
     text.push_str(end)
 }
 
-/// That a module with this source has these issues.
+/// Checks the issues of a module with this source.
 fn source_reports(rt: &impl Abort, alloc: Global, source: &str, wanted: &str) -> Result<(), Fail> {
     let mut text = String::new(alloc);
     push_between(
@@ -255,7 +255,7 @@ fn names_are_reported(facts: &Facts, naming: Naming) -> Result<bool, AllocError>
     Ok(!issues.is_empty())
 }
 
-/// That the names of a module fit this naming or not.
+/// Checks whether the names of a module follow this naming.
 fn fits(
     rt: &impl Abort,
     facts: &Facts,
@@ -268,7 +268,7 @@ fn fits(
     Ok(())
 }
 
-/// That the names of a module, such as this one, fit these namings or not.
+/// Checks whether the names of a module, such as this one, follow these namings.
 fn fits_both(
     rt: &impl Abort,
     facts: &Facts,
@@ -279,14 +279,14 @@ fn fits_both(
     fits(rt, facts, Naming::MixedSnakeCase, mixed, name)
 }
 
-/// What is kept of a module with this name in a label.
+/// The stored facts of a module with this name in a label.
 fn named(alloc: Global, name: &str) -> Result<Facts, Fail> {
     let mut text = String::new(alloc);
     push_between(&mut text, ("variable \"", "\" {}\n"), name)?;
     facts_of(alloc, &[text.as_str()])
 }
 
-/// That a name in a label fits these namings or not.
+/// Checks whether a name in a label follows these namings.
 fn fits_in_a_label(
     rt: &impl Abort,
     alloc: Global,
@@ -333,8 +333,8 @@ fn namings_have_names(rt: HostRuntime) {
     }
 }
 
-/// A source with a default branch, and a text where clusters of several characters, a tab and a line's end of two bytes are
-/// in front of what is reported.
+/// A source with a default branch, and a text with clusters of several characters, a tab and a line end of two bytes
+/// before the reported place.
 static PLACES: [Row; 2] = [
     (
         &["module \"M\" {\n  source = \"github.com/a/b?ref=main\"\n}\n"],

@@ -1,4 +1,4 @@
-//! What is kept of small files, by the issues that it gives, worked out by hand.
+//! The stored facts of small files, by their issues, worked out by hand.
 
 use crate::reports::{add, asking, has_issues};
 use std::alloc::{AllocError, Global};
@@ -22,7 +22,7 @@ const OF_SECOND: &str =
     "7:4:1: Warning - data \"t\" \"n\" is declared but not used (terraform_unused_declarations)\n\
 7:5:7: Warning - interpolation-only expressions are deprecated (terraform_deprecated_interpolation)\n";
 
-// The second file with a comment that silences less, and is one to be reported.
+// The second file with a comment that silences less, and that is itself reported.
 const LOUDER: &str =
     "locals {\n  é = \"é${ l.0 }\" // tflint-ignore: terraform_naming_convention\n}\n";
 
@@ -31,7 +31,7 @@ const OF_LOUDER: &str =
 8:2:13: Warning - list items should be accessed using square brackets (terraform_deprecated_index)\n\
 8:2:19: Warning - line comments should begin with # (terraform_comment_syntax)\n";
 
-// Used in the second file, which the first variable isn't.
+// Used in the second file; the first variable isn't used.
 const USED: &str = "variable \"w\" {\n  type        = string\n  description = \"\"\n}\n";
 
 fn push_all(all: &mut String, texts: &[&str]) -> Result<(), AllocError> {
@@ -41,7 +41,7 @@ fn push_all(all: &mut String, texts: &[&str]) -> Result<(), AllocError> {
     Ok(())
 }
 
-/// That all rules report this, one text after another.
+/// Checks the reports of all rules, one text after another.
 fn reports(
     rt: &impl Abort,
     alloc: Global,
@@ -66,7 +66,7 @@ fn add_reported(
     Ok(reports(rt, alloc, facts, wanted)?)
 }
 
-/// A file with its number, and what is reported when it is added after those before it.
+/// A file with its number, and the report when it is added after those before it.
 static KEPT: [((u32, &str), &[&str]); 4] = [
     ((0, FIRST), &[OF_FIRST]),
     ((7, SECOND), &[OF_FIRST, OF_SECOND]),
@@ -89,7 +89,7 @@ fn keeps_files(rt: HostRuntime) -> Result<(), Fail> {
     adds_each(&rt, rt.alloc(), &mut facts)
 }
 
-/// Adds a file to none, and one more, of which all is kept or nothing.
+/// Adds a file to none, and one more; all of its facts are stored, or none.
 fn adds_all_or_nothing(rt: &impl Abort, alloc: Global, facts: &mut Facts) -> Result<(), Fail> {
     add_reported(rt, alloc, facts, (0, FIRST), &[OF_FIRST])?;
     let wanted = match add(alloc, facts, 7, SECOND)? {
@@ -99,7 +99,7 @@ fn adds_all_or_nothing(rt: &impl Abort, alloc: Global, facts: &mut Facts) -> Res
     Ok(reports(rt, alloc, facts, wanted)?)
 }
 
-/// Run where a growth is refused, it sees that a refused file leaves the facts as they were.
+/// Run with a refused growth, it checks that a refused file leaves the facts as they were.
 #[test]
 fn keeps_nothing_of_a_refused_file(rt: HostRuntime) -> Result<(), Fail> {
     let mut facts = Facts::new(rt.alloc())?;

@@ -1,5 +1,4 @@
-//! Tests of `tf_rules` by its public items. They stand in a crate of their own, since a crate with tests is proved
-//! twice.
+//! Tests of `tf_rules` by its public items. They are in a crate of their own, since a crate with tests is proved twice.
 #![tactic(auto)]
 
 #[cfg(test)]

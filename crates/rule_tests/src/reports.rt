@@ -1,4 +1,4 @@
-//! The issues of a module as a text, which has a line for each, with the files by their numbers.
+//! The issues of a module as a text, with a line for each, and the files by number.
 
 use crate::checks::same_text;
 use hcl_scan::{Source, Tokens, scan};
@@ -35,7 +35,7 @@ fn add_source(
     add_tokens(facts, number, &tokens)
 }
 
-/// Adds a file of this text, which is in the language.
+/// Adds a file with this text, which is in the language.
 pub(crate) fn add(
     alloc: Global,
     facts: &mut Facts,
@@ -66,13 +66,13 @@ fn push_issues(told: &mut String, issues: &[Issue]) -> Result<(), AllocError> {
     Ok(())
 }
 
-/// The issues of the files that were added, by these settings.
+/// The issues of the added files, by these settings.
 fn push_report(told: &mut String, facts: &Facts, settings: &Settings) -> Result<(), AllocError> {
     let issues = facts.issues(settings)?;
     push_issues(told, &issues)
 }
 
-/// That these are the issues of the files that were added.
+/// Checks the issues of the added files.
 pub(crate) fn has_issues(
     rt: &impl Abort,
     alloc: Global,

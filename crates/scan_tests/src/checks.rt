@@ -1,32 +1,32 @@
-//! The comparisons of the tests and the calls of devices, each proved once. A failure says `what` it was at.
+//! The comparisons of the tests and the calls of devices, each proved once. A failure shows `what`.
 
 use hcl_source::{ByteSink, ByteSource, Failed, WriteFault, write_fully};
 use std::fmt::Debug;
 use std::process::Abort;
 
-/// Ends the test with `what` unless this is so.
+/// Ends the test with `what` unless this holds.
 pub(crate) fn holds(rt: &impl Abort, is_so: bool, what: &str) {
     if !is_so {
         rt.panic(what)
     }
 }
 
-/// That two values are the same.
+/// Checks that two values are the same.
 pub(crate) fn same<T: Debug + PartialEq>(rt: &impl Abort, found: &T, wanted: &T, what: &str) {
     assert!(rt; *found == *wanted, "{found:?}, not {wanted:?}, at {what}");
 }
 
-/// That two texts are the same.
+/// Checks that two texts are the same.
 pub(crate) fn same_text(rt: &impl Abort, found: &str, wanted: &str, what: &str) {
     assert!(rt; found == wanted, "{found:?}, not {wanted:?}, at {what:?}");
 }
 
-/// That the same bytes are in both.
+/// Checks that both have the same bytes.
 pub(crate) fn same_bytes(rt: &impl Abort, found: &[u8], wanted: &[u8], what: &str) {
     assert!(rt; found == wanted, "{found:?}, not {wanted:?}, at {what}");
 }
 
-/// That a source that hasn't failed answers so, and has failed then where that is an error.
+/// Checks the answer of a source that hasn't failed, and that it has failed if the answer is an error.
 pub(crate) fn reads<S: ByteSource>(
     rt: &impl Abort,
     source: &mut S,
@@ -39,7 +39,7 @@ pub(crate) fn reads<S: ByteSource>(
     holds(rt, source.has_failed() == wanted.is_err(), "has_failed");
 }
 
-/// That a sink that hasn't failed answers so, and has failed then where that is an error.
+/// Checks the answer of a sink that hasn't failed, and that it has failed if the answer is an error.
 pub(crate) fn writes<S: ByteSink>(
     rt: &impl Abort,
     sink: &mut S,
@@ -52,7 +52,7 @@ pub(crate) fn writes<S: ByteSink>(
     holds(rt, sink.has_failed() == wanted.is_err(), "has_failed");
 }
 
-/// That all of the bytes, or so many, are written, and that the sink has failed where not all are.
+/// Checks that all of the bytes, or this many, are written, and that the sink has failed if not all are.
 pub(crate) fn writes_fully<S: ByteSink>(
     rt: &impl Abort,
     sink: &mut S,
@@ -65,7 +65,7 @@ pub(crate) fn writes_fully<S: ByteSink>(
     holds(rt, sink.has_failed() == wanted.is_err(), "has_failed");
 }
 
-/// That a flush answers so, and that the sink has failed where that is an error.
+/// Checks the answer of a flush, and that the sink has failed if it is an error.
 pub(crate) fn flushes<S: ByteSink>(rt: &impl Abort, sink: &mut S, wanted: Result<(), Failed>) {
     assert!(rt; !sink.has_failed());
     let answer = sink.flush();

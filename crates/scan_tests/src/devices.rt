@@ -1,5 +1,5 @@
-//! Devices over readers and writers of std's that fail once and then work. No contract sees how
-//! often a device calls what it stands on.
+//! Devices over readers and writers of std that fail once and then work. No contract sees how often a device calls the
+//! reader or writer below it.
 
 use crate::checks::{flushes, holds, reads, same, same_bytes, writes_fully};
 use hcl_source::{Failed, FromRead, LoadError, Source, ToWrite, WriteFault};
@@ -15,7 +15,7 @@ const KINDS: [ErrorKind; 3] = [
     ErrorKind::BrokenPipe,
 ];
 
-// Gives one byte a call, and fails at one call.
+// Gives one byte per call, and fails at one call.
 #[derive(Drop)]
 struct Flaky {
     bytes: &'static [u8],
@@ -41,8 +41,7 @@ impl Read for Flaky {
     }
 }
 
-// Takes at most three bytes a call. One write fails, or takes nothing where no kind is given, and
-// one flush.
+// Takes at most three bytes per call. One write fails, or takes nothing if no kind is given, and one flush.
 #[derive(Drop)]
 struct Choppy {
     taken: Vec<u8>,
@@ -98,7 +97,7 @@ fn choppy_writer(alloc: Global, bad_write: u32, bad_flush: u32, kind: Option<Err
     }
 }
 
-/// That the writer was called so often, and has taken these bytes.
+/// Checks how often the writer was called, and the bytes that it has taken.
 fn was_called(rt: &impl Abort, writer: &Choppy, writes: u32, flushes: u32, taken: &[u8]) {
     same(rt, &writer.writes, &writes, "the count of writes");
     same(rt, &writer.flushes, &flushes, "the count of flushes");

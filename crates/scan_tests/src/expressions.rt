@@ -1,4 +1,4 @@
-//! What is found at the front of an expression, and after a front that says where it stands.
+//! The token at the front of an expression, and after a front that sets the context.
 
 use crate::checks::same_text;
 use crate::shown::{push_error, push_length};
@@ -12,7 +12,7 @@ const DOT: &str = "a.";
 
 const HEREDOC: &str = "<<E\n${a";
 
-/// A front, what is after it, and what is found there.
+/// A front, the text after it, and the token there.
 static ROWS: [(&str, &str, &str); 61] = [
     // identifiers
     ("", "a.1e5", "Ident 1"),
@@ -94,7 +94,7 @@ fn push_found(line: &mut String, tokens: &Tokens<'_>, start: usize) -> Result<()
     line.push_str("nothing")
 }
 
-/// What is found there, or the fault of the text.
+/// The token there, or the fault of the text.
 fn push_answer(
     line: &mut String,
     answer: &Result<Tokens<'_>, ScanError>,
@@ -106,20 +106,20 @@ fn push_answer(
     }
 }
 
-/// What is found after the front.
+/// The token after the front.
 fn found(alloc: Global, front: &str, source: &Source) -> Result<String, Fail> {
     let mut line = String::new(alloc);
     push_answer(&mut line, &scan(alloc, source), front.len())?;
     Ok(line)
 }
 
-/// A front and what is after it, as a source.
+/// A front and the text after it, as a source.
 fn source_of(alloc: Global, front: &str, rest: &str) -> Result<Source, Fail> {
     let text = format!(in alloc; "{front}{rest}")?;
     Ok(Source::from_bytes(alloc, text.as_bytes())?)
 }
 
-/// That this is found after each front.
+/// Checks the token after each front.
 fn finds(rt: &impl Abort, alloc: Global, rows: &[(&str, &str, &str)]) -> Result<(), Fail> {
     for (front, rest, wanted) in rows {
         let source = source_of(alloc, *front, *rest)?;

@@ -1,5 +1,5 @@
-//! Tests of `hcl_source` and `hcl_scan` by their public items. They stand in a crate of their own, since a crate with tests
-//! is proved twice, and apart from those of the grammar, which are proved later.
+//! Tests of `hcl_source` and `hcl_scan` by their public items. They are in a crate of their own, since a crate with
+//! tests is proved twice, and separate from those of the grammar, which are proved later.
 #![tactic(auto)]
 
 #[cfg(test)]

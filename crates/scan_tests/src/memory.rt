@@ -23,7 +23,7 @@ fn a_read_gives_so_many(rt: HostRuntime) {
     }
 }
 
-/// That so many reads of a byte are good, and the next one fails and takes nothing.
+/// Checks that this many reads of a byte are good, and that the next one fails and takes nothing.
 fn reads_then_fails(rt: &impl Abort, good: usize, rest: &[u8]) {
     let mut source = MemorySource::new(b"a=1\n", 1).failing_after(good);
     for _ in 0..good {
@@ -93,7 +93,7 @@ fn a_full_sink_fails(rt: HostRuntime) {
     same_bytes(&rt, sink.bytes(), &bytes[..4_096], "the bytes taken");
 }
 
-/// That a text written to the sink waits for a flush, which answers so.
+/// Checks that a text written to the sink waits for a flush, and the answer of the flush.
 fn flushes_text(rt: &impl Abort, sink: &mut MemorySink, wanted: Result<(), Failed>) {
     writes_fully(rt, sink, b"a = 1\n", Ok(()));
     holds(rt, !sink.is_flushed(), "is_flushed before");

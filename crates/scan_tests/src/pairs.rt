@@ -1,5 +1,5 @@
-//! Each mark beside each mark: which tokens a text of two of them is. The answers were worked out
-//! from the table of marks by the longest match, apart from this code.
+//! Each mark next to each mark: the tokens of a text of two marks. The answers were worked out from the table of marks
+//! by the longest match, apart from this code.
 
 use crate::checks::{same, same_text};
 use hcl_scan::{ScanError, Source, Tokens, scan};
@@ -794,7 +794,7 @@ fn push_texts(line: &mut String, tokens: &Tokens<'_>) -> Result<(), AllocError> 
     Ok(())
 }
 
-/// The texts of the tokens, or what messages say for the fault.
+/// The texts of the tokens, or the message of the fault.
 fn push_answer(
     line: &mut String,
     answer: &Result<Tokens<'_>, ScanError>,
@@ -806,7 +806,7 @@ fn push_answer(
     }
 }
 
-/// That a text has these tokens, or this fault.
+/// Checks the tokens of a text, or its fault.
 fn has(rt: &impl Abort, alloc: Global, text: &str, wanted: &str) -> Result<(), Fail> {
     let source = Source::from_bytes(alloc, text.as_bytes())?;
     let mut line = String::new(alloc);

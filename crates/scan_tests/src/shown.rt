@@ -1,16 +1,16 @@
-//! Tokens and faults as the texts that the rows of tests have.
+//! Tokens and faults as the texts in the rows of tests.
 
 use hcl_scan::{Fault, ScanError, Token, Tokens};
 use std::alloc::AllocError;
 
-/// A token's kind and how many bytes it has.
+/// A token's kind and its length in bytes.
 pub(crate) fn push_length(line: &mut String, token: &Token<'_>) -> Result<(), AllocError> {
     let kind = token.kind;
     let length = token.text.len();
     write!(line, "{kind:?} {length}")
 }
 
-/// A token's kind and place, after a `!` where it is inside a heredoc.
+/// A token's kind and place, after a `!` if it is inside a heredoc.
 fn push_place(line: &mut String, token: &Token<'_>) -> Result<(), AllocError> {
     let mark = if token.inside_heredoc { "!" } else { "" };
     let kind = token.kind;

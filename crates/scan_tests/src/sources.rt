@@ -30,7 +30,7 @@ fn reads_to_the_end(rt: HostRuntime) -> Result<(), Fail> {
     Ok(())
 }
 
-/// Why bytes are no source, or `None` where they are one.
+/// Why bytes are no source, or `None` if they are one.
 fn load_fault(alloc: Global, bytes: &[u8]) -> Option<Fault> {
     match Source::from_bytes(alloc, bytes) {
         Err(LoadError::Fault(fault)) => Some(fault),
@@ -38,7 +38,7 @@ fn load_fault(alloc: Global, bytes: &[u8]) -> Option<Fault> {
     }
 }
 
-/// That bytes are refused so.
+/// Checks why bytes are refused.
 fn check_load(rt: &impl Abort, alloc: Global, bytes: &[u8], kind: FaultKind, at: Position) {
     let fault = load_fault(alloc, bytes);
     same(rt, &fault, &Some(Fault { kind, at }), "a load's fault");

@@ -105,7 +105,7 @@ static ROWS: [(&str, &str); 73] = [
     ),
     ("<<M\nMx\nx M", "UnterminatedHeredoc at 1:1"),
     ("<<M\nx\nM\r", "UnterminatedHeredoc at 1:1"),
-    // what closes, and what does not
+    // closers, and text that closes nothing
     ("}", "BraceClose 0-1"),
     (
         "a = [}",
@@ -118,7 +118,7 @@ static ROWS: [(&str, &str); 73] = [
     ("a}b", "Ident 0-1 BraceClose 1-2 Ident 2-3"),
     ("(})", "ParenOpen 0-1 BraceClose 1-2 ParenClose 2-3"),
     ("{[}", "BraceOpen 0-1 BracketOpen 1-2 BraceClose 2-3"),
-    // the fault of a text, and where it stands
+    // the fault of a text, and its place
     ("\"${x\"", "UnterminatedQuote at 1:5"),
     ("\"b\n", "UnterminatedQuote at 1:1"),
     ("\"b", "UnterminatedQuote at 1:1"),
@@ -137,7 +137,7 @@ static ROWS: [(&str, &str); 73] = [
     ("<<E\n${(\nE\n", "UnterminatedTemplate at 2:1"),
     ("\"${a", "UnterminatedTemplate at 1:2"),
     ("\"${\"b", "UnterminatedQuote at 1:4"),
-    // comments, also at the end of what is seen, and numbers
+    // comments, also at the end of the visible text, and numbers
     ("# x", "LineComment 0-3"),
     ("// x\r", "LineComment 0-5"),
     ("/**/", "InlineComment 0-4"),
@@ -198,14 +198,14 @@ fn nested(alloc: Global, opener: &str, count: usize, rest: &str) -> Result<Strin
     Ok(text)
 }
 
-/// That a text has these tokens, or this fault.
+/// Checks the tokens of a text, or its fault.
 fn has(rt: &impl Abort, alloc: Global, text: &str, wanted: &str) -> Result<(), Fail> {
     let given = shown(alloc, text)?;
     same_text(rt, given.as_str(), wanted, text);
     Ok(())
 }
 
-/// That each text has these tokens, or this fault.
+/// Checks the tokens of each text, or its fault.
 fn all_have(rt: &impl Abort, alloc: Global, rows: &[(&str, &str)]) -> Result<(), Fail> {
     for (text, wanted) in rows {
         has(rt, alloc, *text, *wanted)?;
@@ -218,7 +218,7 @@ fn tokens_and_faults(rt: HostRuntime) -> Result<(), Fail> {
     all_have(&rt, rt.alloc(), &ROWS)
 }
 
-/// The opener past 256 open ones, also where it has no marker line.
+/// The opener beyond 256 open ones, also if it has no marker line.
 #[test]
 fn too_deep(rt: HostRuntime) -> Result<(), Fail> {
     let rows = [
@@ -254,7 +254,7 @@ fn as_deep_as_can_be(rt: HostRuntime) -> Result<(), Fail> {
     Ok(())
 }
 
-/// The parts in turn: a front, so many letters, and what follows them.
+/// The parts in turn: a front, this many letters, and the text after them.
 fn long_text(alloc: Global, parts: &[(&str, usize, &str)]) -> Result<String, AllocError> {
     let mut text = String::new(alloc);
     for (front, count, rest) in parts {
@@ -265,7 +265,7 @@ fn long_text(alloc: Global, parts: &[(&str, usize, &str)]) -> Result<String, All
     Ok(text)
 }
 
-/// Long tokens, which are kept apart from others, with short ones between them.
+/// Long tokens, which are stored separately, with short ones between them.
 #[test]
 fn long_tokens(rt: HostRuntime) -> Result<(), Fail> {
     let parts = [
@@ -287,7 +287,7 @@ Ident 396624-396625 LineComment 396626-462161 Newline 462161-462162 Ident 462162
     Ok(())
 }
 
-/// A line that is a marker of so many letters but for the one at a place.
+/// A line that is a marker of this many letters except for the one at a place.
 fn push_nearly(text: &mut String, length: usize, place: usize) -> Result<(), AllocError> {
     push_times(text, "m", place)?;
     text.push_str("x")?;
@@ -295,7 +295,7 @@ fn push_nearly(text: &mut String, length: usize, place: usize) -> Result<(), All
     text.push_str("\n")
 }
 
-/// A heredoc whose marker has so many letters, with each line that differs from it in one, and a comment after it.
+/// A heredoc whose marker has this many letters, with each line that differs from it in one, and a comment after it.
 fn among_alike(alloc: Global, length: usize) -> Result<String, AllocError> {
     let mut text = String::new(alloc);
     text.push_str("<<")?;

@@ -2,7 +2,7 @@
 
 use std::process::Abort;
 
-/// Ends the test unless this is so, with what should have been so and of which row.
+/// Ends the test unless this holds, with the expectation and the row.
 pub(crate) fn holds_at(rt: &impl Abort, is_so: bool, what: &str, row: &str) {
     assert!(rt; is_so, "{what}: {row}");
 }

@@ -1,4 +1,4 @@
-//! Small files, and texts that are none with the fault that they have, worked out by hand or by another program.
+//! Small files, and texts that aren't files with their faults, worked out by hand or by another program.
 
 use crate::checks::holds_at;
 use hcl_scan::{Fault, FaultKind, Position, Source, scan};
@@ -7,7 +7,7 @@ use std::alloc::{AllocError, Global};
 use std::process::Abort;
 use std::test::Fail;
 
-/// Why a text is refused; nothing for a file, whose tokens are all accepted then.
+/// Why a text is refused; nothing for a file, whose tokens are then all accepted.
 fn fault_of(rt: &impl Abort, alloc: Global, text: &str) -> Result<Option<Fault>, Fail> {
     let source = Source::from_bytes(alloc, text.as_bytes())?;
     let tokens = scan(alloc, &source)?;
@@ -21,19 +21,19 @@ fn fault_of(rt: &impl Abort, alloc: Global, text: &str) -> Result<Option<Fault>,
     }
 }
 
-/// That this is what was wanted of the text.
+/// Checks the answer for the text.
 fn is_fault(rt: &impl Abort, found: Option<Fault>, wanted: Option<Fault>, text: &str) {
     assert_eq!(rt; found, wanted, "{text}");
 }
 
-/// That the text is a file.
+/// Checks that the text is a file.
 fn takes(rt: &impl Abort, alloc: Global, text: &str) -> Result<(), Fail> {
     let found = fault_of(rt, alloc, text)?;
     is_fault(rt, found, None, text);
     Ok(())
 }
 
-/// That the text is none, for this fault.
+/// Checks that the text is refused for this fault.
 fn refuses(
     rt: &impl Abort,
     alloc: Global,
@@ -48,7 +48,7 @@ fn refuses(
     Ok(())
 }
 
-/// That each text is a file.
+/// Checks that each text is a file.
 fn takes_all(rt: &impl Abort, alloc: Global, texts: &[&str]) -> Result<(), Fail> {
     for text in texts {
         takes(rt, alloc, *text)?;
@@ -56,7 +56,7 @@ fn takes_all(rt: &impl Abort, alloc: Global, texts: &[&str]) -> Result<(), Fail>
     Ok(())
 }
 
-/// That each text is none, for a fault of this kind at this line and column.
+/// Checks that each text is refused, for a fault of this kind at this line and column.
 fn refuses_all(
     rt: &impl Abort,
     alloc: Global,
@@ -365,7 +365,7 @@ fn lines<'a>(front: &'a str, part: &'a str, middle: &'a str, back: &'a str) -> N
     }
 }
 
-/// Puts a part so many times after the text.
+/// Appends a part this many times to the text.
 fn repeat(text: &mut String, part: &str, count: usize) -> Result<(), AllocError> {
     for _ in 0..count {
         text.push_str(part)?;
@@ -373,7 +373,7 @@ fn repeat(text: &mut String, part: &str, count: usize) -> Result<(), AllocError>
     Ok(())
 }
 
-/// Puts a nest of so many parts after the text.
+/// Appends a nest of this many parts to the text.
 fn write_nest(text: &mut String, nest: Nest<'_>, count: usize) -> Result<(), AllocError> {
     text.push_str(nest.front)?;
     repeat(text, nest.part, count)?;
@@ -383,7 +383,7 @@ fn write_nest(text: &mut String, nest: Nest<'_>, count: usize) -> Result<(), All
     Ok(())
 }
 
-/// Why a nest of so many parts is refused, if it is.
+/// Why a nest of this many parts is refused, if it is.
 fn nest_fault(
     rt: &impl Abort,
     alloc: Global,
@@ -395,14 +395,14 @@ fn nest_fault(
     fault_of(rt, alloc, text.as_str())
 }
 
-/// That the nest of so many parts is a file.
+/// Checks that the nest of this many parts is a file.
 fn takes_nest(rt: &impl Abort, alloc: Global, nest: Nest<'_>, count: usize) -> Result<(), Fail> {
     let found = nest_fault(rt, alloc, nest, count)?;
     is_fault(rt, found, None, nest.part);
     Ok(())
 }
 
-/// That each of these, with so many parts and as whole lines, is a file.
+/// Checks that each of these, with this many parts and as whole lines, is a file.
 fn takes_nests(
     rt: &impl Abort,
     alloc: Global,
@@ -416,7 +416,7 @@ fn takes_nests(
     Ok(())
 }
 
-/// What needs no opener may be as long as a source can be.
+/// Constructs without an opener may be as long as a source can be.
 #[test]
 fn takes_long_chains(rt: HostRuntime) -> Result<(), Fail> {
     static ROWS: &[(&str, &str, &str, &str)] = &[

@@ -7,7 +7,7 @@ use std::alloc::{AllocError, Global};
 use std::process::Abort;
 use std::test::Fail;
 
-/// The item of this number, as far as there is one.
+/// The item of this number, if there is one.
 fn item_at(items: &Outline, i: usize) -> Option<Item> {
     if i < items.len() {
         Some(items.get(i))
@@ -16,12 +16,12 @@ fn item_at(items: &Outline, i: usize) -> Option<Item> {
     }
 }
 
-/// That the item of this number is the wanted one.
+/// Checks the item of this number.
 fn is_item(rt: &impl Abort, found: Option<Item>, wanted: Item, text: &str, i: usize) {
     assert_eq!(rt; found, Some(wanted), "{text}: {i}");
 }
 
-/// That these are the items of a text.
+/// Checks the items of a text.
 fn are_items(rt: &impl Abort, items: &Outline, wanted: &[Item], text: &str) {
     holds_at(rt, items.len() == wanted.len(), "count of items", text);
     let is_empty = items.is_empty();
@@ -41,7 +41,7 @@ fn outline_of(rt: &impl Abort, alloc: Global, text: &str) -> Result<Outline, Fai
     Ok(outline(alloc, &accepted)?)
 }
 
-/// That these are the items of a text.
+/// Checks the items of a text.
 fn has_outline(rt: &impl Abort, alloc: Global, text: &str, wanted: &[Item]) -> Result<(), Fail> {
     let items = outline_of(rt, alloc, text)?;
     are_items(rt, &items, wanted, text);

@@ -1,5 +1,5 @@
-//! How often a run calls its devices, and that it doesn't call one again that has failed. Contracts
-//! see what was read and written and whether it was flushed, but not how many calls that took.
+//! How often a run calls its devices, and that it doesn't call a failed one again. Contracts see the bytes read and
+//! written and whether they were flushed, but not the number of calls.
 
 use crate::compared::{Shown, same_number, same_shown};
 use crate::devices::{Reader, Writer, run};
@@ -7,16 +7,16 @@ use crate::row_tests::{CHECK, PRINT, repeated};
 use std::alloc::Global;
 use std::process::Abort;
 
-// A number for each kind of call, of reads, writes, flushes and messages: how many there were, or
-// which of them fails, 0 being none.
+// A number for each kind of call, of reads, writes, flushes and messages: how many there were, or which of them fails;
+// 0 means none.
 type Calls = (u32, u32, u32, u32);
 
 const NONE: Calls = (0, 0, 0, 0);
 
-// The words and the input, which calls fail, how many there are, and what is shown.
+// The words and the input, the failing calls, the number of calls, and the output.
 type Row<'a> = (&'a [&'a str], &'a [u8], Calls, Calls, Shown<'a>);
 
-// That there were so many calls as are wanted of the input.
+// Checks the number of calls for the input.
 fn same_calls(rt: &impl Abort, found: Calls, wanted: Calls, input: &[u8]) {
     same_number(rt, u64::from(found.0), u64::from(wanted.0), input);
     same_number(rt, u64::from(found.1), u64::from(wanted.1), input);
@@ -24,8 +24,8 @@ fn same_calls(rt: &impl Abort, found: Calls, wanted: Calls, input: &[u8]) {
     same_number(rt, u64::from(found.3), u64::from(wanted.3), input);
 }
 
-// Runs the program, in which these calls fail, and compares how often it called its devices, what
-// it wrote, and its status.
+// Runs the program with these calls failing, and compares the number of calls of its devices, its output, and its
+// status.
 fn check(rt: &impl Abort, alloc: Global, row: &Row<'_>) {
     let (words, input, fails, wanted, shown) = *row;
     let mut reader = Reader::new(input, fails.0);
@@ -67,7 +67,7 @@ fn output_is_flushed_once(rt: HostRuntime) {
     check_all(&rt, rt.alloc(), &PRINTS);
 }
 
-// That a run shows what is wanted, and flushes once all is written, or nothing where nothing is.
+// Checks the output of a run, and that it flushes once everything is written, or not at all if nothing is.
 fn flushes_at_the_end(
     rt: &impl Abort,
     alloc: Global,

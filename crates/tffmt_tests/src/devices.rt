@@ -37,7 +37,7 @@ impl<'a> Read for Reader<'a> {
     }
 }
 
-/// Takes all, counts its calls, and fails at one of them. What failed works when it is called again.
+/// Takes all, counts its calls, and fails at one of them. A failed call works when it is made again.
 #[derive(Drop)]
 pub struct Writer {
     pub taken: Vec<u8>,
@@ -82,7 +82,7 @@ impl Write for Writer {
     }
 }
 
-/// Runs the program, and gives its status.
+/// Runs the program, and returns its status.
 pub fn run(
     alloc: Global,
     words: &[&str],

@@ -1,5 +1,5 @@
-//! Runs in which every call of a device fails in turn: each read, each write and the flush that a
-//! run reaches, and then each write of the message too, with one byte a call and with many.
+//! Runs in which every call of a device fails in turn: each read, each write and the flush that a run reaches, and then
+//! each write of the message too, with one byte per call and with many.
 
 ghost use Rattle.std.specs.Prelude.{◌≡◌, false};
 
@@ -17,7 +17,7 @@ static WRITE_FAILED: &[u8] = b"tffmt: error: write failed\n";
 // More calls of one device than any run here makes.
 const CALLS: usize = 1_000;
 
-// What a run is given, and what it shows where nothing fails.
+// A run, and its result if nothing fails.
 #[derive(Clone, Copy)]
 struct Row<'a> {
     words: &'a [&'a str],
@@ -25,8 +25,8 @@ struct Row<'a> {
     shown: Shown<'a>,
 }
 
-// How many bytes a call of each device moves at most, and which calls fail: of each kind the one
-// after so many good ones.
+// How many bytes a call of each device moves at most, and the failing calls: of each kind the one after this many good
+// ones.
 #[derive(Clone, Copy)]
 struct Devices {
     most_read: usize,
@@ -51,7 +51,7 @@ fn steady(most: usize) -> Devices {
     }
 }
 
-// What stands at the end of a run.
+// The state at the end of a run.
 #[derive(Drop)]
 struct Outcome {
     has_read_failed: bool,
@@ -100,13 +100,13 @@ fn run(alloc: Global, row: &Row<'_>, devices: &Devices) -> Outcome {
     }
 }
 
-// What so many good calls write.
+// The bytes of this many good calls.
 fn front(text: &[u8], calls: usize, most: usize) -> &[u8] {
     text.split_at(calls.saturating_mul(most).min(text.len())).0
 }
 
-// Runs over devices of which the message's fails after so many good writes: the run shows what is
-// wanted, or of the message only what these wrote. Gives whether that write was reached.
+// Runs over devices whose message fails after this many good writes: the run has the expected result, or of the message
+// only the bytes of these writes. Returns whether that write was reached.
 fn message_fails(
     rt: &impl Abort,
     alloc: Global,
@@ -130,8 +130,8 @@ fn message_fails(
     failed
 }
 
-// Lets each write of a message fail in turn, beside other failures, after which the run is to show
-// this. Gives how many writes the message takes.
+// Lets each write of a message fail in turn, beside other failures; the run is to have this result. Returns how many
+// writes the message takes.
 fn fail_messages(
     rt: &impl Abort,
     alloc: Global,
@@ -147,7 +147,7 @@ fn fail_messages(
     CALLS
 }
 
-// A kind of call but for the writes of a message.
+// A kind of call, except the writes of a message.
 #[derive(Clone, Copy)]
 enum Kind {
     Read,
@@ -155,7 +155,7 @@ enum Kind {
     Flush,
 }
 
-// Devices of which the call of this kind after so many good ones fails. A flush fails at once.
+// Devices whose call of this kind fails after this many good ones. A flush fails at once.
 fn failing(kind: Kind, good: usize, most: usize) -> Devices {
     let others = steady(most);
     match kind {
@@ -174,7 +174,7 @@ fn failing(kind: Kind, good: usize, most: usize) -> Devices {
     }
 }
 
-// What a run shows whose call of this kind fails after so many good ones.
+// The result of a run whose call of this kind fails after this many good ones.
 fn shown_after<'a>(row: &Row<'a>, kind: Kind, good: usize, most: usize) -> Shown<'a> {
     match kind {
         Kind::Read => (b"", READ_FAILED, 4),
@@ -183,7 +183,7 @@ fn shown_after<'a>(row: &Row<'a>, kind: Kind, good: usize, most: usize) -> Shown
     }
 }
 
-// Whether a run over devices reaches the call of this kind that fails. If not, it shows the row.
+// Whether a run over devices reaches the call of this kind that fails. If not, it has the result of the row.
 fn fails(rt: &impl Abort, alloc: Global, row: &Row<'_>, devices: &Devices, kind: Kind) -> bool {
     let run = run(alloc, row, devices);
     let failed = match kind {
@@ -196,8 +196,7 @@ fn fails(rt: &impl Abort, alloc: Global, row: &Row<'_>, devices: &Devices, kind:
     failed
 }
 
-// Lets each call of this kind fail in turn. Gives how many there are, and how many failures there
-// were.
+// Lets each call of this kind fail in turn. Returns how many there are, and how many failures there were.
 fn fail_kind(rt: &impl Abort, alloc: Global, row: &Row<'_>, most: usize, kind: Kind) -> (u64, u64) {
     let mut failures = 0_u64;
     for good in 0..CALLS {
@@ -212,12 +211,11 @@ fn fail_kind(rt: &impl Abort, alloc: Global, row: &Row<'_>, most: usize, kind: K
     (CALLS as u64, failures)
 }
 
-// How many reads, writes, flushes and writes of its message a run has, and how many failures that
-// gives.
+// The number of reads, writes, flushes and writes of its message in a run, and the number of failures.
 type Counts = (u64, u64, u64, u64, u64);
 
-// Lets each call of a run fail in turn, with at most so many bytes a call, and compares how many
-// there are and how many failures that gave.
+// Lets each call of a run fail in turn, with at most this many bytes per call, and compares the numbers of calls and
+// failures.
 fn fail_each(rt: &impl Abort, alloc: Global, row: &Row<'_>, most: usize, wanted: Counts) {
     let messages = fail_messages(rt, alloc, row, steady(most), row.shown) as u64;
     let (reads, by_reads) = fail_kind(rt, alloc, row, most, Kind::Read);
@@ -245,7 +243,7 @@ fn row_of<'a>(words: &'a [&'a str], input: &'a [u8], shown: Shown<'a>) -> Row<'a
 
 type Words = &'static [&'static str];
 
-// What a run is given and what it shows, and its calls with one byte each and with many.
+// A run and its result, and its calls with one byte each and with many.
 static RUNS: [(Words, &[u8], Shown<'static>, Counts, Counts); 11] = [
     // prints
     (
@@ -339,7 +337,7 @@ fn each_call_fails(rt: HostRuntime) {
     }
 }
 
-// That a print over devices shows this.
+// Checks that a print over devices has this result.
 fn shows(rt: &impl Abort, alloc: Global, devices: &Devices, shown: Shown<'_>) {
     let row = row_of(&PRINT, b"a=1\n", shown);
     run(alloc, &row, devices).check(rt, row.shown, row.input);
@@ -372,7 +370,7 @@ fn a_device_fails(rt: HostRuntime) {
     shows(&rt, rt.alloc(), &flush, (b"a = 1\n", WRITE_FAILED, 4));
 }
 
-// The text with so many bytes after it.
+// The text with this many bytes after it.
 fn longer(rt: &impl Abort, alloc: Global, text: &[u8]) -> Vec<u8> {
     let parts = [(text, 1), (b"x", 5_000)];
     repeated(rt, alloc, &parts)

@@ -1,4 +1,4 @@
-//! How long the prints of files are, which were worked out by hand.
+//! The lengths of the prints of files, worked out by hand.
 
 use crate::compared::{holds, same_number};
 use crate::row_tests::repeated;
@@ -8,7 +8,7 @@ use hcl_syntax::{Accepted, accepts};
 use std::alloc::Global;
 use std::process::Abort;
 
-// That the print of a file has so many bytes.
+// Checks the length of the print of a file.
 fn has_length(rt: &impl Abort, accepted: &Accepted<'_, '_>, len: u32, text: &[u8]) {
     let len = u64::from(len);
     same_number(rt, printed_len(accepted), len, text);
@@ -20,7 +20,7 @@ fn has_length(rt: &impl Abort, accepted: &Accepted<'_, '_>, len: u32, text: &[u8
     holds(rt, prints_nothing(accepted) == (len == 0), text);
 }
 
-// That the text is a file whose print has so many bytes.
+// Checks that the text is a file, and the length of its print.
 fn prints(rt: &impl Abort, alloc: Global, text: &[u8], len: u32) {
     let source = Source::from_bytes(alloc, text).expect(rt, "a source");
     let tokens = scan(alloc, &source).expect(rt, "tokens");
@@ -52,7 +52,7 @@ fn lengths_of_large_files(rt: HostRuntime) {
     prints(&rt, rt.alloc(), &text, 4_194_300);
 }
 
-// Each line takes 1,005 bytes in the column of the first, so that no more than a source may have is told only by measuring:
+// Each line takes 1,005 bytes in the column of the first, so only measuring shows that the print fits into a source:
 // 4,173 lines fit, and one more doesn't.
 #[test]
 fn lengths_beside_a_long_name(rt: HostRuntime) {

@@ -1,5 +1,5 @@
-//! Tests of `tffmt_command` by its public items: `options`, and whole runs of `program`; and of what `hcl_layout` says of
-//! the length of a print. They stand in a crate of their own, since a crate with tests is proved twice.
+//! Tests of `tffmt_command` by its public items: `options`, and whole runs of `program`; and of the length of a print
+//! by `hcl_layout`. They are in a crate of their own, since a crate with tests is proved twice.
 #![tactic(auto)]
 
 #[cfg(test)]

@@ -1,4 +1,4 @@
-//! Files and what the program shows for them, from small ones up to the limits.
+//! Files and the program's results for them, from small ones up to the limits.
 
 use crate::compared::Shown;
 use crate::tests::check;
@@ -13,36 +13,36 @@ pub static CHECK: [&str; 2] = ["tffmt", "--check"];
 
 static NOTHING: &[u8] = b"";
 
-// What a check of a file shows that is its own print, and of another.
+// The result of a check of a file that is its own print, and of another.
 static FORMATTED: Shown<'static> = (b"", b"", 0);
 
 static UNFORMATTED: Shown<'static> = (b"", b"", 3);
 
-// That the input is formatted to this print.
+// Checks that the input is formatted to this print.
 fn gives(rt: &impl Abort, alloc: Global, input: &[u8], print: &[u8]) {
     check(rt, alloc, &PRINT, input, (print, NOTHING, 0));
 }
 
-// That the file is its own print, and found to be.
+// Checks that the file is its own print, and found to be.
 fn stays(rt: &impl Abort, alloc: Global, file: &[u8]) {
     gives(rt, alloc, file, file);
     check(rt, alloc, &CHECK, file, FORMATTED);
 }
 
-// That the input isn't its own print, which this is.
+// Checks that the input isn't its own print, which is this one.
 fn turns_to(rt: &impl Abort, alloc: Global, input: &[u8], print: &[u8]) {
     gives(rt, alloc, input, print);
     check(rt, alloc, &CHECK, input, UNFORMATTED);
     stays(rt, alloc, print);
 }
 
-// That the input is refused with this line, printed or checked.
+// Checks that the input is refused with this line, printed or checked.
 fn gives_fault(rt: &impl Abort, alloc: Global, input: &[u8], line: &[u8]) {
     check(rt, alloc, &PRINT, input, (NOTHING, line, 2));
     check(rt, alloc, &CHECK, input, (NOTHING, line, 2));
 }
 
-// An input, and the print or the line that it gives.
+// An input, and its print or its line.
 type Pair = (&'static [u8], &'static [u8]);
 
 fn all_give(rt: &impl Abort, alloc: Global, rows: &[Pair]) {
@@ -69,7 +69,7 @@ fn all_refused(rt: &impl Abort, alloc: Global, rows: &[Pair]) {
     }
 }
 
-/// Each part so many times, in turn.
+/// Each part this many times, in turn.
 pub fn repeated(rt: &impl Abort, alloc: Global, parts: &[(&[u8], usize)]) -> Vec<u8> {
     let mut bytes = Vec::new(alloc);
     for (part, count) in parts {
@@ -154,12 +154,12 @@ fn aligns(rt: HostRuntime) {
     all_give(&rt, rt.alloc(), &ALIGNED);
 }
 
-// The widths are by grapheme clusters, of which each character below U+0300 is one.
+// The widths are by grapheme clusters; each character below U+0300 is one.
 static CLUSTERS: [Pair; 7] = [
     // U+00E9, and the same letter with an accent of its own
     (b"\xc3\xa9=1\nab=2\n", b"\xc3\xa9  = 1\nab = 2\n"),
     (b"e\xcc\x81e=1\nabc=2\n", b"e\xcc\x81e  = 1\nabc = 2\n"),
-    // U+02FF, the last below, and U+0300 after a letter and alone
+    // U+02FF, the last below, and U+0300 after a letter and by itself
     (
         b"a=\"\xcb\xbf\xcb\xbf\"#x\nb=\"c\"#y\n",
         b"a = \"\xcb\xbf\xcb\xbf\" #x\nb = \"c\"  #y\n",
@@ -188,7 +188,7 @@ fn aligns_by_clusters(rt: HostRuntime) {
     all_turn(&rt, rt.alloc(), &CLUSTERS);
 }
 
-// A run whose column is the greatest width, wherever the widest line stands, and whatever is beside the run.
+// A run whose column is the greatest width, wherever the widest line is, and whatever is beside the run.
 static FILES: [&[u8]; 12] = [
     b"",
     b"a = 1\n",
@@ -210,7 +210,7 @@ fn keeps_formatted(rt: HostRuntime) {
 }
 
 static NEARLY_FORMATTED: [Pair; 16] = [
-    // a column further than the widest line, in all lines of the run, in front of an end or of another run
+    // a column further than the widest line, in all lines of the run, before the end or another run
     (b"a    = 1\nbcd  = 2\n", b"a   = 1\nbcd = 2\n"),
     (b"a  = 1\n", b"a = 1\n"),
     (b"a    = 1\nbcd  = 2", b"a   = 1\nbcd = 2"),
@@ -223,14 +223,14 @@ static NEARLY_FORMATTED: [Pair; 16] = [
     (b"a  = 1\nbcd= 2\n", b"a   = 1\nbcd = 2\n"),
     (b"a  = 1\nbcd = 2\n", b"a   = 1\nbcd = 2\n"),
     (b"bcd = 1\na = 2\n", b"bcd = 1\na   = 2\n"),
-    // the same of comments
+    // such columns of comments
     (
         b"a  = 1   # x\nbc = 22  # y\n",
         b"a  = 1  # x\nbc = 22 # y\n",
     ),
     (b"a  = 1  # x\nbc = 22  # y", b"a  = 1  # x\nbc = 22 # y"),
     (b"a = 1  # x\n\nb = 22 # y\n", b"a = 1 # x\n\nb = 22 # y\n"),
-    // what is as long as the blanks that belong there
+    // a text as long as the blanks in its place
     (b"a\t= 1\n", b"a = 1\n"),
     (b"b {\n\t\tc = 1\n}\n", b"b {\n  c = 1\n}\n"),
     (b"a\t  = 1\nbcd = 2\n", b"a   = 1\nbcd = 2\n"),
@@ -327,7 +327,7 @@ fn refuses_grammar_faults(rt: HostRuntime) {
 
 type Parts = &'static [(&'static [u8], usize)];
 
-// That these parts are formatted to those.
+// Checks that these parts are formatted to those.
 fn all_parts_give(rt: &impl Abort, alloc: Global, rows: &[(Parts, Parts)]) {
     for (parts, printed) in rows {
         let input = repeated(rt, alloc, parts);
@@ -336,7 +336,7 @@ fn all_parts_give(rt: &impl Abort, alloc: Global, rows: &[(Parts, Parts)]) {
     }
 }
 
-// That these parts are refused with this line.
+// Checks that these parts are refused with this line.
 fn all_parts_refused(rt: &impl Abort, alloc: Global, rows: &[(Parts, &[u8])]) {
     for (parts, line) in rows {
         let input = repeated(rt, alloc, parts);
@@ -426,7 +426,7 @@ fn sizes(rt: HostRuntime) {
     all_parts_refused(&rt, rt.alloc(), &TOO_LARGE);
 }
 
-// That so many short lines beside a name of 1,000 bytes are aligned to it.
+// Checks that this many short lines beside a name of 1,000 bytes are aligned to it.
 fn aligns_to_a_long_name(rt: &impl Abort, alloc: Global, count: usize) {
     let aligned = repeated(rt, alloc, &[(b"a", 1), (b" ", 1000), (b"= 1\n", 1)]);
     let input = repeated(rt, alloc, &[(b"b", 1000), (b"=1\n", 1), (b"a=1\n", count)]);

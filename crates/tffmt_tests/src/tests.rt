@@ -6,7 +6,7 @@ use std::alloc::Global;
 use std::process::Abort;
 use tffmt_command::options::{FmtOptions, Usage, options};
 
-/// Runs the program, and compares what it wrote and its status.
+/// Runs the program, and compares its output and its status.
 pub fn check(rt: &impl Abort, alloc: Global, words: &[&str], input: &[u8], wanted: Shown<'_>) {
     let mut reader = Reader::new(input, 0);
     let mut written = Writer::new(alloc, 0, 0);

@@ -1,5 +1,5 @@
-//! What the tests compare by, with one assertion each, so that it is proved once. A failure shows the text of a file of
-//! the run.
+//! The comparisons of the tests, with one assertion each, so that it is proved once. A failure shows the text of a file
+//! of the run.
 
 use std::alloc::Global;
 use std::process::Abort;
@@ -7,32 +7,32 @@ use std::process::Abort;
 /// The files of a module: their names and their bytes.
 pub type Files<'a> = &'a [(&'a str, &'a [u8])];
 
-/// What a run shows: its report, its message and its status.
+/// The result of a run: its report, its message and its status.
 pub type Shown<'a> = (&'a [u8], &'a [u8], u8);
 
-/// That something is so of the text.
+/// Checks a property of the text.
 pub fn holds(rt: &impl Abort, is_so: bool, text: &[u8]) {
     assert!(rt; is_so, "at {text:?}");
 }
 
-/// That a number is the one that is wanted of the text.
+/// Checks a number for the text.
 pub fn same_number(rt: &impl Abort, found: u64, wanted: u64, text: &[u8]) {
     assert_eq!(rt; found, wanted, "at {text:?}");
 }
 
-/// That bytes are the ones that are wanted of the text.
+/// Checks bytes for the text.
 pub fn same_bytes(rt: &impl Abort, found: &[u8], wanted: &[u8], text: &[u8]) {
     assert_eq!(rt; found, wanted, "at {text:?}");
 }
 
-/// That a run over the text shows what is wanted.
+/// Checks the result of a run over the text.
 pub fn same_shown(rt: &impl Abort, found: Shown<'_>, wanted: Shown<'_>, text: &[u8]) {
     same_bytes(rt, found.0, wanted.0, text);
     same_bytes(rt, found.1, wanted.1, text);
     same_number(rt, u64::from(found.2), u64::from(wanted.2), text);
 }
 
-/// The text of the first file, or no text where there is no file.
+/// The text of the first file, or no text if there is no file.
 pub fn first_text<'a>(files: Files<'a>) -> &'a [u8] {
     match files.first() {
         Some((_, text)) => text,

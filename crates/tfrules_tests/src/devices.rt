@@ -1,4 +1,4 @@
-//! Runs of the program over devices in memory, of which calls can fail.
+//! Runs of the program over devices in memory, with calls that can fail.
 
 ghost use Rattle.std.specs.Prelude.{◌≡◌, false};
 
@@ -12,7 +12,7 @@ use std::process::Abort;
 use tfrules_command::module_files::ModuleFiles;
 use tfrules_command::run::program;
 
-/// How many bytes a call moves at most, and which calls fail: of each kind the one after so many good ones.
+/// How many bytes a call moves at most, and the failing calls: of each kind the one after this many good ones.
 #[derive(Clone, Copy)]
 pub struct Devices {
     pub most: usize,
@@ -33,7 +33,7 @@ pub fn steady(most: usize) -> Devices {
     }
 }
 
-/// What stands at the end of a run.
+/// The state at the end of a run.
 #[derive(Drop)]
 pub struct Outcome {
     pub opened: u64,
@@ -49,7 +49,7 @@ impl Outcome {
         (self.out.bytes(), self.err.bytes(), self.status)
     }
 
-    /// That the run over these files shows what is wanted.
+    /// Checks the result of the run over these files.
     pub fn check(&self, rt: &impl Abort, wanted: Shown<'_>, files: Files<'_>) {
         same_shown(rt, self.shown(), wanted, first_text(files));
     }
@@ -113,8 +113,8 @@ impl Write for Writer {
     }
 }
 
-/// Runs the program on a module over writers that count, and compares what it shows, and that it flushes once all is
-/// written, or nothing where nothing is.
+/// Runs the program on a module over writers that count, and compares its result, and that it flushes once everything
+/// is written, or not at all if nothing is.
 pub fn flushes_at_the_end(
     rt: &impl Abort,
     alloc: Global,

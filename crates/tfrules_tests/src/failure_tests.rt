@@ -1,5 +1,5 @@
-//! Runs in which every call of a device fails in turn: each opening, each read, each write and the flush that a run reaches,
-//! and then each write of the message too, with one byte a call and with many.
+//! Runs in which every call of a device fails in turn: each open, each read, each write and the flush that a run
+//! reaches, and then each write of the message too, with one byte per call and with many.
 
 use crate::compared::{Files, Shown, first_text, holds, joined, same_bytes, same_number};
 use crate::devices::{Devices, flushes_at_the_end, run, steady};
@@ -14,8 +14,8 @@ static WRITE_FAILED: &[u8] = b"tfrules: error: write failed\n";
 // More calls of one device than any run here makes.
 const CALLS: usize = 1_000;
 
-// What a run is given, its files in the order of their openings, and what it shows where nothing fails, with the pieces in
-// which it writes its report.
+// A run, its files in the order of their opens, and its result if nothing fails, with the pieces in which it writes its
+// report.
 #[derive(Clone, Copy)]
 struct Row<'a> {
     words: &'a [&'a str],
@@ -24,7 +24,7 @@ struct Row<'a> {
     shown: Shown<'a>,
 }
 
-// What so many good calls write of a report that is written piece by piece.
+// The bytes of this many good calls of a report that is written piece by piece.
 fn report_front(
     rt: &impl Abort,
     alloc: Global,
@@ -46,13 +46,13 @@ fn report_front(
     front
 }
 
-// What so many good calls write of a message.
+// The bytes of this many good calls of a message.
 fn message_front(text: &[u8], calls: usize, most: usize) -> &[u8] {
     text.split_at(calls.saturating_mul(most).min(text.len())).0
 }
 
-// Runs over devices of which the message's fails after so many good writes: the run shows what is wanted, or of the message
-// only what these wrote. Gives whether that write was reached.
+// Runs over devices whose message fails after this many good writes: the run has the expected result, or of the message
+// only the bytes of these writes. Returns whether that write was reached.
 fn message_fails(
     rt: &impl Abort,
     alloc: Global,
@@ -76,7 +76,7 @@ fn message_fails(
     failed
 }
 
-// Lets each write of a message fail in turn, beside other failures, after which the run is to show this. Gives how many
+// Lets each write of a message fail in turn, beside other failures; the run is to have this result. Returns how many
 // writes the message takes.
 fn fail_messages(
     rt: &impl Abort,
@@ -93,7 +93,7 @@ fn fail_messages(
     CALLS as u64
 }
 
-// A kind of call but for the writes of a message: an opening, a read of the file opened at this number, a write, a flush.
+// A kind of call, except the writes of a message: an open, a read of the file opened at this number, a write, a flush.
 #[derive(Clone, Copy)]
 enum Kind {
     Opening,
@@ -102,7 +102,7 @@ enum Kind {
     Flush,
 }
 
-// Devices of which the call of this kind after so many good ones fails. A flush fails at once.
+// Devices whose call of this kind fails after this many good ones. A flush fails at once.
 fn failing(kind: Kind, good: usize, most: usize) -> Devices {
     let others = steady(most);
     match kind {
@@ -140,7 +140,7 @@ fn line_about(
     joined(rt, alloc, &["tfrules: error: ", name, ": ", text, "\n"])
 }
 
-// The message of a run whose call of this kind fails after so many good ones.
+// The message of a run whose call of this kind fails after this many good ones.
 fn message_after(
     rt: &impl Abort,
     alloc: Global,
@@ -155,7 +155,7 @@ fn message_after(
     }
 }
 
-// What such a run writes of its report, with at most so many bytes a call.
+// The part of its report that such a run writes, with at most this many bytes per call.
 fn report_after(
     rt: &impl Abort,
     alloc: Global,
@@ -171,7 +171,7 @@ fn report_after(
     }
 }
 
-// Whether a run over devices reaches the call of this kind that fails. If not, it shows the row.
+// Whether a run over devices reaches the call of this kind that fails. If not, it has the result of the row.
 fn fails(rt: &impl Abort, alloc: Global, row: &Row<'_>, devices: &Devices, kind: Kind) -> bool {
     let run = run(alloc, row.words, row.files, devices);
     let failed = match kind {
@@ -215,11 +215,11 @@ fn fail_reads(rt: &impl Abort, alloc: Global, row: &Row<'_>, most: usize) -> Cou
     (reads, failures)
 }
 
-// How many openings, reads, writes, flushes and writes of its message a run has, and how many failures that gives.
+// The number of opens, reads, writes, flushes and writes of its message in a run, and the number of failures.
 type Counts = (u64, u64, u64, u64, u64, u64);
 
-// Lets each call of a run fail in turn, with at most so many bytes a call, and compares how many there are and how many
-// failures that gave.
+// Lets each call of a run fail in turn, with at most this many bytes per call, and compares the numbers of calls and
+// failures.
 fn fail_each(rt: &impl Abort, alloc: Global, row: &Row<'_>, most: usize, wanted: Counts) {
     let messages = fail_messages(rt, alloc, row, steady(most), row.shown);
     let (openings, by_openings) = fail_kind(rt, alloc, row, most, Kind::Opening);
@@ -289,7 +289,7 @@ static RUNS: [(Words, Module, &[&str], &[u8], u8, Counts, Counts); 9] = [
         (1, 50, 95, 1, 0, 4_823),
         (1, 2, 1, 1, 0, 10),
     ),
-    // files without issues, of which one comes again
+    // files without issues; one of them comes again
     (
         &["tfrules", "a.tf", "b.tf", "a.tf"],
         USED,
@@ -416,7 +416,7 @@ fn a_full_writer_fails(rt: HostRuntime) {
     same_number(&rt, u64::from(status), 1, &text);
 }
 
-// Of a variable without a type on each of 1,000 lines: some 80 bytes each, which no buffer of 8 KiB holds.
+// For a variable without a type on each of 1,000 lines: some 80 bytes each, which no buffer of 8 KiB holds.
 #[test]
 fn a_long_report_is_flushed_once(rt: HostRuntime) {
     let alloc = rt.alloc();

@@ -1,4 +1,4 @@
-//! Tests of `tfrules_command` by its public items: whole runs of `program` over files in memory. They stand in a crate of
+//! Tests of `tfrules_command` by its public items: whole runs of `program` over files in memory. They are in a crate of
 //! their own, since a crate with tests is proved twice.
 #![tactic(auto)]
 

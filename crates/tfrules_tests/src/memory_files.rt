@@ -5,7 +5,7 @@ ghost use Rattle.std.specs.Prelude.{◌≡◌, false, None};
 use hcl_scan::{ByteSource, Failed, MemorySource};
 use tfrules_command::module_files::{ModuleFiles, OpenFault};
 
-/// A file in memory that was opened. It tells no bytes.
+/// An opened file in memory. It tells no bytes.
 #[derive(Drop)]
 pub struct MemoryReader<'a> {
     source: MemorySource<'a>,
@@ -25,17 +25,17 @@ impl<'a> ByteSource for MemoryReader<'a> {
     }
 }
 
-/// Which call of the files fails, if one does.
+/// The failing call of the files, if one fails.
 #[derive(Clone, Copy, Debug, PartialEq, Eq)]
 pub enum FileFailure {
     None,
-    /// The opening of this number, from 0 on.
+    /// The open of this number, from 0 on.
     Opening(usize),
-    /// In the file opened at this number the read after so many good ones.
+    /// In the file opened at this number the read after this many good ones.
     Read(usize, usize),
 }
 
-/// Files in memory, by their names; others can't be opened. It counts what is opened and given back.
+/// Files in memory, by name; others can't be opened. It counts the readers that are opened and returned.
 #[derive(Drop)]
 pub struct MemoryFiles<'a> {
     files: &'a [(&'a str, &'a [u8])],
@@ -49,7 +49,7 @@ pub struct MemoryFiles<'a> {
 }
 
 impl<'a> MemoryFiles<'a> {
-    /// These files, of which a read gives at most so many bytes.
+    /// These files; a read gives at most this many bytes.
     pub fn new(
         files: &'a [(&'a str, &'a [u8])],
         most: usize,
@@ -71,17 +71,17 @@ impl<'a> MemoryFiles<'a> {
         }
     }
 
-    /// How many openings there were.
+    /// The number of opens.
     pub fn opened(&self) -> usize {
         self.opened
     }
 
-    /// How many readers were given back.
+    /// The number of returned readers.
     pub fn given_back(&self) -> usize {
         self.given_back
     }
 
-    /// The bytes of a file, or nothing where there is none of this name.
+    /// The bytes of a file, or nothing if no file has this name.
     fn bytes_of(&self, name: &str) -> Option<&'a [u8]> {
         for file in self.files {
             if file.0 == name {
@@ -91,7 +91,7 @@ impl<'a> MemoryFiles<'a> {
         None
     }
 
-    /// A reader of these bytes, which are opened at this number.
+    /// A reader of these bytes, opened at this number.
     fn reader_of(&self, bytes: &'a [u8], number: usize) -> MemoryReader<'a>
         ensures { result.source.has_failed ≡ false }
     {

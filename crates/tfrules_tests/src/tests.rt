@@ -1,5 +1,5 @@
-//! Whole runs over files in memory, with ample memory, on modules whose answers were worked out by hand: what is shown, and
-//! which files are opened for it. What the rules say of many modules is tested by `rule_tests`, and end to end.
+//! Whole runs over files in memory, with ample memory, on modules whose answers were worked out by hand: the output,
+//! and which files are opened for it. The rules' reports for many modules are tested by `rule_tests`, and end to end.
 
 use crate::compared::{Files, Shown, first_text, joined, same_number};
 use crate::devices::{Devices, run, steady};
@@ -11,7 +11,7 @@ use std::process::Abort;
 /// The words of a run.
 pub type Words = &'static [&'static str];
 
-/// Runs the program on a module, and compares what it shows, and how many files it opened and gave back.
+/// Runs the program on a module, and compares its output, and how many files it opened and returned.
 pub fn check(
     rt: &impl Abort,
     alloc: Global,
@@ -30,7 +30,7 @@ pub fn check(
     same_number(rt, run.given_back, given_back, first_text(files));
 }
 
-// That the run ends with this line and shows nothing else.
+// Checks that the run ends with this line and shows nothing else.
 fn is_refused(
     rt: &impl Abort,
     alloc: Global,
@@ -42,7 +42,7 @@ fn is_refused(
     check(rt, alloc, words, module, (b"", line.as_bytes(), 1), calls);
 }
 
-/// The line on how the program is called.
+/// The usage line.
 pub const USAGE: &str =
     "usage: tfrules [--rules LIST] [--naming snake_case|mixed_snake_case] [--minimum-failure-severity error|warning|notice] [--force] [--help] FILE...\n";
 
@@ -96,7 +96,7 @@ static MODULE: [(&str, &[u8]); 3] = [
     ("c.tf", b""),
 ];
 
-// Words, the call that fails, the line that is shown, and how many files are opened and given back.
+// Words, the failing call, the line that is shown, and how many files are opened and returned.
 static REFUSALS: [(Words, FileFailure, &str, (u64, u64)); 3] = [
     (
         &["tfrules", "a.tf", "b.tf", "c.tf"],
@@ -147,7 +147,7 @@ const OF_UNVERSIONED: &[&str] = &[
     "m.tf:1:1: Warning - module \"m\" has no version (terraform_module_version)\n",
 ];
 
-// Words, the file that they name, the parts of its report, and the status, which is 2 where an issue is severe enough.
+// Words, the file that they name, the parts of its report, and the status, which is 2 if an issue is severe enough.
 static REPORTS: [(Words, (&str, &[u8]), &[&str], u8); 4] = [
     (
         &["tfrules", "--rules", "all", "v.tf"],
@@ -207,7 +207,7 @@ fn a_name_that_comes_again_is_read_once(rt: HostRuntime) {
     );
 }
 
-// So many operands of one name.
+// This many operands with one name.
 fn operands(rt: &impl Abort, alloc: Global, count: usize) -> Vec<&'static str> {
     let mut words = Vec::new(alloc);
     words.push("tfrules").expect(rt, "memory");
@@ -233,7 +233,7 @@ fn operands_are_counted_as_given(rt: HostRuntime) {
     is_refused(&rt, alloc, &operands(&rt, alloc, 257), module, line, (0, 0));
 }
 
-// So many times a text, and another one after them.
+// A text this many times, and another one after it.
 fn repeated(rt: &impl Abort, alloc: Global, text: &[u8], count: usize, last: &[u8]) -> Vec<u8> {
     let mut bytes = Vec::new(alloc);
     for _ in 0..count {

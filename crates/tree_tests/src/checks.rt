@@ -1,4 +1,4 @@
-//! That a run shows and leaves what its row and its failures say.
+//! Checks the output and the files of a run, by its row and its failures.
 
 use crate::compared::{At, Words, holds, same_bytes, same_number};
 use crate::devices::{Devices, Ended};
@@ -12,12 +12,12 @@ use tree_devices::entry::{Entry, Stands};
 
 static READ_FAILED: &[u8] = b"tffmt-all: error: read failed\n";
 
-// Whether a file gets its format though this failed: it is written over.
+// Whether a file gets its format although this failed: it is overwritten.
 fn is_made_good(row: &Row, step: Step) -> bool {
     row.in_place && matches!(step, Step::Making | Step::Renaming)
 }
 
-// What is to be said of each name.
+// The expected message for each name.
 fn wanted_lines(rt: &impl Abort, alloc: Global, row: &Row, run: &Ended<'_>) -> Vec<Line> {
     let calls = run.tree.calls();
     match calls.failed() {
@@ -29,7 +29,7 @@ fn wanted_lines(rt: &impl Abort, alloc: Global, row: &Row, run: &Ended<'_>) -> V
     }
 }
 
-// Whether files are written by these words, and whether the run is quiet.
+// Whether files are written with these words, and whether the run is quiet.
 fn manner_of(words: Words) -> (bool, bool) {
     let mut manner = (true, false);
     for word in words {
@@ -42,7 +42,7 @@ fn manner_of(words: Words) -> (bool, bool) {
     manner
 }
 
-// What is to be shown.
+// The expected output.
 fn wanted(
     rt: &impl Abort,
     alloc: Global,
@@ -70,7 +70,7 @@ fn old_bytes(entry: &Entry<'static>) -> Option<&'static [u8]> {
     }
 }
 
-// The bytes that a file is to have after looks at these lines.
+// The expected bytes of a file after looks at these lines.
 fn wanted_bytes(lines: &[Line], entry: &Entry<'static>) -> Option<&'static [u8]> {
     for line in lines {
         if let Said::Written(name, bytes) = line.said {
@@ -82,7 +82,7 @@ fn wanted_bytes(lines: &[Line], entry: &Entry<'static>) -> Option<&'static [u8]>
     old_bytes(entry)
 }
 
-// Each file is new where it is said, and otherwise old.
+// Each file is new if its line says so, and otherwise old.
 fn check_files(rt: &impl Abort, row: &Row, lines: &[Line], run: &Ended<'_>, at: At) {
     for entry in row.entries {
         let found = run.tree.bytes_of(entry.name);
@@ -91,7 +91,7 @@ fn check_files(rt: &impl Abort, row: &Row, lines: &[Line], run: &Ended<'_>, at: 
     }
 }
 
-// No file stands beside others, but where one can't be removed.
+// No file is beside others, unless one can't be removed.
 fn check_beside(rt: &impl Abort, devices: &Devices, run: &Ended<'_>, at: At) {
     let calls = run.tree.calls();
     let is_left = match calls.failed() {
@@ -101,7 +101,7 @@ fn check_beside(rt: &impl Abort, devices: &Devices, run: &Ended<'_>, at: At) {
     same_number(rt, calls.beside() as u64, u64::from(is_left), at);
 }
 
-// Who watches is told of each look and each report, and of the end.
+// The observer is told of each look and each report, and of the end.
 fn check_watcher(
     rt: &impl Abort,
     row: &Row,
@@ -115,7 +115,7 @@ fn check_watcher(
     same_number(rt, run.watcher.ended, ended, at);
 }
 
-/// That a run over these devices shows and leaves what it is to.
+/// Checks the output and the files of a run over these devices.
 pub fn check(rt: &impl Abort, alloc: Global, row: &Row, devices: &Devices, run: &Ended<'_>) {
     let at = At {
         words: row.words,

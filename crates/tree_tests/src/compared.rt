@@ -1,5 +1,5 @@
-//! What the tests compare by, with one assertion each, so that it is proved once. A failure shows the words of the run and
-//! what failed in it.
+//! The comparisons of the tests, with one assertion each, so that it is proved once. A failure shows the words of the
+//! run and its failed calls.
 
 use crate::devices::Devices;
 use std::alloc::Global;
@@ -15,22 +15,22 @@ pub struct At {
     pub devices: Devices,
 }
 
-/// That something is so of a run.
+/// Checks a property of a run.
 pub fn holds(rt: &impl Abort, is_so: bool, at: At) {
     assert!(rt; is_so, "at {at:?}");
 }
 
-/// That a number is the one that is wanted of a run.
+/// Checks a number of a run.
 pub fn same_number(rt: &impl Abort, found: u64, wanted: u64, at: At) {
     assert_eq!(rt; found, wanted, "at {at:?}");
 }
 
-/// That bytes are the ones that are wanted of a run.
+/// Checks bytes of a run.
 pub fn same_bytes(rt: &impl Abort, found: &[u8], wanted: &[u8], at: At) {
     assert_eq!(rt; found, wanted, "at {at:?}");
 }
 
-/// So many times a text.
+/// A text this many times.
 pub fn repeated(rt: &impl Abort, alloc: Global, text: &[u8], count: usize) -> Vec<u8> {
     let mut bytes = Vec::new(alloc);
     for _ in 0..count {

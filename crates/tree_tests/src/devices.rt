@@ -1,4 +1,4 @@
-//! Runs of the program over a tree and devices in memory, of which calls can fail.
+//! Runs of the program over a tree and devices in memory, with calls that can fail.
 
 ghost use Rattle.std.specs.Prelude.{◌≡◌, false};
 
@@ -11,8 +11,8 @@ use tree_devices::memory_tree::MemoryTree;
 use tree_format::outcome::Outcome;
 use tree_format::progress::Progress;
 
-/// Whether lines of faults are shown, how many bytes a call of a stream moves at most, which calls of the tree fail, and which of the streams: of each kind the
-/// one after so many good ones.
+/// Whether lines of faults are shown, how many bytes a call of a stream moves at most, which calls of the tree fail,
+/// and which of the streams: of each kind the one after this many good ones.
 #[derive(Clone, Copy, Debug)]
 pub struct Devices {
     pub shows: bool,
@@ -37,7 +37,7 @@ pub fn steady(most: usize) -> Devices {
     }
 }
 
-/// Counts what it is told of a run, and shows lines of faults or doesn't.
+/// Counts the events of a run, and shows lines of faults or doesn't.
 #[derive(Clone, Copy, Debug, Drop)]
 pub struct Watcher {
     pub shows: bool,
@@ -66,7 +66,7 @@ impl Progress for Watcher {
     }
 }
 
-/// What stands at the end of a run.
+/// The state at the end of a run.
 #[derive(Drop)]
 pub struct Ended<'a> {
     pub tree: MemoryTree<'a>,
@@ -108,7 +108,8 @@ pub fn words_as_bytes<'a>(alloc: Global, words: &[&'a str]) -> Result<Vec<&'a [u
     Ok(all)
 }
 
-/// Runs the program on a tree of these entries, with words that are texts. Where there is no memory for the tree, it doesn't.
+/// Runs the program on a tree of these entries, with words that are texts. If there is no memory for the tree, it
+/// doesn't run.
 pub fn run<'a>(
     alloc: Global,
     words: &[&str],
@@ -120,7 +121,7 @@ pub fn run<'a>(
     run_bytes(alloc, words.as_slice(), names, entries, devices)
 }
 
-/// The same with words that may be any bytes.
+/// Runs the program on a tree of these entries, with words that may be any bytes.
 pub fn run_bytes<'a>(
     alloc: Global,
     words: &[&[u8]],

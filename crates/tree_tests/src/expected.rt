@@ -1,4 +1,5 @@
-//! What a run is to show, by what is said of each name: worked out by the stated rules, apart from the program.
+//! The expected output of a run, from the message for each name: worked out by the stated rules, apart from the
+//! program.
 
 use crate::devices::Devices;
 use file_tree::fault::TreeFault;
@@ -6,11 +7,11 @@ use std::alloc::Global;
 use std::process::Abort;
 use tree_devices::calls::Step;
 
-/// What is said of a name.
+/// The outcome for a name.
 #[derive(Clone, Copy, Debug)]
 pub enum Said {
     Formatted,
-    /// The file of this name has these bytes then.
+    /// The file of this name then has these bytes.
     Written(&'static [u8], &'static [u8]),
     Listed,
     NotFormatted,
@@ -44,10 +45,10 @@ fn count_of(lines: &[Line], status: u8) -> usize {
         .count()
 }
 
-/// What is said of the names that are found, in their order.
+/// The outcomes for the found names, in order.
 pub type Lines = &'static [(&'static [u8], Said)];
 
-/// A name, and what is said of it.
+/// A name and its outcome.
 #[derive(Debug, Drop)]
 pub struct Line {
     pub name: Vec<u8>,
@@ -80,7 +81,7 @@ fn is_below(folder: &[u8], name: &[u8]) -> bool {
     }
 }
 
-/// Whether nothing is said of a name but that this failed.
+/// Whether the only outcome for a name is that this failed.
 fn hides(step: Step, failed: &[u8], name: &[u8]) -> bool {
     match step {
         Step::Kind | Step::EntryKind | Step::Listing => name == failed || is_below(failed, name),
@@ -88,7 +89,7 @@ fn hides(step: Step, failed: &[u8], name: &[u8]) -> bool {
     }
 }
 
-/// The lines of a run in which a call of the tree fails: they say so, in place of all that it hides.
+/// The lines of a run in which a call of the tree fails: they say so, in place of everything that the failure hides.
 pub fn lines_after(
     rt: &impl Abort,
     alloc: Global,
@@ -112,7 +113,7 @@ pub fn lines_after(
     lines
 }
 
-/// A writer that takes at most so many bytes a call, and fails after so many good calls.
+/// A writer that takes at most this many bytes per call, and fails after this many good calls.
 #[derive(Debug, Drop)]
 struct Writer {
     taken: Vec<u8>,
@@ -205,8 +206,8 @@ impl Streams {
         }
     }
 
-    /// Tells the lines up to the first that can't be told. Gives how many there were, how many of them were told, and the
-    /// status.
+    /// Writes the lines up to the first that can't be written. Returns how many there were, how many of them were
+    /// written, and the status.
     fn tell_all(&mut self, rt: &impl Abort, lines: &[Line]) -> (usize, usize, u8) {
         let mut count = 0_usize;
         let mut status = 0;
@@ -221,7 +222,7 @@ impl Streams {
         (count, count, status)
     }
 
-    /// Says that standard output failed, where it did.
+    /// Reports that standard output failed, if it did.
     fn finish(&mut self, rt: &impl Abort) {
         if self.out.has_failed && !self.err.has_failed {
             self.err.put(rt, b"tffmt-all: error: write failed\n");
@@ -233,7 +234,7 @@ impl Streams {
         self.err.put(rt, text.as_bytes());
     }
 
-    /// Says how many files there were of which this is said, where there are some.
+    /// Writes how many files have this outcome, if any.
     fn tell_count(&mut self, rt: &impl Abort, alloc: Global, number: usize, word: &[u8]) {
         if number > 0 {
             self.err.put(rt, b", ");
@@ -242,7 +243,7 @@ impl Streams {
         }
     }
 
-    /// Says what became of all files.
+    /// Writes the outcomes of all files.
     fn tell_tally(&mut self, rt: &impl Abort, alloc: Global, lines: &[Line], writes: bool) {
         if lines.is_empty() {
             self.err.put(rt, b"no files found\n");
@@ -271,7 +272,7 @@ impl Streams {
         self.err.put(rt, b"\n");
     }
 
-    /// Says the last words of a run over these lines.
+    /// Writes the last messages of a run over these lines.
     fn end(
         &mut self,
         rt: &impl Abort,
@@ -296,14 +297,14 @@ fn worse(one: u8, other: u8) -> u8 {
     0
 }
 
-/// What a run shows, at how many of the lines it has looked, and how many of these it told.
+/// The output of a run, the number of lines that it has looked at, and the number that it wrote.
 #[derive(Debug, Drop)]
 pub struct Shown {
     pub out: Vec<u8>,
     pub err: Vec<u8>,
     pub status: u8,
     pub looked: usize,
-    /// How many of these it told whole.
+    /// The number that it wrote whole.
     pub told: usize,
 }
 
@@ -320,7 +321,7 @@ impl Shown {
     }
 }
 
-/// What a run shows that tells these lines, and whether it writes files and is quiet.
+/// The output of a run with these lines, given whether it writes files and is quiet.
 pub fn shown_lines(
     rt: &impl Abort,
     alloc: Global,
@@ -334,7 +335,7 @@ pub fn shown_lines(
     Shown::of(streams, status, (looked, told))
 }
 
-/// What a run shows that looks at nothing and says one text on each stream.
+/// The output of a run that looks at nothing and writes one text to each stream.
 pub fn shown_text(
     rt: &impl Abort,
     alloc: Global,

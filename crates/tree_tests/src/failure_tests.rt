@@ -1,6 +1,6 @@
-//! Runs in which every call fails in turn: each call of the tree, each read of each file, each read of the names, each write
-//! of standard output and the flush that a run reaches, and with each of them each write of the messages, with one byte a call
-//! of a stream and with many.
+//! Runs in which every call fails in turn: each call of the tree, each read of each file, each read of the names, each
+//! write of standard output and the flush that a run reaches, and with each of them each write of the messages, with
+//! one byte per call of a stream and with many.
 
 use crate::checks::check;
 use crate::compared::{At, same_number};
@@ -32,7 +32,7 @@ enum Kind {
     Message,
 }
 
-// The devices of which besides the call of this kind fails after so many good ones. A flush fails at once.
+// These devices with a further failure: the call of this kind after this many good ones. A flush fails at once.
 fn failing(kind: Kind, good: usize, others: Devices) -> Devices {
     match kind {
         Kind::Tree => Devices {
@@ -78,14 +78,14 @@ fn is_reached(kind: Kind, run: &Ended<'_>) -> bool {
     }
 }
 
-// Runs over these devices and checks what is left. Gives whether the call of this kind failed.
+// Runs over these devices and checks the result. Returns whether the call of this kind failed.
 fn fails(rt: &impl Abort, alloc: Global, row: &Row, devices: &Devices, kind: Kind) -> bool {
     let run = run(alloc, row.words, row.input, row.entries, devices).expect(rt, "memory");
     check(rt, alloc, row, devices, &run);
     is_reached(kind, &run)
 }
 
-// Lets each write of the messages fail in turn, beside other failures. Gives how many failed.
+// Lets each write of the messages fail in turn, beside other failures. Returns how many failed.
 fn fail_messages(rt: &impl Abort, alloc: Global, row: &Row, others: Devices) -> u64 {
     for good in 0..CALLS {
         let devices = failing(Kind::Message, good, others);
@@ -96,7 +96,7 @@ fn fail_messages(rt: &impl Abort, alloc: Global, row: &Row, others: Devices) -> 
     CALLS as u64
 }
 
-// Lets each call of this kind fail in turn, and with it each write of the messages. Gives how many runs failed.
+// Lets each call of this kind fail in turn, and with it each write of the messages. Returns how many runs failed.
 fn fail_kind(rt: &impl Abort, alloc: Global, row: &Row, others: Devices, kind: Kind) -> u64 {
     let mut failures = 0_u64;
     for good in 0..CALLS {
@@ -120,7 +120,7 @@ fn fail_files(rt: &impl Abort, alloc: Global, row: &Row, others: Devices) -> u64
     failures
 }
 
-// Lets each call of a run fail in turn. Gives how many runs failed.
+// Lets each call of a run fail in turn. Returns how many runs failed.
 fn fail_each(rt: &impl Abort, alloc: Global, row: &Row, others: Devices) -> u64 {
     let mut failures = fail_messages(rt, alloc, row, others);
     for kind in [Kind::Tree, Kind::Input, Kind::Write, Kind::Flush] {
@@ -130,7 +130,8 @@ fn fail_each(rt: &impl Abort, alloc: Global, row: &Row, others: Devices) -> u64 
     failures.saturating_add(fail_files(rt, alloc, row, others))
 }
 
-// Lets each call of a run fail in turn, with at most so many bytes a call of a stream. Gives how many runs failed.
+// Lets each call of a run fail in turn, with at most this many bytes per call of a stream. Returns how many runs
+// failed.
 fn fail_by(rt: &impl Abort, alloc: Global, row: &Row, tree: Failures, most: usize) -> u64 {
     let tree = Failures {
         making: row.making,
@@ -143,7 +144,7 @@ fn fail_by(rt: &impl Abort, alloc: Global, row: &Row, tree: Failures, most: usiz
     fail_each(rt, alloc, row, devices)
 }
 
-// Lets each call of a run fail in turn, with so many bytes a call of a stream, and compares how many runs failed.
+// Lets each call of a run fail in turn, with this many bytes per call of a stream, and compares how many runs failed.
 fn fail_at(rt: &impl Abort, alloc: Global, row: &Row, tree: Failures, most: usize, wanted: u64) {
     let at = At {
         words: row.words,
@@ -152,7 +153,7 @@ fn fail_at(rt: &impl Abort, alloc: Global, row: &Row, tree: Failures, most: usiz
     same_number(rt, fail_by(rt, alloc, row, tree, most), wanted, at);
 }
 
-// The same with one byte a call, and with many.
+// Lets each call of a run fail in turn, with one byte per call and with many, and compares how many runs failed.
 fn fail_row(
     rt: &impl Abort,
     alloc: Global,

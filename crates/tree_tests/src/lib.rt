@@ -1,5 +1,5 @@
-//! Tests of `tree_command` by its public items: whole runs of `program` over a tree in memory, of which calls fail, and
-//! the mode of a new file, which no such run shows. They stand in a crate of their own, since a crate with tests is
+//! Tests of `tree_command` by its public items: whole runs of `program` over a tree in memory with calls that fail, and
+//! the mode of a new file, which no such run shows. They are in a crate of their own, since a crate with tests is
 //! proved twice.
 #![tactic(auto)]
 

@@ -9,7 +9,7 @@ static ROWS: [Row; 8] = [
     (0o640, true, true, 0o640),
     (0o4755, true, true, 0o4755),
     (0o4755, false, true, 0o755),
-    // A member of the old group is one of the others by now, and the other way round.
+    // A member of the old group is now one of the others, and the other way round.
     (0o640, true, false, 0o600),
     (0o604, true, false, 0o600),
     (0o664, true, false, 0o644),

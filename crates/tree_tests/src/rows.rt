@@ -1,14 +1,14 @@
-//! Trees, words and what is said: worked out by hand.
+//! Trees, words and outcomes, worked out by hand.
 
 use crate::compared::Words;
 use crate::expected::{Lines, Said};
 use file_tree::fault::TreeFault;
 use tree_devices::entry::{Entry, Stands};
 
-/// What a run shows on both streams that looks at no file, and its status.
+/// The output of a run that looks at no file, on both streams, and its status.
 pub type Text = (&'static str, &'static str, u8);
 
-/// What a run is given, and what it is to show where nothing fails.
+/// A run, and its expected output if nothing fails.
 #[derive(Clone, Copy)]
 pub struct Row {
     pub words: Words,
@@ -16,15 +16,15 @@ pub struct Row {
     pub entries: &'static [Entry<'static>],
     /// No file can be made beside another.
     pub making: bool,
-    /// Files are written over where none can be put in their place.
+    /// Files are overwritten if none can replace them.
     pub in_place: bool,
-    /// What it says where it looks at no file.
+    /// The output if it looks at no file.
     pub text: Option<Text>,
-    /// What is said of each name.
+    /// The outcome for each name.
     pub lines: Lines,
 }
 
-/// Four files that are taken, of which one is formatted and one is reached by a link.
+/// Four files that are taken; one is formatted and one is reached by a link.
 pub const SMALL: &[Entry<'static>] = &[
     Entry {
         name: b"",
@@ -159,14 +159,14 @@ const OF_MIXED: Lines = &[
     (b"in/\xff.tf", Said::Failed(TreeFault::NotUtf8)),
 ];
 
-/// What is said of a line that is none of this program.
+/// The message for a line that isn't this program's.
 pub const USAGE: &str = "\
 usage: tffmt-all [--check | --diff | --list] [--in-place] [--sync] [--quiet]
                  [--shard K/N] [--exclude PATH]... [--any-name] [--null] [--]
                  [FILE|FOLDER]...
 ";
 
-/// The same of a line in which `--bogus` stands.
+/// The message for such a line with `--bogus`.
 const BOGUS: &str = "\
 tffmt-all: error: unknown option --bogus
 usage: tffmt-all [--check | --diff | --list] [--in-place] [--sync] [--quiet]
@@ -196,7 +196,7 @@ pub static SYNCS: Row = Row {
     lines: WRITTEN,
 };
 
-/// A file is written over where no other can be put in its place.
+/// A file is overwritten if no other can replace it.
 pub static WRITES_IN_PLACE: Row = Row {
     words: &["tffmt-all", "--in-place"],
     input: b"",
@@ -207,7 +207,7 @@ pub static WRITES_IN_PLACE: Row = Row {
     lines: WRITTEN,
 };
 
-/// Every file is written over, since none can be made beside another.
+/// Every file is overwritten, since none can be made beside another.
 pub static ONLY_IN_PLACE: Row = Row {
     words: &["tffmt-all", "--in-place"],
     input: b"",
@@ -229,7 +229,7 @@ pub static NAMES_GIVEN: Row = Row {
     lines: NAMED,
 };
 
-/// Files of every kind get their format, or are told with their fault.
+/// Files of every kind get their format, or are reported with their fault.
 pub static OF_EACH_KIND: Row = Row {
     words: &["tffmt-all"],
     input: b"",
@@ -240,7 +240,7 @@ pub static OF_EACH_KIND: Row = Row {
     lines: OF_MIXED,
 };
 
-/// Nothing is changed; what isn't formatted is told.
+/// Nothing is changed; files that aren't formatted are reported.
 pub static CHECKS: Row = Row {
     words: &["tffmt-all", "--check", "."],
     input: b"",
@@ -251,7 +251,7 @@ pub static CHECKS: Row = Row {
     lines: CHECKED,
 };
 
-/// Nothing is changed; what isn't formatted is listed.
+/// Nothing is changed; files that aren't formatted are listed.
 pub static LISTS: Row = Row {
     words: &["tffmt-all", "--list", "in/", "a.tf"],
     input: b"",
@@ -262,7 +262,7 @@ pub static LISTS: Row = Row {
     lines: LISTED,
 };
 
-/// Nothing is changed; what isn't formatted is shown with the lines that differ.
+/// Nothing is changed; files that aren't formatted are shown with the lines that differ.
 pub static SHOWS: Row = Row {
     words: &["tffmt-all", "--diff", "a.tf", "b.tf"],
     input: b"",
@@ -273,7 +273,7 @@ pub static SHOWS: Row = Row {
     lines: SHOWN,
 };
 
-/// No file is looked at: it says which version it is.
+/// No file is looked at: it prints its version.
 pub static VERSION: Row = Row {
     words: &["tffmt-all", "--version"],
     input: b"",
@@ -284,7 +284,7 @@ pub static VERSION: Row = Row {
     lines: &[],
 };
 
-/// No file is looked at: the line is none of this program.
+/// No file is looked at: the line isn't this program's.
 pub static BAD_WORD: Row = Row {
     words: &["tffmt-all", "--bogus"],
     input: b"",

@@ -15,7 +15,7 @@ use std::process::Abort;
 use tree_command::usage::HELP;
 use tree_devices::entry::{Entry, Stands};
 
-// Runs over what a row is given, and checks what is left.
+// Runs with a row's words and tree, and checks the result.
 fn shows(rt: &impl Abort, alloc: Global, row: &Row) {
     let devices = steady(SINK_ROOM);
     let run = run(alloc, row.words, row.input, row.entries, &devices).expect(rt, "memory");
@@ -42,7 +42,7 @@ fn rows_are_shown(rt: HostRuntime) {
     }
 }
 
-// That a run over these words looks at nothing and shows this.
+// Checks that a run with these words looks at nothing and shows this.
 fn shows_text(rt: &impl Abort, alloc: Global, words: Words, text: Text) {
     let row = Row {
         words,
@@ -99,7 +99,7 @@ fn help_looks_at_nothing(rt: HostRuntime) {
     }
 }
 
-// It is told under the name that is no link.
+// It is reported under the name that is no link.
 static TWICE: Row = Row {
     words: &["tffmt-all", "--any-name", "link.tf", "in/c"],
     input: b"",
@@ -115,7 +115,7 @@ fn a_file_of_two_names_is_written_once(rt: HostRuntime) {
     shows(&rt, rt.alloc(), &TWICE);
 }
 
-// What is named is told where it isn't called like a file of Terraform's.
+// A named file is reported if its name isn't like that of a Terraform file.
 static OTHER_KINDS: Row = Row {
     words: &["tffmt-all", "notes.txt", "in/c", "b.tf", "pipe.tf"],
     input: b"",
@@ -131,7 +131,7 @@ static OTHER_KINDS: Row = Row {
     ],
 };
 
-// The folder and what is below it are passed over, also where they are named.
+// The folder and everything below it are passed over, even if they are named.
 static EXCLUDED: Row = Row {
     words: &[
         "tffmt-all",
@@ -189,7 +189,7 @@ fn a_large_file_is_written(rt: HostRuntime) {
     holds(&rt, found == Some(new.as_slice()), at_all());
 }
 
-// What a run over these bytes as words, and these entries, shows and answers.
+// The output and the status of a run with these bytes as words, and these entries.
 fn shows_bytes(
     rt: &impl Abort,
     alloc: Global,
@@ -203,7 +203,7 @@ fn shows_bytes(
     same_number(rt, u64::from(run.status), u64::from(status), at_all());
 }
 
-// A name that isn't UTF-8 is told, and the others are formatted; alone it doesn't stand for the current folder.
+// A name that isn't UTF-8 is reported, and the others are formatted; alone it doesn't stand for the current folder.
 #[test]
 fn a_name_that_is_not_utf8_is_told(rt: HostRuntime) {
     let told = (
@@ -304,7 +304,7 @@ fn a_check_may_show_differences(rt: HostRuntime) {
     shows_bytes(&rt, rt.alloc(), &words, SMALL, shown);
 }
 
-// Where nothing is found it says so, unless it is to be quiet.
+// If nothing is found, the run says so, unless it is to be quiet.
 #[test]
 fn no_files_are_told(rt: HostRuntime) {
     let empty = [Entry {
@@ -370,7 +370,7 @@ fn each_file_is_told_once_where_links_lead_to_it(rt: HostRuntime) {
     shows_bytes(&rt, rt.alloc(), &words, &LINKED, written);
 }
 
-// A link that is named is looked at, unless its file is named as well.
+// A named link is looked at, unless its file is named as well.
 #[test]
 fn links_may_be_named(rt: HostRuntime) {
     let words: [&[u8]; 4] = [b"tffmt-all", b"--quiet", b"--list", b"a.tf"];
@@ -381,7 +381,7 @@ fn links_may_be_named(rt: HostRuntime) {
     shows_bytes(&rt, rt.alloc(), &words, &LINKED, (b"d.tf\n", b"", 3));
 }
 
-// A file that is refused in its second line.
+// A file that is refused because of its second line.
 static REFUSED: [Entry<'static>; 2] = [
     Entry {
         name: b"",
@@ -393,7 +393,7 @@ static REFUSED: [Entry<'static>; 2] = [
     },
 ];
 
-// What is said of it, where lines of faults are shown or aren't.
+// The message about it, with lines of faults shown and without.
 fn tells_refused(rt: &impl Abort, alloc: Global, shows: bool, told: &[u8]) {
     let at = At {
         words: ALL,

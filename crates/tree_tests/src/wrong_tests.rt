@@ -1,4 +1,4 @@
-//! Lines that are none of the program: of which word it is told, and what to write in its place.
+//! Wrong command lines: the reported word, and its replacement.
 
 use crate::compared::{At, Words, holds, same_bytes, same_number};
 use crate::devices::{run, steady};
@@ -7,7 +7,7 @@ use hcl_scan::SINK_ROOM;
 use std::alloc::Global;
 use std::process::Abort;
 
-// That a run over these words looks at nothing, and says this and the usage.
+// Checks that a run with these words looks at nothing, and prints this and the usage.
 fn says(rt: &impl Abort, alloc: Global, words: Words, front: &[u8]) {
     let at = At {
         words,
@@ -25,7 +25,7 @@ fn says(rt: &impl Abort, alloc: Global, words: Words, front: &[u8]) {
     holds(rt, run.watcher.looked == 0, at);
 }
 
-// Words, and what is said before the usage.
+// Words, and the text before the usage.
 type Told = (Words, &'static [u8]);
 
 static WRONG: [Told; 9] = [
@@ -113,7 +113,7 @@ fn a_word_of_terraform_has_a_hint(rt: HostRuntime) {
     }
 }
 
-// Lines that are wrong though each of their options is known.
+// Lines that are wrong although each of their options is known.
 static KNOWN: [Words; 4] = [
     &["tffmt-all", "--check=1"],
     &["tffmt-all", "--shard"],
