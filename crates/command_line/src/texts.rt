@@ -23,7 +23,8 @@ impl Model for Program {
 
     ghost view = { λ p. record { name = p.name.now; failure = p.failure } };
 
-    ghost invariant = { λ p. (p.failed_write.now ≡ rows.write_failed (record { name = p.name.now; failure = p.failure }))
+    ghost invariant = { λ p. (p.failed_write.now
+        ≡ rows.write_failed (record { name = p.name.now; failure = p.failure }))
         × (p.no_memory.now ≡ (rows.out_of_memory
         (record { name = p.name.now; failure = p.failure })).err) };
 }

@@ -1,11 +1,14 @@
 -- Which token lists are files, and the one fault of those that are none. Tokens are refused at the first token that has
 -- no row in the grammar's table, or at the end of the text where that has none. Our own choice is the bound on open
 -- directives, with its fault at the `%{` of the first that is too many.
-use Rattle.std.specs.Prelude.{◌≡◌, ℕ, List, Option, Some, None, Result, Ok, Err, map, length, get_or}
+use Rattle.std.specs.Prelude.{◌≡◌, ◌⊎◌, ℕ, List, Option, Some, None, Result, Ok, Err, map, length, get_or}
+use Rattle.hcl_tokens.specs.Faults.{IsScanFault}
 use Rattle.hcl_tokens.specs.Lexemes.{Lexeme}
 use Rattle.hcl_tokens.specs.Scanned.{Scanned}
+use Rattle.hcl_tokens.specs.Scans.{Scans}
 use Rattle.hcl_source.specs.Places.{place}
 use Rattle.hcl_source.specs.declared.fault.Fault.{Fault}
+use Rattle.hcl_source.specs.declared.fault.FaultKind.{FaultKind}
 use Rattle.hcl_source.specs.declared.fault.FaultKind.TheVariants as fault
 use Rattle.hcl_grammar.specs.declared.refusal.Refusal.{Refusal}
 use Rattle.hcl_grammar.specs.declared.refusal.Refusal.TheVariants.{UnexpectedToken, UnexpectedEnd, TooDeep}
@@ -33,3 +36,9 @@ verdict_by s (Some r) = Err (fault_at s r)
 -- the tokens of a source, where they are a file, and else their one fault
 abbrev pub verdict : Scanned → Result Scanned Fault
 verdict s = verdict_by s (refusal_of (lookaheads s.tokens))
+
+-- THE VERDICT on a text: it is a file of these tokens, or has this one fault, of the scan or of the grammar
+abbrev pub IsTextVerdict : List ℕ → Result Scanned Fault → Type 0
+IsTextVerdict text result =
+    ((kind : FaultKind) × (at : ℕ) × IsScanFault text kind at × (result ≡ Err (record { kind = kind; at = place text at })))
+    ⊎ ((ts : List Lexeme) × Scans text ts × (result ≡ verdict (record { text = text; tokens = ts })))

@@ -46,7 +46,12 @@ impl<'a> Model for MemorySource<'a> {
 
     ghost Value = { Giving };
 
-    ghost view = { λ s. record { rest = s.rest.now; most = s.most; good_reads = s.good_reads; has_failed = s.has_failed } };
+    ghost view = { λ s. record {
+      rest = s.rest.now;
+      most = s.most;
+      good_reads = s.good_reads;
+      has_failed = s.has_failed;
+    } };
 
     ghost invariant = { λ s. 0 < s.most };
 }
@@ -152,7 +157,15 @@ impl Model for MemorySink {
 
     ghost Value = { Taking };
 
-    ghost view = { λ s. record { bytes = take s.len s.buffer; most = s.most; good_writes = s.good_writes; flush_fails = s.flush_fails; has_failed = s.has_failed; is_flushed = s.is_flushed; flushes = s.flushes } };
+    ghost view = { λ s. record {
+      bytes = take s.len s.buffer;
+      most = s.most;
+      good_writes = s.good_writes;
+      flush_fails = s.flush_fails;
+      has_failed = s.has_failed;
+      is_flushed = s.is_flushed;
+      flushes = s.flushes;
+    } };
 
     ghost invariant = { λ s. s.len ≤ sink_room };
 }

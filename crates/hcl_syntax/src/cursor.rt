@@ -6,6 +6,7 @@ ghost use Rattle.hcl_grammar.specs.Classes.{lookaheads, lookaheads_from};
 ghost use Rattle.hcl_grammar.specs.Grammar.{fits, ◌at◌, the, expr};
 ghost use Rattle.hcl_syntax.specs.Inner.Cursors.{shown, first, after_first, is_shown};
 ghost use Rattle.hcl_syntax.specs.Inner.Parsing.{Parses, said, TookTerminal, LacksTerminal};
+ghost use Rattle.hcl_syntax.specs.Inner.Standings.{Consumes};
 
 use crate::class::lookahead_at;
 use crate::expected::Refused;
@@ -33,7 +34,10 @@ impl<'t, 's> Model for Cursor<'t, 's> {
 
     ghost Value = { Standing };
 
-    ghost view = { λ c. record { left = lookaheads_from c.next (drop c.next c.tokens.now.tokens); refusal = c.refusal } };
+    ghost view = { λ c. record {
+      left = lookaheads_from c.next (drop c.next c.tokens.now.tokens);
+      refusal = c.refusal;
+    } };
 
     ghost invariant = { λ c. (c.next ≤ c.count) × (c.count ≡ length c.tokens.now.tokens) };
 }
@@ -197,7 +201,7 @@ impl<'t, 's> Cursor<'t, 's> {
     pub fn expect(&mut self, newlines: Newlines, terminal: Terminal) -> Result<(), Refused>
         ensures parses { (count : ℕ) → Parses count (the terminal at newlines ∷ []) self.old.left
             (said result self.new.refusal) self.new.left }
-        ensures shorter { OnOk result (length self.new.left < length self.old.left) }
+        ensures shorter { Consumes result self.old self.new }
     {
         match self.look(newlines) {
             None => Err(self.refused(Refusal::UnexpectedEnd)),

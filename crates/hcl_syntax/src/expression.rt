@@ -6,6 +6,7 @@ ghost use Rattle.std.specs.Bool.{OnTrue, OnFalse};
 ghost use Rattle.hcl_syntax.specs.Inner.Cursors.{shown, first};
 ghost use Rattle.hcl_grammar.specs.Grammar.{◌at◌, the, expr, after, after_ident, path, index, args, tuple, tuple_item, tuple_if, object, object_item, group, object_if, separator, names, step};
 ghost use Rattle.hcl_syntax.specs.Inner.Parsing.{Advances, Parses, said, after_follow, goes_on, is_prefix};
+ghost use Rattle.hcl_syntax.specs.Inner.Standings.{Consumes, NeverReturns};
 ghost use Rattle.hcl_grammar.specs.declared.expected.Terminal.TheVariants.{Name, Separator, FatArrow, EndBracket, EndBrace};
 ghost use Rattle.hcl_grammar.specs.declared.expected.Newlines.TheVariants.{Seen, Dropped};
 
@@ -38,7 +39,7 @@ impl<'t, 's> Cursor<'t, 's> {
     fn operand(&mut self, newlines: Newlines, directives: usize) -> Result<(), Refused>
         ensures leads { Advances directives (expr at newlines ∷ []) self.old.left
             (said result self.new.refusal) (after at newlines ∷ []) self.new.left }
-        ensures shorter { OnOk result (length self.new.left < length self.old.left) }
+        ensures shorter { Consumes result self.old self.new }
     {
         let Some(token) = self.start(newlines) else {
             return Err(self.refused(Refusal::UnexpectedEnd));
@@ -85,7 +86,7 @@ impl<'t, 's> Cursor<'t, 's> {
     fn call(&mut self, newlines: Newlines, directives: usize) -> Result<(), Refused>
         ensures leads { Advances directives (after_ident at newlines ∷ []) self.old.left
             (said result self.new.refusal) (after at newlines ∷ []) self.new.left }
-        ensures shorter { OnOk result (length self.new.left ≤ length self.old.left) }
+        ensures shorter { NeverReturns result self.old self.new }
     {
         let Some(token) = self.look(newlines) else {
             return Ok(());
@@ -110,7 +111,7 @@ impl<'t, 's> Cursor<'t, 's> {
             (the Name at newlines ∷ path at newlines ∷ []) self.old.left
             (said result self.new.refusal) (args at Dropped ∷ after at newlines ∷ [])
             self.new.left }
-        ensures shorter { OnOk result (length self.new.left ≤ length self.old.left) }
+        ensures shorter { NeverReturns result self.old self.new }
     {
         loop {
             self.expect(newlines, Terminal::Name)?;
@@ -134,7 +135,7 @@ impl<'t, 's> Cursor<'t, 's> {
     fn follow(&mut self, newlines: Newlines, directives: usize) -> Result<Follow, Refused>
         ensures leads { Advances directives (after at newlines ∷ []) self.old.left
             (said result self.new.refusal) (after_follow newlines result) self.new.left }
-        ensures shorter { OnOk result (length self.new.left ≤ length self.old.left) }
+        ensures shorter { NeverReturns result self.old self.new }
         ensures onward { IfOk result (λ f. goes_on f ≡ true
             → length self.new.left < length self.old.left) }
     {
@@ -170,7 +171,7 @@ impl<'t, 's> Cursor<'t, 's> {
     fn index(&mut self, directives: usize) -> Result<(), Refused>
         ensures parses { Parses directives (index at Dropped ∷ []) self.old.left
             (said result self.new.refusal) self.new.left }
-        ensures shorter { OnOk result (length self.new.left < length self.old.left) }
+        ensures shorter { Consumes result self.old self.new }
     {
         if self.takes(Newlines::Dropped, Terminal::Asterisk) {
             return self.expect(Newlines::Dropped, Terminal::EndBracket);
@@ -185,7 +186,7 @@ impl<'t, 's> Cursor<'t, 's> {
     pub fn expr(&mut self, newlines: Newlines, directives: usize) -> Result<(), Refused>
         ensures parses { Parses directives (expr at newlines ∷ []) self.old.left
             (said result self.new.refusal) self.new.left }
-        ensures shorter { OnOk result (length self.new.left < length self.old.left) }
+        ensures shorter { Consumes result self.old self.new }
     {
         if self.takes_short(newlines) {
             return Ok(());
@@ -199,7 +200,7 @@ impl<'t, 's> Cursor<'t, 's> {
     fn whole_expr(&mut self, newlines: Newlines, directives: usize) -> Result<(), Refused>
         ensures parses { Parses directives (expr at newlines ∷ []) self.old.left
             (said result self.new.refusal) self.new.left }
-        ensures shorter { OnOk result (length self.new.left < length self.old.left) }
+        ensures shorter { Consumes result self.old self.new }
     {
         self.room();
         let mut waiting: usize = 0;
@@ -224,7 +225,7 @@ impl<'t, 's> Cursor<'t, 's> {
     fn args(&mut self, directives: usize) -> Result<(), Refused>
         ensures parses { Parses directives (args at Dropped ∷ []) self.old.left
             (said result self.new.refusal) self.new.left }
-        ensures shorter { OnOk result (length self.new.left < length self.old.left) }
+        ensures shorter { Consumes result self.old self.new }
     {
         loop {
             if self.takes(Newlines::Dropped, Terminal::EndParen) {
@@ -254,7 +255,7 @@ impl<'t, 's> Cursor<'t, 's> {
     fn tuple(&mut self, directives: usize) -> Result<(), Refused>
         ensures parses { Parses directives (tuple at Dropped ∷ []) self.old.left
             (said result self.new.refusal) self.new.left }
-        ensures shorter { OnOk result (length self.new.left < length self.old.left) }
+        ensures shorter { Consumes result self.old self.new }
     {
         if self.takes(Newlines::Dropped, Terminal::ForWord) {
             self.generator(directives)?;
@@ -267,7 +268,7 @@ impl<'t, 's> Cursor<'t, 's> {
     fn tuple_items(&mut self, directives: usize) -> Result<(), Refused>
         ensures parses { Parses directives (tuple_item at Dropped ∷ []) self.old.left
             (said result self.new.refusal) self.new.left }
-        ensures shorter { OnOk result (length self.new.left < length self.old.left) }
+        ensures shorter { Consumes result self.old self.new }
     {
         loop {
             if self.takes(Newlines::Dropped, Terminal::EndBracket) {
@@ -292,8 +293,10 @@ impl<'t, 's> Cursor<'t, 's> {
     #[cycle(parser)]
     fn generator(&mut self, directives: usize) -> Result<(), Refused>
         ensures parses { Parses directives
-            (the Name at Dropped ∷ names at Dropped ∷ expr at Dropped ∷ the Separator at Dropped ∷ expr at Dropped ∷ []) self.old.left (said result self.new.refusal) self.new.left }
-        ensures shorter { OnOk result (length self.new.left < length self.old.left) }
+            (the Name at Dropped ∷ names at Dropped ∷ expr at Dropped ∷ the Separator at Dropped
+            ∷ expr at Dropped ∷ [])
+            self.old.left (said result self.new.refusal) self.new.left }
+        ensures shorter { Consumes result self.old self.new }
     {
         self.names()?;
         self.expr(Newlines::Dropped, directives)?;
@@ -306,7 +309,7 @@ impl<'t, 's> Cursor<'t, 's> {
     fn tuple_condition(&mut self, directives: usize) -> Result<(), Refused>
         ensures parses { Parses directives (tuple_if at Dropped ∷ []) self.old.left
             (said result self.new.refusal) self.new.left }
-        ensures shorter { OnOk result (length self.new.left < length self.old.left) }
+        ensures shorter { Consumes result self.old self.new }
     {
         if self.takes(Newlines::Dropped, Terminal::IfWord) {
             self.expr(Newlines::Dropped, directives)?;
@@ -320,7 +323,7 @@ impl<'t, 's> Cursor<'t, 's> {
     fn object(&mut self, directives: usize) -> Result<(), Refused>
         ensures parses { Parses directives (object at Seen ∷ []) self.old.left
             (said result self.new.refusal) self.new.left }
-        ensures shorter { OnOk result (length self.new.left < length self.old.left) }
+        ensures shorter { Consumes result self.old self.new }
     {
         if self.takes(Newlines::Dropped, Terminal::ForWord) {
             return self.object_for(directives);
@@ -333,7 +336,7 @@ impl<'t, 's> Cursor<'t, 's> {
     fn entries(&mut self, directives: usize) -> Result<(), Refused>
         ensures parses { Parses directives (object_item at Seen ∷ []) self.old.left
             (said result self.new.refusal) self.new.left }
-        ensures shorter { OnOk result (length self.new.left < length self.old.left) }
+        ensures shorter { Consumes result self.old self.new }
     {
         loop {
             if self.takes(Newlines::Dropped, Terminal::EndBrace) {
@@ -359,7 +362,7 @@ impl<'t, 's> Cursor<'t, 's> {
         ensures parses { Parses directives
             (expr at Seen ∷ separator at Seen ∷ expr at Seen ∷ []) self.old.left
             (said result self.new.refusal) self.new.left }
-        ensures shorter { OnOk result (length self.new.left < length self.old.left) }
+        ensures shorter { Consumes result self.old self.new }
     {
         self.expr(Newlines::Seen, directives)?;
         self.separator()?;
@@ -370,8 +373,10 @@ impl<'t, 's> Cursor<'t, 's> {
     #[cycle(parser)]
     fn object_for(&mut self, directives: usize) -> Result<(), Refused>
         ensures parses { Parses directives
-            (the Name at Dropped ∷ names at Dropped ∷ expr at Dropped ∷ the Separator at Dropped ∷ expr at Dropped ∷ the FatArrow at Dropped ∷ expr at Dropped ∷ group at Dropped ∷ []) self.old.left (said result self.new.refusal) self.new.left }
-        ensures shorter { OnOk result (length self.new.left < length self.old.left) }
+            (the Name at Dropped ∷ names at Dropped ∷ expr at Dropped ∷ the Separator at Dropped
+            ∷ expr at Dropped ∷ the FatArrow at Dropped ∷ expr at Dropped ∷ group at Dropped ∷ [])
+            self.old.left (said result self.new.refusal) self.new.left }
+        ensures shorter { Consumes result self.old self.new }
     {
         self.generator(directives)?;
         self.expect(Newlines::Dropped, Terminal::FatArrow)?;
@@ -396,7 +401,7 @@ impl<'t, 's> Cursor<'t, 's> {
     fn object_condition(&mut self, directives: usize) -> Result<(), Refused>
         ensures parses { Parses directives (object_if at Dropped ∷ []) self.old.left
             (said result self.new.refusal) self.new.left }
-        ensures shorter { OnOk result (length self.new.left < length self.old.left) }
+        ensures shorter { Consumes result self.old self.new }
     {
         if self.takes(Newlines::Dropped, Terminal::IfWord) {
             self.expr(Newlines::Dropped, directives)?;
@@ -410,7 +415,7 @@ impl<'t, 's> Cursor<'t, 's> {
         ensures parses { (count : ℕ) → Parses count
             (the Name at Dropped ∷ names at Dropped ∷ []) self.old.left
             (said result self.new.refusal) self.new.left }
-        ensures shorter { OnOk result (length self.new.left < length self.old.left) }
+        ensures shorter { Consumes result self.old self.new }
     {
         self.expect(Newlines::Dropped, Terminal::Name)?;
         self.more_names()
@@ -420,7 +425,7 @@ impl<'t, 's> Cursor<'t, 's> {
     fn more_names(&mut self) -> Result<(), Refused>
         ensures parses { (count : ℕ) → Parses count (names at Dropped ∷ []) self.old.left
             (said result self.new.refusal) self.new.left }
-        ensures shorter { OnOk result (length self.new.left < length self.old.left) }
+        ensures shorter { Consumes result self.old self.new }
     {
         if self.takes(Newlines::Dropped, Terminal::InWord) {
             return Ok(());
@@ -435,7 +440,7 @@ impl<'t, 's> Cursor<'t, 's> {
     pub fn step(&mut self, newlines: Newlines) -> Result<(), Refused>
         ensures parses { (count : ℕ) → Parses count (step at newlines ∷ []) self.old.left
             (said result self.new.refusal) self.new.left }
-        ensures shorter { OnOk result (length self.new.left < length self.old.left) }
+        ensures shorter { Consumes result self.old self.new }
     {
         match self.look(newlines) {
             None => Err(self.refused(Refusal::UnexpectedEnd)),
@@ -459,7 +464,7 @@ impl<'t, 's> Cursor<'t, 's> {
     pub fn separator(&mut self) -> Result<(), Refused>
         ensures parses { (count : ℕ) → Parses count (separator at Seen ∷ []) self.old.left
             (said result self.new.refusal) self.new.left }
-        ensures shorter { OnOk result (length self.new.left < length self.old.left) }
+        ensures shorter { Consumes result self.old self.new }
     {
         match self.look(Newlines::Seen) {
             None => Err(self.refused(Refusal::UnexpectedEnd)),

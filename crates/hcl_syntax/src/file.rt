@@ -3,6 +3,7 @@ ghost use Rattle.std.specs.Prelude.{◌≡◌, ◌+◌, ◌<◌, ◌≤◌, ◌^
 ghost use Rattle.hcl_grammar.specs.Grammar.{◌at◌, the, eol, labels, label_literal, start, rest, expr, file};
 ghost use Rattle.hcl_grammar.specs.Predictor.{run};
 ghost use Rattle.hcl_syntax.specs.Inner.Parsing.{Advances, Parses, said, outcome, after_item};
+ghost use Rattle.hcl_syntax.specs.Inner.Standings.{NeverReturns};
 ghost use Rattle.hcl_grammar.specs.declared.expected.Terminal.TheVariants.{EndQuote, Equals, EndBrace};
 ghost use Rattle.hcl_grammar.specs.declared.expected.Newlines.TheVariants.{Seen};
 
@@ -15,7 +16,7 @@ impl<'t, 's> Cursor<'t, 's> {
     fn label(&mut self) -> Result<(), Refused>
         ensures parses { Parses 0 (label_literal at Seen ∷ the EndQuote at Seen ∷ []) self.old.left
             (said result self.new.refusal) self.new.left }
-        ensures shorter { OnOk result (length self.new.left ≤ length self.old.left) }
+        ensures shorter { NeverReturns result self.old self.new }
     {
         let Some(token) = self.look(Newlines::Seen) else {
             return Err(self.refused(Refusal::UnexpectedEnd));
@@ -37,7 +38,7 @@ impl<'t, 's> Cursor<'t, 's> {
     fn labels(&mut self) -> Result<(), Refused>
         ensures leads { Advances 0 (labels at Seen ∷ []) self.old.left
             (said result self.new.refusal) (start at Seen ∷ []) self.new.left }
-        ensures shorter { OnOk result (length self.new.left ≤ length self.old.left) }
+        ensures shorter { NeverReturns result self.old self.new }
     {
         loop {
             let Some(token) = self.look(Newlines::Seen) else {
@@ -62,7 +63,7 @@ impl<'t, 's> Cursor<'t, 's> {
     fn block(&mut self) -> Result<bool, Refused>
         ensures leads { Advances 0 (start at Seen ∷ []) self.old.left (said result self.new.refusal)
             (after_item result) self.new.left }
-        ensures shorter { OnOk result (length self.new.left ≤ length self.old.left) }
+        ensures shorter { NeverReturns result self.old self.new }
     {
         let Some(token) = self.look(Newlines::Seen) else {
             return Err(self.refused(Refusal::UnexpectedEnd));
@@ -91,7 +92,7 @@ impl<'t, 's> Cursor<'t, 's> {
         ensures parses { Parses 0
             (the Equals at Seen ∷ expr at Seen ∷ the EndBrace at Seen ∷ eol at Seen ∷ [])
             self.old.left (said result self.new.refusal) self.new.left }
-        ensures shorter { OnOk result (length self.new.left ≤ length self.old.left) }
+        ensures shorter { NeverReturns result self.old self.new }
     {
         self.expect(Newlines::Seen, Terminal::Equals)?;
         self.expr(Newlines::Seen, 0)?;
@@ -103,7 +104,7 @@ impl<'t, 's> Cursor<'t, 's> {
     fn item(&mut self) -> Result<bool, Refused>
         ensures leads { Advances 0 (rest at Seen ∷ []) self.old.left (said result self.new.refusal)
             (after_item result) self.new.left }
-        ensures shorter { OnOk result (length self.new.left ≤ length self.old.left) }
+        ensures shorter { NeverReturns result self.old self.new }
     {
         if self.takes(Newlines::Seen, Terminal::Equals) {
             self.expr(Newlines::Seen, 0)?;
@@ -154,7 +155,7 @@ impl<'t, 's> Cursor<'t, 's> {
     pub fn end_of_line(&mut self) -> Result<(), Refused>
         ensures parses { Parses 0 (eol at Seen ∷ []) self.old.left
             (said result self.new.refusal) self.new.left }
-        ensures shorter { OnOk result (length self.new.left ≤ length self.old.left) }
+        ensures shorter { NeverReturns result self.old self.new }
     {
         let Some(end) = self.look(Newlines::Seen) else {
             return Ok(());

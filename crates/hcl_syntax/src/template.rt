@@ -3,6 +3,7 @@
 ghost use Rattle.std.specs.Prelude.{◌≡◌, ◌+◌, ◌<◌, ◌≤◌, [], ◌∷◌, length, Some, None, Ok, OnOk};
 ghost use Rattle.hcl_grammar.specs.Grammar.{◌at◌, the, expr, parts, directive, inside};
 ghost use Rattle.hcl_syntax.specs.Inner.Parsing.{Advances, Parses, said, Ends, turning};
+ghost use Rattle.hcl_syntax.specs.Inner.Standings.{Consumes, NeverReturns};
 ghost use Rattle.hcl_grammar.specs.Predictor.{max_directives};
 ghost use Rattle.hcl_grammar.specs.declared.expected.Terminal.TheVariants.{EndSequence};
 ghost use Rattle.hcl_grammar.specs.declared.expected.Newlines.TheVariants.{Dropped};
@@ -32,7 +33,7 @@ impl<'t, 's> Cursor<'t, 's> {
     pub fn parts(&mut self, newlines: Newlines, directives: usize) -> Result<(), Refused>
         ensures parses { Parses directives (parts at newlines ∷ []) self.old.left
             (said result self.new.refusal) self.new.left }
-        ensures shorter { OnOk result (length self.new.left ≤ length self.old.left) }
+        ensures shorter { NeverReturns result self.old self.new }
     {
         loop {
             let Some(token) = self.look(newlines) else {
@@ -60,7 +61,7 @@ impl<'t, 's> Cursor<'t, 's> {
         ensures parses { Parses directives
             (expr at Dropped ∷ the EndSequence at Dropped ∷ []) self.old.left
             (said result self.new.refusal) self.new.left }
-        ensures shorter { OnOk result (length self.new.left < length self.old.left) }
+        ensures shorter { Consumes result self.old self.new }
     {
         self.expr(Newlines::Dropped, directives)?;
         self.expect(Newlines::Dropped, Terminal::EndSequence)
@@ -71,7 +72,7 @@ impl<'t, 's> Cursor<'t, 's> {
     fn directive(&mut self, number: u32, directives: usize) -> Result<(), Refused>
         ensures parses { Parses directives (directive number at Dropped ∷ []) self.old.left
             (said result self.new.refusal) self.new.left }
-        ensures shorter { OnOk result (length self.new.left < length self.old.left) }
+        ensures shorter { Consumes result self.old self.new }
     {
         let Some(token) = self.look(Newlines::Dropped) else {
             return Err(self.refused(Refusal::UnexpectedEnd));
@@ -107,7 +108,7 @@ impl<'t, 's> Cursor<'t, 's> {
         requires { directives < max_directives }
         ensures ends { Ends directives (inside section at Dropped ∷ []) self.old.left
             (said result self.new.refusal) self.new.left }
-        ensures shorter { OnOk result (length self.new.left < length self.old.left) }
+        ensures shorter { Consumes result self.old self.new }
     {
         let mut section = section;
         loop {

@@ -59,7 +59,8 @@ impl Model for Entries {
 
     ghost view = { λ e. entries_of e.long.items e.kept.items };
 
-    ghost invariant = { λ e. All (IsKept e.long.items) e.kept.items × (length e.long.items ≤ length e.kept.items) };
+    ghost invariant = { λ e. All (IsKept e.long.items) e.kept.items
+        × (length e.long.items ≤ length e.kept.items) };
 }
 
 impl Entries {

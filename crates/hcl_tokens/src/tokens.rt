@@ -29,7 +29,10 @@ impl<'s> Model for Tokens<'s> {
 
     ghost use Rattle.hcl_tokens.specs.Entries.{AreTokens, lexemes_of};
 
-    ghost view = { λ t. record { text = t.origin.now; tokens = lexemes_of t.origin.now t.entries } };
+    ghost view = { λ t. record {
+      text = t.origin.now;
+      tokens = lexemes_of t.origin.now t.entries;
+    } };
 
     ghost invariant = { λ t. AreTokens t.origin.now t.entries };
 }

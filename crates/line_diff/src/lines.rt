@@ -53,7 +53,10 @@ impl<'a> Model for Lines<'a> {
 
     ghost Value = { Texts };
 
-    ghost view = { λ s. record { old = map (λ line. line.now) s.old.items; new = map (λ line. line.now) s.new.items } };
+    ghost view = { λ s. record {
+      old = map (λ line. line.now) s.old.items;
+      new = map (λ line. line.now) s.new.items;
+    } };
 }
 
 impl<'a> Lines<'a> {

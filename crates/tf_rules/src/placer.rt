@@ -25,7 +25,10 @@ impl<'t, 's> Model for Placer<'t, 's> {
 
     ghost Value = { Placing };
 
-    ghost view = { λ p. record { file = record { number = p.file; source = p.tokens.now }; reached = p.walker.reached } };
+    ghost view = { λ p. record {
+      file = record { number = p.file; source = p.tokens.now };
+      reached = p.walker.reached;
+    } };
 
     ghost invariant = { λ p. p.walker.text ≡ p.tokens.now.text };
 }

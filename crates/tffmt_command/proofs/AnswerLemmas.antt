@@ -5,17 +5,16 @@ use Rattle.std.specs.Prelude.{Result, Ok, Err, nat_lt, ◌||◌}
 use Rattle.std.specs.Str.{bytes_eq}
 use Rattle.std.proofs.lemmas.Bool.Decides.{nat_tests}
 use Rattle.hcl_layout.specs.Print.{print}
-use Rattle.hcl_tokens.specs.Scanned.{Scanned}
-use Rattle.hcl_source.specs.Places.{place}
-use Rattle.hcl_tokens.specs.Lexemes.{Lexeme}
+use Rattle.hcl_tokens.specs.Scanned.{IsScanError, Scanned}
+use Rattle.hcl_tokens.specs.declared.token.ScanError.{ScanError}
+use Rattle.hcl_tokens.specs.declared.token.ScanError.TheVariants as scan_error
 use Rattle.hcl_source.specs.Load.{max_source, IsText, IsLoadFault, Loads, is_failed_load, print_too_large}
 use Rattle.hcl_source.specs.declared.fault.LoadError.{LoadError}
 use Rattle.hcl_source.specs.declared.fault.LoadError.TheVariants as error
 use Rattle.hcl_source.specs.declared.fault.Fault.{Fault}
 use Rattle.hcl_source.proofs.LoadLemmas.{one_load_fault, text_or_fault, too_large_too}
-use Rattle.hcl_tokens.proofs.OneReadingLemmas.{one_scan, one_fault, no_fault}
 use Rattle.hcl_scan.proofs.SpellingLemmas.{one_kind}
-use Rattle.hcl_tokens.proofs.NonemptyLemmas.{nonempty}
+use Rattle.hcl_grammar.proofs.VerdictLemmas.{one_verdict}
 use Rattle.command_line.specs.Rows.{Row, End, Shows, OrOutOfMemory}
 use Rattle.tffmt_command.specs.Rows.{IsRow, OfInput, formatter}
 use Rattle.tffmt_command.specs.Answer.{refusal_row, row_of_file, row_by, IsTextAnswer, IsFileAnswer, IsAnswerBy, IsAnswer}
@@ -23,18 +22,10 @@ use Rattle.tffmt_command.specs.Line.{options_of}
 use Rattle.tffmt_command.specs.declared.options.FmtOptions.{FmtOptions}
 use Rattle.tffmt_command.specs.declared.options.Usage.{Usage}
 use Rattle.tffmt_command.specs.declared.options.Usage.TheVariants as usage
-use Rattle.hcl_grammar.specs.Verdict.{verdict}
 
 module _ (options : FmtOptions) where
   one_text_answer : (text : List ℕ) (row other : Row) → IsTextAnswer options text row → IsTextAnswer options text other → row ≡ other
-  one_text_answer text row other (inl x) (inl y) =
-      let same = one_fault one_kind nonempty text x.0 y.0 x.1 y.1 x.2 y.2 in
-      x.3 ∙ (λ i. refusal_row (record { kind = same.0 i; at = place text (same.1 i) })) ∙ sym y.3
-  one_text_answer text row other (inl x) (inr y) = absurd (no_fault one_kind nonempty text y.0 x.0 x.1 y.1 x.2)
-  one_text_answer text row other (inr x) (inl y) = absurd (no_fault one_kind nonempty text x.0 y.0 y.1 x.1 y.2)
-  one_text_answer text row other (inr x) (inr y) =
-      let same = one_scan one_kind nonempty text x.0 y.0 x.1 y.1 in
-      x.2 ∙ ap (λ (ts : List Lexeme). row_by options (verdict (record { text = text; tokens = ts }))) same ∙ sym y.2
+  one_text_answer text row other x y = x.2 ∙ ap (row_by options) (one_verdict one_kind text x.0 y.0 x.1 y.1) ∙ sym y.2
 
   one_file_answer : (input : List ℕ) (row other : Row) → IsFileAnswer options input row → IsFileAnswer options input other → row ≡ other
   one_file_answer input row other (inl x) (inl y) = x.2 ∙ ap refusal_row (one_load_fault input x.0 y.0 x.1 y.1) ∙ sym y.2
@@ -133,3 +124,12 @@ row_too_large options s row more (inr is) = inr (is ∙ sym (too_large_row (lt_t
   where
     too_large_row : nat_lt max_source (length (print s.tokens)) ≡ true → row_of_file options s ≡ refusal_row print_too_large
     too_large_row e = ap (λ b. cond b (refusal_row print_too_large) (cond options.check (record { out = []; err = []; status = cond (bytes_eq (print s.tokens) s.text) 0 3 }) (record { out = print s.tokens; err = []; status = 0 }))) e
+
+-- ---- a scan that failed
+
+pub refused_text : (options : FmtOptions) (text : List ℕ) (e : ScanError) (fault : Fault) → e ≡ scan_error.Fault fault → IsScanError text e → (row : Row) → OrOutOfMemory formatter (λ r. r ≡ refusal_row fault) row
+    → OrOutOfMemory formatter (IsTextAnswer options text) row
+refused_text options text e fault is why row (inl m) = inl m
+refused_text options text e fault is why row (inr r) =
+    let found : IsScanError text (scan_error.Fault fault) = subst (IsScanError text) is why in
+    inr (Err fault, inl (fault.kind, found.0, found.1, (λ i. Err (record { kind = fault.kind; at = found.2 i }))), r)

@@ -56,7 +56,7 @@ module _ (options : FmtOptions) (plain : options.check ≡ false) (later : FmtOp
       let none : refusal_of (lookaheads (printed_tokens ts)) ≡ None = ap refusal_of (seen_again ts) ∙ accepted in
       let small : nat_lt max_source (length (print (printed_tokens ts))) ≡ false = ap (λ p. nat_lt max_source (length p)) (print_again ts) ∙ l in
       let own : again later (print ts) ≡ row_by later (verdict s) = sym (own_row later s small (print_again ts)) ∙ ap (λ r. row_by later (verdict_by s r)) (sym none) in
-      subst (λ (o : List ℕ). IsFileAnswer later o (again later o)) out_is (inr (loads_again text ts is scans (within (length (print ts)) max_source l), inr (printed_tokens ts, scans_again text ts scans, own)))
+      subst (λ (o : List ℕ). IsFileAnswer later o (again later o)) out_is (inr (loads_again text ts is scans (within (length (print ts)) max_source l), (verdict s, inr (printed_tokens ts, scans_again text ts scans, refl), own)))
 
   by_verdict : (r : Option Refusal) → refusal_of (lookaheads ts) ≡ r → row ≡ row_by options (verdict_by (record { text = text; tokens = ts }) r) → IsFileAnswer later row.out (again later row.out)
   by_verdict None e h = small_row (nat_lt max_source (length (print ts))) refl e h
@@ -65,8 +65,9 @@ module _ (options : FmtOptions) (plain : options.check ≡ false) (later : FmtOp
 -- the printed file, by the options of later words
 twice : (options later : FmtOptions) (input : List ℕ) (row : Row) → options.check ≡ false → IsFileAnswer options input row → row.status ≡ 0 → IsFileAnswer later row.out (again later row.out)
 twice options later input row plain (inl x) good = absurd (refused_not x.0 row x.2 good)
-twice options later input row plain (inr (is, inl x)) good = absurd (refused_not _ row x.3 good)
-twice options later input row plain (inr (is, inr x)) good = by_verdict options plain later input is x.0 x.1 row good (refusal_of (lookaheads x.0)) refl x.2
+twice options later input row plain (inr (is, (v, inl x, e))) good = absurd (refused_not _ row (e ∙ ap (row_by options) x.3) good)
+twice options later input row plain (inr (is, (v, inr x, e))) good =
+    by_verdict options plain later input is x.0 x.1 row good (refusal_of (lookaheads x.0)) refl (e ∙ ap (row_by options) x.2)
 
 -- the printed file, by the words
 twice_by : (words later : List (List ℕ)) (input : List ℕ) (row : Row) (options : FmtOptions) → AskForPrint words → options_of later ≡ Ok options → IsAnswer words input row → row.status ≡ 0 → IsAnswer later row.out (again options row.out)

@@ -2,15 +2,10 @@
 -- choice.
 use Rattle.std.specs.Prelude.{◌≡◌, ◌⊎◌, ℕ, List, [], Result, Ok, Err, codes, length, nat_lt, if◌then◌else◌}
 use Rattle.std.specs.Str.{bytes_eq}
-use Rattle.hcl_source.specs.Places.{place}
 use Rattle.hcl_source.specs.Load.{max_source, IsText, IsLoadFault, print_too_large}
-use Rattle.hcl_tokens.specs.Lexemes.{Lexeme}
 use Rattle.hcl_tokens.specs.Scanned.{Scanned}
-use Rattle.hcl_tokens.specs.Scans.{Scans}
-use Rattle.hcl_tokens.specs.Faults.{IsScanFault}
 use Rattle.hcl_source.specs.declared.fault.Fault.{Fault}
-use Rattle.hcl_source.specs.declared.fault.FaultKind.{FaultKind}
-use Rattle.hcl_grammar.specs.Verdict.{verdict}
+use Rattle.hcl_grammar.specs.Verdict.{IsTextVerdict}
 use Rattle.hcl_layout.specs.Print.{print}
 use Rattle.command_line.specs.Rows.{Row, line, error, fault_words}
 use Rattle.tffmt_command.specs.Rows.{formatter}
@@ -38,11 +33,9 @@ abbrev pub row_by : FmtOptions → Result Scanned Fault → Row
 row_by options (Ok s) = row_of_file options s
 row_by options (Err fault) = refusal_row fault
 
--- the row of a source: that of its one scan fault, or that of its one list of tokens
+-- the row of a source, by the verdict on it
 abbrev pub IsTextAnswer : FmtOptions → List ℕ → Row → Type 0
-IsTextAnswer options text row =
-    ((kind : FaultKind) × (at : ℕ) × IsScanFault text kind at × (row ≡ refusal_row (record { kind = kind; at = place text at })))
-    ⊎ ((ts : List Lexeme) × Scans text ts × (row ≡ row_by options (verdict (record { text = text; tokens = ts }))))
+IsTextAnswer options text row = (v : Result Scanned Fault) × IsTextVerdict text v × (row ≡ row_by options v)
 
 -- the row of an input: that of its one load fault, or that of its text
 abbrev pub IsFileAnswer : FmtOptions → List ℕ → Row → Type 0

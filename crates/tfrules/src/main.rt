@@ -9,32 +9,23 @@ use crate::system_files::SystemFiles;
 use command_line::{NoWords, borrowed_words, process_words};
 use hcl_scan::{ByteSink, ToWrite};
 use std::hash::RandomState;
-use std::io::{BufWriter, Write};
 use std::process::ExitCode;
 use tfrules_command::run::{bad_line, program};
 
-/// The status of a run that got no words or no buffer: nothing is printed.
+/// The status of a run that got no words: nothing is printed.
 const NO_WORDS: u8 = 1;
 
+/// Passes the process's words, its files and its streams to the program. The report comes in pages, so standard output needs
+/// no buffer.
 fn main(rt: HostRuntime) -> ExitCode {
-    let Ok(mut buffered) = BufWriter::new(rt.alloc(), rt.stdout()) else {
-        return ExitCode::from(NO_WORDS);
-    };
-    let status = lint(&rt, &mut buffered);
-    // If it were dropped whole, the buffer would repeat what a failed write left.
-    let (_, _) = buffered.into_parts();
-    ExitCode::from(status)
-}
-
-/// Passes the process's words, its files and its streams to the program, and returns the status.
-fn lint<W: Write>(rt: &HostRuntime, stdout: &mut W) -> u8 {
-    let mut out = ToWrite::new(stdout);
+    let mut out = ToWrite::new(rt.stdout());
     let mut err = ToWrite::new(rt.stderr());
-    match process_words(rt) {
-        Ok(words) => lint_files(rt, words.as_slice(), &mut out, &mut err),
+    let status = match process_words(&rt) {
+        Ok(words) => lint_files(&rt, words.as_slice(), &mut out, &mut err),
         Err(NoWords::NotUtf8) => bad_line(&mut out, &mut err),
         Err(NoWords::NotGiven) => NO_WORDS,
-    }
+    };
+    ExitCode::from(status)
 }
 
 /// Runs the program with these words over the system's files.

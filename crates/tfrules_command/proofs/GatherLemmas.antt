@@ -6,7 +6,7 @@ use Rattle.std.specs.Io.KnownBytes.{Consumes, IsAtEnd}
 use Rattle.std.proofs.lemmas.List.{get_or_default, length-map, length-take-le, map-append, take_more, take-append-drop}
 use Rattle.std.proofs.lemmas.List.Elements.{All-append, All-cons, All-nil}
 use Rattle.std.proofs.lemmas.List.Sums.{sum_by-append}
-use Rattle.hcl_grammar.specs.Verdict.{verdict}
+use Rattle.hcl_grammar.specs.Verdict.{IsTextVerdict, verdict}
 use Rattle.hcl_source.specs.Load.{IsLoadFault, IsText, Loads, is_failed_load, max_source}
 use Rattle.hcl_tokens.specs.Scanned.{IsScanError, Scanned}
 use Rattle.hcl_tokens.specs.Scans.{Scans}
@@ -19,7 +19,7 @@ use Rattle.hcl_source.specs.declared.fault.LoadError.TheVariants as error
 use Rattle.hcl_source.proofs.LoadLemmas.{too_large_too}
 use Rattle.tf_rules.specs.Kept.{Kept, kept_of, with_file}
 use Rattle.tf_rules.proofs.KeptLemmas.{kept_of_more}
-use Rattle.tfrules_command.specs.Files.{NamedFile, IsAcceptedAs, IsOutcome, max_module, numbered_files, size_of}
+use Rattle.tfrules_command.specs.Files.{NamedFile, IsAcceptedAs, max_module, numbered_files, size_of}
 use Rattle.hcl_source.specs.Devices.{Tells}
 use Rattle.tfrules_command.specs.Inner.Steps.{AreFine, Adds, ReadsFile, StopsAt, StopsBy, stop_by, stop_of_scan}
 use Rattle.tfrules_command.specs.Keeping.{Added, Keeps, KeepsTokens, Reached, ScansFile}
@@ -77,13 +77,13 @@ keeps_none text size number kept stop.NotOpened s = absurd s
 keeps_none text size number kept stop.NotRead s = absurd s
 keeps_none text size number kept stop.OutOfMemory s = tt
 
-pub outcome_of : (text : List ℕ) (scanned : Scanned) (o : Result Scanned Fault) → scanned.text ≡ text → Scans text scanned.tokens → o ≡ verdict scanned → IsOutcome text o
+pub outcome_of : (text : List ℕ) (scanned : Scanned) (o : Result Scanned Fault) → scanned.text ≡ text → Scans text scanned.tokens → o ≡ verdict scanned → IsTextVerdict text o
 outcome_of text scanned o same scans e = inr (scanned.tokens, scans, e ∙ ap (λ t. verdict (record { text = t; tokens = scanned.tokens })) same)
 
 pub keeps_scanned : (text : List ℕ) (size number : ℕ) (old new : Kept) (file : ScannedFile) (answer : Result ℕ Stop) → ScansFile text size (Ok file) → KeepsTokens file.tokens number file.all old new answer → Keeps text size number old new answer
 keeps_scanned text size number old new file answer s = by answer
   where
-    outcome : (o : Result Scanned Fault) → o ≡ verdict file.tokens → IsOutcome text o
+    outcome : (o : Result Scanned Fault) → o ≡ verdict file.tokens → IsTextVerdict text o
     outcome o e = outcome_of text file.tokens o s.0 s.1 e
 
     by : (a : Result ℕ Stop) → KeepsTokens file.tokens number file.all old new a → Keeps text size number old new a

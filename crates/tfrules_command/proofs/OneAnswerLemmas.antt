@@ -12,13 +12,13 @@ use Rattle.hcl_tokens.specs.Scanned.{Scanned}
 use Rattle.hcl_tokens.proofs.OneReadingLemmas.{no_fault, one_fault, one_scan}
 use Rattle.hcl_scan.proofs.SpellingLemmas.{one_kind}
 use Rattle.hcl_tokens.proofs.NonemptyLemmas.{nonempty}
-use Rattle.hcl_grammar.specs.Verdict.{verdict}
+use Rattle.hcl_grammar.proofs.VerdictLemmas.{not_both, one_verdict}
 use Rattle.tf_rules.specs.Answers.{shown_issue}
 use Rattle.tf_rules.specs.Issues.{IsReport}
 use Rattle.tf_rules.proofs.ReportLemmas.{one_report}
 use Rattle.tfrules_command.specs.AnswerLaws.{IsAnswer}
 use Rattle.tfrules_command.specs.Answer.{IsAnswerBy, IsRefused, IsRefusedFirst, IsReported, refusal_row}
-use Rattle.tfrules_command.specs.Files.{NamedFile, AreAccepted, IsAcceptedAs, IsFault, IsOutcome, IsTooMuch, max_module, numbered_files, size_of}
+use Rattle.tfrules_command.specs.Files.{NamedFile, AreAccepted, IsAcceptedAs, IsFault, IsTooMuch, max_module, numbered_files, size_of}
 use Rattle.tfrules_command.specs.Line.{Asking, options_of}
 use Rattle.tfrules_command.specs.Report.{report_row}
 use Rattle.tfrules_command.specs.declared.usage.Usage.{Usage}
@@ -34,22 +34,10 @@ abbrev fault_or : Fault → Result Scanned Fault → Fault
 fault_or other (Ok source) = other
 fault_or other (Err fault) = fault
 
-not_both : (source : Scanned) (fault : Fault) → (Ok source ≡ Err fault) → ⊥
-not_both source fault e = cc
-
-one_outcome : (text : List ℕ) (outcome other : Result Scanned Fault) → IsOutcome text outcome → IsOutcome text other → outcome ≡ other
-one_outcome text outcome other (inl x) (inl y) =
-    let same = one_fault one_kind nonempty text x.0 y.0 x.1 y.1 x.2 y.2 in
-    x.3 ∙ (λ i. Err (record { kind = same.0 i; at = place text (same.1 i) })) ∙ sym y.3
-one_outcome text outcome other (inl x) (inr y) = absurd (no_fault one_kind nonempty text y.0 x.0 x.1 y.1 x.2)
-one_outcome text outcome other (inr x) (inl y) = absurd (no_fault one_kind nonempty text x.0 y.0 y.1 x.1 y.2)
-one_outcome text outcome other (inr x) (inr y) =
-    x.2 ∙ ap (λ (ts : List Lexeme). verdict (record { text = text; tokens = ts })) (one_scan one_kind nonempty text x.0 y.0 x.1 y.1) ∙ sym y.2
-
 -- ---- accepted files
 
 one_source : (file : NamedFile) (source other : Scanned) → IsAcceptedAs file source → IsAcceptedAs file other → source ≡ other
-one_source file source other a b = ap (source_or source) (one_outcome file.bytes (Ok source) (Ok other) a.1 b.1)
+one_source file source other a b = ap (source_or source) (one_verdict one_kind file.bytes (Ok source) (Ok other) a.1 b.1)
 
 same_sources : (files : List NamedFile) (sources others : List Scanned) → AllZip IsAcceptedAs files sources → AllZip IsAcceptedAs files others → sources ≡ others
 same_sources [] [] [] a b = refl
@@ -63,13 +51,13 @@ same_sources (f ∷ fs) (s ∷ ss) (o ∷ os) a b = ap₂ (λ x xs. x ∷ xs) (o
 
 no_fault_too : (size : ℕ) (file : NamedFile) (source : Scanned) (fault : Fault) → IsAcceptedAs file source → IsFault size file.bytes fault → ⊥
 no_fault_too size file source fault a (inl load) = text_or_fault file.bytes fault a.0 load
-no_fault_too size file source fault a (inr f) = not_both source fault (one_outcome file.bytes (Ok source) (Err fault) a.1 f.2)
+no_fault_too size file source fault a (inr f) = not_both source fault (one_verdict one_kind file.bytes (Ok source) (Err fault) a.1 f.2)
 
 one_file_fault : (size : ℕ) (bytes : List ℕ) (fault other : Fault) → IsFault size bytes fault → IsFault size bytes other → fault ≡ other
 one_file_fault size bytes fault other (inl x) (inl y) = one_load_fault bytes fault other x y
 one_file_fault size bytes fault other (inl x) (inr y) = absurd (text_or_fault bytes fault y.0 x)
 one_file_fault size bytes fault other (inr x) (inl y) = absurd (text_or_fault bytes other x.0 y)
-one_file_fault size bytes fault other (inr x) (inr y) = ap (fault_or fault) (one_outcome bytes (Err fault) (Err other) x.2 y.2)
+one_file_fault size bytes fault other (inr x) (inr y) = ap (fault_or fault) (one_verdict one_kind bytes (Err fault) (Err other) x.2 y.2)
 
 fault_or_much : (size : ℕ) (bytes : List ℕ) (fault : Fault) → IsFault size bytes fault → IsTooMuch size bytes → ⊥
 fault_or_much size bytes fault (inl load) much = text_or_fault bytes fault much.0 load

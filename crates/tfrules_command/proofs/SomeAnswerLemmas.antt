@@ -6,6 +6,7 @@ use Rattle.std.specs.Str.{bytes_eq}
 use Rattle.std.proofs.lemmas.List.{take_all}
 use Rattle.std.proofs.lemmas.List.Elements.{All-cons, All-head, All-more, All-nil, All-tail}
 use Rattle.std.proofs.lemmas.List.Sums.{sum_by-append, sum_by-cons}
+use Rattle.hcl_grammar.specs.Verdict.{IsTextVerdict}
 use Rattle.clap.specs.Words.{Kinds, all_of, fault_of, matches_of}
 use Rattle.clap.specs.Words as clap
 use Rattle.command_line.specs.Arguments.{unless_fault, usage_by}
@@ -23,7 +24,7 @@ use Rattle.rule_set.specs.declared.rule.Rule.{Rule}
 use Rattle.rule_set.specs.declared.rule.Severity.{Severity}
 use Rattle.tfrules_command.specs.AnswerLaws.{AreNamed, IsAnswer, named_file}
 use Rattle.tfrules_command.specs.Answer.{IsAnswerBy, IsRefused, IsRefusedFirst, IsReported, linter, refusal_row, too_large, usage_line}
-use Rattle.tfrules_command.specs.Files.{NamedFile, AreAccepted, IsAcceptedAs, IsOutcome, max_module, numbered_files, size_of}
+use Rattle.tfrules_command.specs.Files.{NamedFile, AreAccepted, IsAcceptedAs, max_module, numbered_files, size_of}
 use Rattle.tfrules_command.specs.Line.{Asking, asking_for, asking_of_rows, asking_with, each_once, has_name, max_files, options_of, rules_asked, rules_named, tfrules, value_or}
 use Rattle.tfrules_command.specs.Report.{report_row}
 use Rattle.tfrules_command.specs.Inner.Outcomes.{HasOutcome}
@@ -141,7 +142,7 @@ module _ (asking : Asking) (reports : (sources : List Scanned) → (report : Lis
 
   module _ (before : List NamedFile) (file : NamedFile) (after : List NamedFile) (sources : List Scanned) (are : AreAccepted before sources)
       (next : (source : Scanned) → AreAccepted (before ++ file ∷ []) (sources ++ source ∷ []) → Ends ((before ++ file ∷ []) ++ after)) where
-    text_ends : IsText file.bytes → (outcome : Result Scanned Fault) → IsOutcome file.bytes outcome → (size_of before + length file.bytes ≤ max_module) ⊎ (max_module < size_of before + length file.bytes)
+    text_ends : IsText file.bytes → (outcome : Result Scanned Fault) → IsTextVerdict file.bytes outcome → (size_of before + length file.bytes ≤ max_module) ⊎ (max_module < size_of before + length file.bytes)
         → Ends (before ++ file ∷ after)
     text_ends is outcome has (inr more) = refused_at before file after sources are (too_large file.name) (inr ((is, more), refl))
     text_ends is (Err fault) has (inl fit) = refused_at before file after sources are (refusal_row file.name fault) (inl (fault, inr (is, fit, has), refl))

@@ -2,15 +2,10 @@
 -- The bound on a module is our own choice.
 use Rattle.std.specs.Prelude.{◌≡◌, ◌⊎◌, ◌≤◌, ◌<◌, ◌+◌, ℕ, List, [], ◌∷◌, Result, Ok, Err, length, sum_by}
 use Rattle.std.specs.List.{AllZip}
-use Rattle.hcl_tokens.specs.Faults.{IsScanFault}
-use Rattle.hcl_tokens.specs.Lexemes.{Lexeme}
 use Rattle.hcl_source.specs.Load.{IsLoadFault, IsText}
-use Rattle.hcl_source.specs.Places.{place}
 use Rattle.hcl_tokens.specs.Scanned.{Scanned}
-use Rattle.hcl_tokens.specs.Scans.{Scans}
 use Rattle.hcl_source.specs.declared.fault.Fault.{Fault}
-use Rattle.hcl_source.specs.declared.fault.FaultKind.{FaultKind}
-use Rattle.hcl_grammar.specs.Verdict.{verdict}
+use Rattle.hcl_grammar.specs.Verdict.{IsTextVerdict}
 use Rattle.tf_rules.specs.Issues.{File}
 
 pub record NamedFile : Type 0 where
@@ -24,15 +19,9 @@ max_module = 33_554_432
 abbrev pub size_of : List NamedFile → ℕ
 size_of files = sum_by (λ file. length file.bytes) files
 
--- a text is accepted with its tokens, or has one fault: of its scan, or of the grammar
-abbrev pub IsOutcome : List ℕ → Result Scanned Fault → Type 0
-IsOutcome text outcome =
-    ((kind : FaultKind) × (at : ℕ) × IsScanFault text kind at × (outcome ≡ Err (record { kind = kind; at = place text at })))
-    ⊎ ((ts : List Lexeme) × Scans text ts × (outcome ≡ verdict (record { text = text; tokens = ts })))
-
 -- the bytes are a text that is accepted
 abbrev pub IsAcceptedAs : NamedFile → Scanned → Type 0
-IsAcceptedAs file source = IsText file.bytes × IsOutcome file.bytes (Ok source)
+IsAcceptedAs file source = IsText file.bytes × IsTextVerdict file.bytes (Ok source)
 
 -- all are accepted, and they aren't too much
 pub record AreAccepted (files : List NamedFile) (sources : List Scanned) : Type 0 where
@@ -45,7 +34,7 @@ IsTooMuch size bytes = IsText bytes × (max_module < size + length bytes)
 
 -- after files with this many bytes this is the fault for which the bytes are refused
 abbrev pub IsFault : ℕ → List ℕ → Fault → Type 0
-IsFault size bytes fault = IsLoadFault bytes fault ⊎ (IsText bytes × (size + length bytes ≤ max_module) × IsOutcome bytes (Err fault))
+IsFault size bytes fault = IsLoadFault bytes fault ⊎ (IsText bytes × (size + length bytes ≤ max_module) × IsTextVerdict bytes (Err fault))
 
 -- the files as the rules see them, with rising numbers
 abbrev pub numbered_files : ℕ → List Scanned → List File

@@ -2,12 +2,12 @@
 use Rattle.std.specs.Prelude.{◌≡◌, ◌≤◌, ◌<◌, ◌+◌, ℕ, List, Option, Result, Ok, Err, length}
 use Rattle.hcl_source.specs.Devices.{Tells}
 use Rattle.hcl_source.specs.Load.{IsText}
-use Rattle.hcl_grammar.specs.Verdict.{verdict}
+use Rattle.hcl_grammar.specs.Verdict.{IsTextVerdict, verdict}
 use Rattle.hcl_tokens.specs.Scanned.{Scanned}
 use Rattle.hcl_tokens.specs.Scans.{Scans}
 use Rattle.tf_rules.specs.Kept.{Kept, kept_of, with_file}
 use Rattle.tfrules_command.specs.Answer.{names_of}
-use Rattle.tfrules_command.specs.Files.{NamedFile, AreAccepted, IsOutcome, max_module, numbered_files, size_of}
+use Rattle.tfrules_command.specs.Files.{NamedFile, AreAccepted, max_module, numbered_files, size_of}
 use Rattle.tfrules_command.specs.Rows.{AreFiles}
 use Rattle.tfrules_command.specs.declared.gather.ScannedFile.{ScannedFile}
 use Rattle.tfrules_command.specs.declared.stop.Stop.{Stop}
@@ -16,7 +16,7 @@ use Rattle.tfrules_command.specs.declared.stop.Stop.TheVariants as stop
 -- the answer of scanning a text after others of this many bytes
 abbrev pub ScansFile : List ℕ → ℕ → Result ScannedFile Stop → Type 0
 ScansFile text size (Ok file) = (file.tokens.text ≡ text) × Scans text file.tokens.tokens × (file.all ≡ size + length text) × (file.all ≤ max_module)
-ScansFile text size (Err (stop.Refused fault)) = (size + length text ≤ max_module) × IsOutcome text (Err fault)
+ScansFile text size (Err (stop.Refused fault)) = (size + length text ≤ max_module) × IsTextVerdict text (Err fault)
 ScansFile text size (Err stop.TooLarge) = max_module < size + length text
 ScansFile text size (Err stop.NotOpened) = ⊥
 ScansFile text size (Err stop.NotRead) = ⊥
@@ -35,8 +35,8 @@ KeepsTokens scanned number all old new (Err stop.OutOfMemory) = Unit {0}
 -- the answer of keeping a text after others of this many bytes
 abbrev pub Keeps : List ℕ → ℕ → ℕ → Kept → Kept → Result ℕ Stop → Type 0
 Keeps text size number old new (Ok more) =
-    (source : Scanned) × IsOutcome text (Ok source) × (more ≡ size + length text) × (more ≤ max_module) × (new ≡ with_file old (record { number = number; source = source }))
-Keeps text size number old new (Err (stop.Refused fault)) = (size + length text ≤ max_module) × IsOutcome text (Err fault)
+    (source : Scanned) × IsTextVerdict text (Ok source) × (more ≡ size + length text) × (more ≤ max_module) × (new ≡ with_file old (record { number = number; source = source }))
+Keeps text size number old new (Err (stop.Refused fault)) = (size + length text ≤ max_module) × IsTextVerdict text (Err fault)
 Keeps text size number old new (Err stop.TooLarge) = max_module < size + length text
 Keeps text size number old new (Err stop.NotOpened) = ⊥
 Keeps text size number old new (Err stop.NotRead) = ⊥
@@ -48,7 +48,7 @@ pub record Added (told : Option (List ℕ)) (size number : ℕ) (old new : Kept)
   pub is : Tells told bytes
   pub text : IsText bytes
   pub source : Scanned
-  pub outcome : IsOutcome bytes (Ok source)
+  pub outcome : IsTextVerdict bytes (Ok source)
   pub size_is : more ≡ size + length bytes
   pub fits : more ≤ max_module
   pub kept : new ≡ with_file old (record { number = number; source = source })

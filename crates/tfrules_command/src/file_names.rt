@@ -26,7 +26,8 @@ impl<'a> Model for FileNames<'a> {
 
     ghost view = { λ f. map (λ name. name.now) f.names.items };
 
-    ghost invariant = { λ f. (length f.names.items ≤ max_files) × (0 < length f.names.items) × NoneTwice (map (λ name. name.now) f.names.items) };
+    ghost invariant = { λ f. (length f.names.items ≤ max_files) × (0 < length f.names.items)
+        × NoneTwice (map (λ name. name.now) f.names.items) };
 }
 
 /// Whether the name is among them.

@@ -10,10 +10,13 @@ use Rattle.hcl_source.specs.declared.fault.FaultKind.{FaultKind}
 use Rattle.hcl_source.specs.declared.fault.FaultKind.TheVariants.{TooLarge, InvalidUtf8, ByteOrderMark, InvalidCharacter, UnterminatedQuote, UnterminatedComment, UnterminatedHeredoc, UnterminatedTemplate, InvalidEscape, TooDeep, UnexpectedToken, UnexpectedEnd, ResultTooLarge}
 use Rattle.hcl_source.specs.declared.fault.LoadError.{LoadError}
 use Rattle.hcl_source.specs.declared.fault.LoadError.TheVariants as error
-use Rattle.hcl_tokens.specs.Scanned.{Scanned}
+use Rattle.hcl_tokens.specs.Scanned.{IsScanError, Scanned}
+use Rattle.hcl_tokens.specs.declared.token.ScanError.{ScanError}
+use Rattle.hcl_tokens.specs.declared.token.ScanError.TheVariants as scan_error
 use Rattle.hcl_grammar.specs.Classes.{lookaheads}
 use Rattle.hcl_grammar.specs.Predictor.{refusal_of}
-use Rattle.hcl_grammar.specs.Verdict.{IsAccepted, fault_at, verdict, verdict_by}
+use Rattle.hcl_grammar.specs.Verdict.{IsAccepted, IsTextVerdict, fault_at, verdict, verdict_by}
+use Rattle.hcl_grammar.proofs.VerdictLemmas.{accepted_as, not_both, one_verdict, source_of, source_or}
 use Rattle.hcl_grammar.specs.declared.refusal.Refusal.{Refusal}
 use Rattle.hcl_source.proofs.LoadLemmas.{text_or_fault, too_large_too}
 use Rattle.hcl_tokens.specs.Scans.{Scans}
@@ -39,7 +42,7 @@ use Rattle.source_snippet.specs.Snippets.{snippet_if}
 use Rattle.tree_format.specs.Refusals.{is_about_line, shown_line}
 use Rattle.tree_format.specs.Reports.{snippet_text}
 use Rattle.tree_format.specs.Runs.{IsSafe, Kept, Settled, is_failed}
-use Rattle.tree_format.specs.Inner.Steps.{Completes, IsShown, LoadNotes, LoadsFile, Makes, MakesAsking, PrintAsked, outcome_by}
+use Rattle.tree_format.specs.Inner.Steps.{Completes, IsShown, LoadNotes, LoadsFile, Makes, MakesAsking, PrintAsked, outcome_by, outcome_of_scan}
 use Rattle.tree_format.specs.declared.mode.Mode.{Mode}
 use Rattle.tree_format.specs.declared.mode.Mode.TheVariants.{Write, Check, List as Listed, Diff}
 use Rattle.tree_format.specs.declared.outcome.Outcome.{Outcome}
@@ -49,8 +52,9 @@ use Rattle.tree_format.specs.declared.outcome.Outcome.TheVariants as outcome
 
 pub format_once : (x y z : List ℕ) → IsFormat x y → IsFormat y z → z ≡ y
 format_once x y z f g =
-    let again : Scans y (printed_tokens f.tokens) = subst (λ l. Scans l (printed_tokens f.tokens)) (sym f.printed) (scans_again x f.tokens f.scanned) in
-    g.printed ∙ ap print (one_scan one_kind nonempty y g.tokens (printed_tokens f.tokens) g.scanned again) ∙ print_again f.tokens ∙ sym f.printed
+    let tokens = f.source.tokens in
+    let again : Scans y (printed_tokens tokens) = subst (λ l. Scans l (printed_tokens tokens)) (sym f.printed) (scans_again x tokens (source_of x f.source f.accepted).scanned) in
+    g.printed ∙ ap print (one_scan one_kind nonempty y g.source.tokens (printed_tokens tokens) (source_of y g.source g.accepted).scanned again) ∙ print_again tokens ∙ sym f.printed
 
 -- ---- runs one after another
 
@@ -193,12 +197,12 @@ loads_told told left left' bytes loaded answer is same taken l = subst (LoadsFil
 module _ (mode : Mode) (old new : Files) (given : Name) (name : Name) where
   looks_by : (s : Scanned) (answer : Outcome) → IsText s.text → Scans s.text s.tokens → IsAccepted s.tokens → Makes mode old new given name s answer → Looks false mode old new given name s.text answer
   looks_by s outcome.Formatted is scans accepted m =
-      (record { text = is; tokens = s.tokens; scanned = scans; accepted = accepted; printed = sym m.0; fits = is.small }, m.1)
+      (record { text = is; source = s; accepted = accepted_as s.text s.tokens scans accepted; printed = sym m.0; fits = is.small }, m.1)
   looks_by s (outcome.Changed how) is scans accepted m = (
     m.0,
     record {
       formatted = print s.tokens;
-      is = record { text = is; tokens = s.tokens; scanned = scans; accepted = accepted; printed = refl; fits = m.2 };
+      is = record { text = is; source = s; accepted = accepted_as s.text s.tokens scans accepted; printed = refl; fits = m.2 };
       changed = m.1;
       left = m.3;
     },
@@ -207,13 +211,13 @@ module _ (mode : Mode) (old new : Files) (given : Name) (name : Name) where
     m.0,
     record {
       formatted = print s.tokens;
-      is = record { text = is; tokens = s.tokens; scanned = scans; accepted = accepted; printed = refl; fits = m.2 };
+      is = record { text = is; source = s; accepted = accepted_as s.text s.tokens scans accepted; printed = refl; fits = m.2 };
       changed = m.1;
       left = m.3;
     },
     m.4,
   )
-  looks_by s (outcome.Refused fault snippet) is scans accepted m = (inr (is, inr (s.tokens, scans, inr (accepted, m.0, m.1))), m.2, ap snippet_text m.3)
+  looks_by s (outcome.Refused fault snippet) is scans accepted m = (inr (is, inr (s, accepted_as s.text s.tokens scans accepted, m.0, m.1)), m.2, ap snippet_text m.3)
   looks_by s (outcome.Failed fault) is scans accepted m = m
 
   not_ok : (s : Scanned) (f : Fault) → (Ok s ≡ Err f) → ⊥
@@ -235,6 +239,14 @@ module _ (mode : Mode) (old new : Files) (given : Name) (name : Name) where
       subst (λ t. Looks false mode old new given name t answer) same
       (makes_looks s accepted answer (subst IsText (sym same) is) (subst (λ t. Scans t s.tokens) (sym same) scans) v m)
 
+-- a text whose scan failed
+
+pub scan_looks : (mode : Mode) (files : Files) (given name text : List ℕ) (e : ScanError) (answer : Outcome) → answer ≡ outcome_of_scan e → IsText text → IsScanError text e → Looks false mode files files given name text answer
+scan_looks mode files given name text (scan_error.Fault fault) answer h is (at, found, there, none) =
+    let verdict_is : IsTextVerdict text (Err fault) = inl (fault.kind, at, found, (λ i. Err (record { kind = fault.kind; at = there i }))) in
+    subst (Looks false mode files files given name text) (sym h) (inr (is, inl verdict_is), refl, refl)
+scan_looks mode files given name text scan_error.OutOfMemory answer h is e = subst (Looks false mode files files given name text) (sym h) refl
+
 -- ---- what is asked for
 
 module _ (given : Name) (told : Option (List ℕ)) (before after : Asked) (s : Scanned) (is : IsText s.text) (scans : Scans s.text s.tokens) (accepted : IsAccepted s.tokens) (tells : Tells told s.text) where
@@ -243,7 +255,7 @@ module _ (given : Name) (told : Option (List ℕ)) (before after : Asked) (s : S
     bytes = s.text;
     tells = tells;
     formatted = print s.tokens;
-    is = record { text = is; tokens = s.tokens; scanned = scans; accepted = accepted; printed = refl; fits = m.1 };
+    is = record { text = is; source = s; accepted = accepted_as s.text s.tokens scans accepted; printed = refl; fits = m.1 };
     changed = m.0;
     asked = m.2;
   }
@@ -383,20 +395,12 @@ completed_notes shows text a b (outcome.Refused fault was) (outcome.Differs show
 
 -- ---- nothing is left to do
 
-pub refused_here : (s : Scanned) (f : Fault) → verdict s ≡ Err f → IsAccepted s.tokens → ⊥
-refused_here s f e accepted = absurd (no (ap (verdict_by s) (sym accepted) ∙ e))
-  where
-    no : Ok s ≡ Err f → ⊥
-    no h = cc
-
 pub no_format : (x y : List ℕ) (f : Fault) → IsFault x f → IsFormat x y → ⊥
 no_format x y f (inl l) g = text_or_fault x f g.text l
-no_format x y f (inr (is, inl l)) g = no_fault one_kind nonempty x g.tokens f.kind l.0 g.scanned l.1
-no_format x y f (inr (is, inr (ts, scans, inl v))) g =
-    refused_here (record { text = x; tokens = ts }) f v (subst IsAccepted (one_scan one_kind nonempty x g.tokens ts g.scanned scans) g.accepted)
-no_format x y f (inr (is, inr (ts, scans, inr l))) g =
-    let same : length y ≡ length (print ts) = ap length g.printed ∙ ap (λ us. length (print us)) (one_scan one_kind nonempty x g.tokens ts g.scanned scans) in
-    omega (arith, same, l.1, g.fits)
+no_format x y f (inr (is, inl v)) g = not_both g.source f (one_verdict one_kind x (Ok g.source) (Err f) g.accepted v)
+no_format x y f (inr (is, inr (s, v, large, e))) g =
+    let same : length y ≡ length (print s.tokens) = ap length g.printed ∙ ap (λ o. length (print (source_or s o).tokens)) (one_verdict one_kind x (Ok g.source) (Ok s) g.accepted v) in
+    omega (arith, same, large, g.fits)
 
 settled_on : (w : Writing) (x y : List ℕ) (c : Option (List ℕ)) → IsFormat x y → Kept (Write w) (Some y) c → Settled (Write w) (Some x) c
 settled_on w x y c f (inl e) = inl (y, f, e)

@@ -4,17 +4,12 @@ use Rattle.std.specs.Prelude.{◌≢◌, ◌||◌, IsSome, Result, Ok, Err, fold
 use Rattle.std.specs.List.{list_any}
 use Rattle.std.proofs.lemmas.List.Elements.{All-head, All-tail, All-weaker}
 use Rattle.command_line.specs.Rows.{End}
-use Rattle.hcl_source.specs.Load.{max_source, print_too_large}
 use Rattle.hcl_source.specs.Devices.{Tells}
-use Rattle.hcl_source.specs.Places.{place}
 use Rattle.hcl_source.specs.declared.fault.Fault.{Fault}
 use Rattle.hcl_source.proofs.LoadLemmas.{one_load_fault, text_or_fault}
-use Rattle.hcl_tokens.specs.Lexemes.{Lexeme}
 use Rattle.hcl_tokens.specs.Scanned.{Scanned}
-use Rattle.hcl_tokens.proofs.OneReadingLemmas.{no_fault, one_fault, one_scan}
-use Rattle.hcl_tokens.proofs.NonemptyLemmas.{nonempty}
 use Rattle.hcl_scan.proofs.SpellingLemmas.{one_kind}
-use Rattle.hcl_grammar.specs.Verdict.{IsAccepted, verdict}
+use Rattle.hcl_grammar.proofs.VerdictLemmas.{not_both, one_verdict, source_or}
 use Rattle.hcl_layout.specs.Print.{print}
 use Rattle.file_tree.specs.Files.{Files, Name, put}
 use Rattle.tree_format.specs.States.{State}
@@ -32,38 +27,24 @@ use Rattle.tree_format.specs.declared.mode.Mode.{Mode}
 use Rattle.tree_format.specs.declared.mode.Mode.TheVariants.{Write, Check, List as Listed, Diff}
 use Rattle.tree_format.specs.declared.outcome.Outcome.{Outcome}
 use Rattle.tree_format.specs.declared.outcome.Outcome.TheVariants as outcome
-use Rattle.tree_format.proofs.KeptFormatLemmas.{no_format, refused_here, visit_kept, visit_real}
+use Rattle.tree_format.proofs.KeptFormatLemmas.{no_format, visit_kept, visit_real}
 use Rattle.tree_format.proofs.FileRunLemmas.{first_good, good_answer, second_good}
 
 -- ---- bytes have one format, or one fault
 
 one_format : (x y z : List ℕ) → IsFormat x y → IsFormat x z → y ≡ z
-one_format x y z f g = f.printed ∙ ap print (one_scan one_kind nonempty x f.tokens g.tokens f.scanned g.scanned) ∙ sym g.printed
+one_format x y z f g =
+    f.printed ∙ ap (λ o. print (source_or f.source o).tokens) (one_verdict one_kind x (Ok f.source) (Ok g.source) f.accepted g.accepted) ∙ sym g.printed
 
 abbrev fault_or : Fault → Result Scanned Fault → Fault
 fault_or other (Ok s) = other
 fault_or other (Err fault) = fault
 
--- tokens of a text are refused for this
-abbrev Refuses : List ℕ → List Lexeme → Fault → Type 0
-Refuses text ts fault =
-    (verdict (record { text = text; tokens = ts }) ≡ Err fault) ⊎ (IsAccepted ts × (max_source < length (print ts)) × (fault ≡ print_too_large))
-
-one_refusal : (x : List ℕ) (ts : List Lexeme) (f g : Fault) → Refuses x ts f → Refuses x ts g → f ≡ g
-one_refusal x ts f g (inl v) (inl w) = ap (fault_or f) (sym v ∙ w)
-one_refusal x ts f g (inl v) (inr w) = absurd (refused_here (record { text = x; tokens = ts }) f v w.0)
-one_refusal x ts f g (inr v) (inl w) = absurd (refused_here (record { text = x; tokens = ts }) g w v.0)
-one_refusal x ts f g (inr v) (inr w) = v.2 ∙ sym w.2
-
 one_text_fault : (x : List ℕ) (f g : Fault) → IsTextFault x f → IsTextFault x g → f ≡ g
-one_text_fault x f g (inl l) (inl m) =
-    let same = one_fault one_kind nonempty x f.kind g.kind l.0 m.0 l.1 m.1 in
-    let at = l.2 ∙ ap (place x) same.1 ∙ sym m.2 in
-    λ i. record { kind = same.0 i; at = at i }
-one_text_fault x f g (inl l) (inr m) = absurd (no_fault one_kind nonempty x m.0 f.kind l.0 m.1 l.1)
-one_text_fault x f g (inr l) (inl m) = absurd (no_fault one_kind nonempty x l.0 g.kind m.0 l.1 m.1)
-one_text_fault x f g (inr l) (inr m) =
-    one_refusal x l.0 f g l.2 (subst (λ ts. Refuses x ts g) (one_scan one_kind nonempty x m.0 l.0 m.1 l.1) m.2)
+one_text_fault x f g (inl v) (inl w) = ap (fault_or f) (one_verdict one_kind x (Err f) (Err g) v w)
+one_text_fault x f g (inl v) (inr w) = absurd (not_both w.0 f (one_verdict one_kind x (Ok w.0) (Err f) w.1 v))
+one_text_fault x f g (inr v) (inl w) = absurd (not_both v.0 g (one_verdict one_kind x (Ok v.0) (Err g) v.1 w))
+one_text_fault x f g (inr v) (inr w) = v.3 ∙ sym w.3
 
 one_reason : (x : List ℕ) (f g : Fault) → IsFault x f → IsFault x g → f ≡ g
 one_reason x f g (inl l) (inl m) = one_load_fault x f g l m

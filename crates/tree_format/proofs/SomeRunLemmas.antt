@@ -18,6 +18,8 @@ use Rattle.hcl_tokens.specs.Scans.{Scans}
 use Rattle.hcl_grammar.specs.Classes.{lookaheads}
 use Rattle.hcl_grammar.specs.Predictor.{refusal_of}
 use Rattle.hcl_grammar.specs.Verdict.{fault_at, verdict_by}
+use Rattle.hcl_tokens.specs.Scanned.{Scanned}
+use Rattle.hcl_grammar.proofs.VerdictLemmas.{accepted_as, source_of}
 use Rattle.hcl_grammar.specs.declared.refusal.Refusal.{Refusal}
 use Rattle.hcl_layout.specs.Print.{print}
 use Rattle.layout_laws.specs.Reprinted.{printed_tokens}
@@ -54,15 +56,17 @@ IsRead text = ((ts : List Lexeme) × Scans text ts) ⊎ ((kind : FaultKind) × (
 
 by_tokens : (text : List ℕ) (ts : List Lexeme) → IsText text → Scans text ts → (r : Option Refusal) → refusal_of (lookaheads ts) ≡ r → HasFormatOrFault text
 by_tokens text ts is scans None e =
-    ⊎_elim (λ le. inl (print ts, record { text = is; tokens = ts; scanned = scans; accepted = e; printed = refl; fits = le }))
-    (λ gt. inr (print_too_large, inr (is, inr (ts, scans, inr (e, gt, refl)))))
+    let source : Scanned = record { text = text; tokens = ts } in
+    let accepted = accepted_as text ts scans e in
+    ⊎_elim (λ le. inl (print ts, record { text = is; source = source; accepted = accepted; printed = refl; fits = le }))
+    (λ gt. inr (print_too_large, inr (is, inr (source, accepted, gt, refl))))
     (either_size (length (print ts)) max_source)
 by_tokens text ts is scans (Some r) e =
-    inr (fault_at (record { text = text; tokens = ts }) r, inr (is, inr (ts, scans, inl (ap (verdict_by (record { text = text; tokens = ts })) e))))
+    inr (fault_at (record { text = text; tokens = ts }) r, inr (is, inl (inr (ts, scans, sym (ap (verdict_by (record { text = text; tokens = ts })) e)))))
 
 pub by_reading : (text : List ℕ) → IsText text → IsRead text → HasFormatOrFault text
 by_reading text is (inl s) = by_tokens text s.0 is s.1 (refusal_of (lookaheads s.0)) refl
-by_reading text is (inr f) = inr (record { kind = f.0; at = place text f.1 }, inr (is, inl (f.1, f.2, refl)))
+by_reading text is (inr f) = inr (record { kind = f.0; at = place text f.1 }, inr (is, inl (inl (f.0, f.1, f.2, refl))))
 
 -- ---- one look
 
@@ -182,13 +186,15 @@ some_sight shows mode name fault before none ready = subst (λ f. SomeSight show
 
 formatted_again : (x y : List ℕ) → IsFormat x y → IsFormat y y
 formatted_again x y f =
-    let text : IsText y = subst IsText (sym f.printed) (loads_again x f.tokens f.text f.scanned (subst (λ l. length l ≤ max_source) f.printed f.fits)) in
+    let tokens = f.source.tokens in
+    let of = source_of x f.source f.accepted in
+    let text : IsText y = subst IsText (sym f.printed) (loads_again x tokens f.text of.scanned (subst (λ l. length l ≤ max_source) f.printed f.fits)) in
+    let again : Scans y (printed_tokens tokens) = subst (λ l. Scans l (printed_tokens tokens)) (sym f.printed) (scans_again x tokens of.scanned) in
     record {
       text = text;
-      tokens = printed_tokens f.tokens;
-      scanned = subst (λ l. Scans l (printed_tokens f.tokens)) (sym f.printed) (scans_again x f.tokens f.scanned);
-      accepted = ap refusal_of (seen_again f.tokens) ∙ f.accepted;
-      printed = f.printed ∙ sym (print_again f.tokens);
+      source = record { text = y; tokens = printed_tokens tokens };
+      accepted = accepted_as y (printed_tokens tokens) again (ap refusal_of (seen_again tokens) ∙ of.accepted);
+      printed = f.printed ∙ sym (print_again tokens);
       fits = f.fits;
     }
 

@@ -12,7 +12,7 @@ use Rattle.file_tree.specs.declared.fault.TreeFault.{TreeFault}
 use Rattle.file_tree.specs.declared.fault.TreeFault.TheVariants.{OutOfMemory}
 use Rattle.hcl_grammar.specs.Classes.{lookaheads}
 use Rattle.hcl_grammar.specs.Predictor.{refusal_of}
-use Rattle.hcl_grammar.specs.Verdict.{verdict, verdict_by}
+use Rattle.hcl_grammar.specs.Verdict.{IsTextVerdict, verdict, verdict_by}
 use Rattle.hcl_grammar.specs.declared.refusal.Refusal.{Refusal}
 use Rattle.hcl_source.specs.declared.fault.Fault.{Fault}
 use Rattle.hcl_tokens.specs.Scanned.{Scanned}
@@ -25,7 +25,7 @@ use Rattle.tf_rules.specs.Issues.{File, asked_of}
 use Rattle.tf_rules.specs.Kept.{Kept}
 use Rattle.tfrules_command.proofs.GatherLemmas.{fault_of_whole, next_number, numbered_more, outcome_of, reached_more, reached_none, tells_all}
 use Rattle.tf_rules.specs.declared.issue.Issue.{Issue}
-use Rattle.tfrules_command.specs.Files.{IsOutcome, NamedFile, max_module, numbered_files}
+use Rattle.tfrules_command.specs.Files.{NamedFile, max_module, numbered_files}
 use Rattle.tfrules_command.specs.Keeping.{Reached, ScansFile}
 use Rattle.tfrules_command.specs.declared.gather.ScannedFile.{ScannedFile}
 use Rattle.tfrules_command.specs.declared.stop.Stop.{Stop as FileStop}
@@ -68,7 +68,7 @@ verdict_is s t e = by (refusal_of (lookaheads t.tokens)) e
 pub keeps_file : (text : List ℕ) (size number : ℕ) (old new : Gathered) (file : ScannedFile) (answer : Result ℕ FileStop) → ScansFile text size (Ok file) → KeepsScanned file number old new answer → KeepsFile text size number old new answer
 keeps_file text size number old new file answer s = by answer
   where
-    outcome : (o : Result Scanned Fault) → o ≡ verdict file.tokens → IsOutcome text o
+    outcome : (o : Result Scanned Fault) → o ≡ verdict file.tokens → IsTextVerdict text o
     outcome o e = outcome_of text file.tokens o s.0 s.1 e
 
     by : (a : Result ℕ FileStop) → KeepsScanned file number old new a → KeepsFile text size number old new a
@@ -109,7 +109,7 @@ read_lost text size number old new = (file_stop.OutOfMemory, tt, refl)
 
 stops_by : (told : Option (List ℕ)) (text : List ℕ) (size : ℕ) (was is : Faults) (shows : Bool) (w : FileStop) (s : Stop) → is ≡ was → Tells told text → IsText text → ScansFile text size (Err w) → StopsWith shows text w s → StopsBy shows told size was is s
 stops_by told text size was is shows (file_stop.Refused fault) (stop.Refused same line) e tells t k h =
-    (e, (text, tells, inr (t, k.0, subst (λ (f : Fault). IsOutcome text (Err f)) (sym h.0) k.1, h.1 ∙ ap (λ (f : Fault). snippet_if shows text f.at) (sym h.0))))
+    (e, (text, tells, inr (t, k.0, subst (λ (f : Fault). IsTextVerdict text (Err f)) (sym h.0) k.1, h.1 ∙ ap (λ (f : Fault). snippet_if shows text f.at) (sym h.0))))
 stops_by told text size was is shows (file_stop.Refused fault) stop.TooLarge e tells t k h = absurd h
 stops_by told text size was is shows (file_stop.Refused fault) (stop.Failed why) e tells t k h = inr (h, e)
 stops_by told text size was is shows file_stop.TooLarge s e tells t k h = subst (StopsBy shows told size was is) (sym h) (e, (text, tells, (t, k)))

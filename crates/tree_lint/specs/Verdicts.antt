@@ -2,6 +2,7 @@
 -- are looked for; or it is refused, and why. Our own choice is
 -- which reason is told.
 use Rattle.std.specs.Prelude.{◌≡◌, ◌⊎◌, ◌||◌, ◌≤◌, ◌<◌, ◌+◌, ℕ, Bool, true, false, List, [], ◌∷◌, ◌++◌, Option, Some, Result, Ok, Err, codes, if◌then◌else◌, length, map, string_bytes}
+use Rattle.hcl_grammar.specs.Verdict.{IsTextVerdict}
 use Rattle.comment_faults.specs.CommentFaults.{CommentFault, comment_faults}
 use Rattle.file_tree.specs.FaultTexts.{tree_fault_text}
 use Rattle.file_tree.specs.Files.{Faults, Files, Name, Tells, with_fault}
@@ -17,7 +18,7 @@ use Rattle.tf_rules.specs.Answers.{AreIssues}
 use Rattle.tf_rules.specs.Issues.{File, asked_of}
 use Rattle.tf_rules.specs.declared.issue.Issue.{Issue}
 use Rattle.tfrules_command.specs.Answer.{names_of}
-use Rattle.tfrules_command.specs.Files.{AreAccepted, IsOutcome, IsTooMuch, NamedFile, max_module, numbered_files, size_of}
+use Rattle.tfrules_command.specs.Files.{AreAccepted, IsTooMuch, NamedFile, max_module, numbered_files, size_of}
 use Rattle.tfrules_command.specs.Line.{max_files}
 use Rattle.tfrules_command.specs.Rows.{AreFiles}
 use Rattle.tree_lint.specs.Refusals.{Refusal, refusal_of}
@@ -70,7 +71,7 @@ pub record HaveFound (told : Name → Option (List ℕ)) (terminals : Terminals)
 abbrev pub IsShownFault : Bool → ℕ → List ℕ → Fault → List ℕ → Type 0
 IsShownFault shows size bytes fault line =
     (IsLoadFault bytes fault × (line ≡ []))
-    ⊎ (IsText bytes × (size + length bytes ≤ max_module) × IsOutcome bytes (Err fault) × (line ≡ snippet_if shows bytes fault.at))
+    ⊎ (IsText bytes × (size + length bytes ≤ max_module) × IsTextVerdict bytes (Err fault) × (line ≡ snippet_if shows bytes fault.at))
 
 -- why a file isn't kept after others of so many bytes, where the device has had these faults before and after: it has a fault
 -- or is too much, or the one call that failed says why, or memory ran out

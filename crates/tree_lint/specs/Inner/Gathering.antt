@@ -1,5 +1,6 @@
 -- How far a run has come with the files of a module.
 use Rattle.std.specs.Prelude.{◌≡◌, ◌≤◌, ◌+◌, ◌++◌, ◌∷◌, [], ℕ, Bool, false, List, Option, Result, Ok, Err, if◌then◌else◌, length, map}
+use Rattle.hcl_grammar.specs.Verdict.{IsTextVerdict}
 use Rattle.comment_faults.specs.CommentFaults.{fault_told}
 use Rattle.file_tree.specs.Files.{Faults, Name, Tells}
 use Rattle.file_tree.specs.declared.fault.TreeFault.TheVariants.{OutOfMemory, ReadFailed}
@@ -10,7 +11,7 @@ use Rattle.hcl_tokens.specs.Scanned.{Scanned}
 use Rattle.source_snippet.specs.Snippets.{snippet_if}
 use Rattle.tf_rules.specs.Issues.{File}
 use Rattle.tf_rules.specs.Kept.{nothing, with_file}
-use Rattle.tfrules_command.specs.Files.{IsOutcome, max_module, numbered_files}
+use Rattle.tfrules_command.specs.Files.{max_module, numbered_files}
 use Rattle.tfrules_command.specs.Keeping.{Added, KeepsTokens, Reached, ScansFile}
 use Rattle.tfrules_command.specs.declared.gather.ScannedFile.{ScannedFile}
 use Rattle.tfrules_command.specs.declared.stop.Stop.{Stop as FileStop}
@@ -68,7 +69,7 @@ KeepsScanned file number old new (Err why) = KeepsTokens file.tokens number file
 -- what keeping a text after others of so many bytes answers
 abbrev pub KeepsFile : List ℕ → ℕ → ℕ → Gathered → Gathered → Result ℕ FileStop → Type 0
 KeepsFile text size number old new (Ok more) =
-    (source : Scanned) × IsOutcome text (Ok source) × (more ≡ size + length text) × (more ≤ max_module) × (new.facts ≡ with_file old.facts (record { number = number; source = source }))
+    (source : Scanned) × IsTextVerdict text (Ok source) × (more ≡ size + length text) × (more ≤ max_module) × (new.facts ≡ with_file old.facts (record { number = number; source = source }))
     × AddsComments (record { number = number; source = source }) old new
 KeepsFile text size number old new (Err why) = ScansFile text size (Err why)
 
@@ -86,7 +87,7 @@ pub record AddsFound (file : File) (text : List ℕ) (old new : Gathered) : Type
 -- what keeping a file answers that was read after others of so many bytes
 abbrev pub AddsRead : List ℕ → ℕ → ℕ → Gathered → Gathered → Result ℕ Stop → Type 0
 AddsRead text size number old new (Ok more) =
-    (source : Scanned) × IsOutcome text (Ok source) × (more ≡ size + length text) × (more ≤ max_module) × (new.facts ≡ with_file old.facts (record { number = number; source = source }))
+    (source : Scanned) × IsTextVerdict text (Ok source) × (more ≡ size + length text) × (more ≤ max_module) × (new.facts ≡ with_file old.facts (record { number = number; source = source }))
     × AddsFound (record { number = number; source = source }) text old new
 AddsRead text size number old new (Err why) = (by : FileStop) × ScansFile text size (Err by) × StopsWith old.terminals.err text by why
 

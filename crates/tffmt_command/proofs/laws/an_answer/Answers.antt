@@ -7,7 +7,9 @@ use Rattle.hcl_tokens.specs.Faults.{IsScanFault}
 use Rattle.hcl_tokens.specs.Lexemes.{Lexeme}
 use Rattle.hcl_source.specs.Load.{IsText}
 use Rattle.hcl_source.specs.Places.{place}
+use Rattle.hcl_tokens.specs.Scanned.{Scanned}
 use Rattle.hcl_tokens.specs.Scans.{Scans}
+use Rattle.hcl_source.specs.declared.fault.Fault.{Fault}
 use Rattle.hcl_source.specs.declared.fault.FaultKind.{FaultKind}
 use Rattle.hcl_grammar.specs.Verdict.{verdict}
 use Rattle.command_line.specs.Rows.{Row}
@@ -31,8 +33,12 @@ abbrev Outcome : List ℕ → Type 0
 Outcome text = ((ts : List Lexeme) × Scans text ts) ⊎ ((kind : FaultKind) × (at : ℕ) × IsScanFault text kind at)
 
 text_answer : (options : FmtOptions) (text : List ℕ) → Outcome text → (row : Row) × IsTextAnswer options text row
-text_answer options text (inl s) = (row_by options (verdict (record { text = text; tokens = s.0 })), inr (s.0, s.1, refl))
-text_answer options text (inr f) = (refusal_row (record { kind = f.0; at = place text f.1 }), inl (f.0, f.1, f.2, refl))
+text_answer options text (inl s) =
+    let v : Result Scanned Fault = verdict (record { text = text; tokens = s.0 }) in
+    (row_by options v, (v, inr (s.0, s.1, refl), refl))
+text_answer options text (inr f) =
+    let fault : Fault = record { kind = f.0; at = place text f.1 } in
+    (refusal_row fault, (Err fault, inl (f.0, f.1, f.2, refl), refl))
 
 answer_by : (r : Result FmtOptions Usage) (input : List ℕ) → (r ≡ Err usage.OutOfMemory → ⊥) → ((options : FmtOptions) → (row : Row) × IsFileAnswer options input row) → (row : Row) × IsAnswerBy r input row
 answer_by (Ok options) input p f = f options
