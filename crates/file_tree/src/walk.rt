@@ -3,6 +3,7 @@
 ghost use Rattle.std.specs.Prelude.{◌≡◌, ◌&&◌, not, ◌==◌, false, [], IfOk, List, OnOk, length, map};
 ghost use Rattle.file_tree.specs.Choices.{chosen, is_excluded};
 ghost use Rattle.file_tree.specs.Files.{Name, Tells};
+ghost use Rattle.file_tree.specs.Unchanged.{Unchanged};
 ghost use Rattle.file_tree.specs.Finds.{AreReal, Finds};
 ghost use Rattle.file_tree.specs.FolderFiles.{AreHeard, FindsIn};
 ghost use Rattle.file_tree.specs.Inner.Chosen.{told};
@@ -68,6 +69,23 @@ struct Search {
     /// What was found of the names themselves, and the folders that are still to be looked into.
     walk: Walk,
     looked: Vec<Looked>,
+}
+
+/// What stands in a folder under a name.
+#[derive(Drop)]
+struct Entry<'n> {
+    /// Its name in the folder.
+    name: &'n [u8],
+    path: Vec<u8>,
+}
+
+/// A name that was given.
+#[derive(Drop)]
+struct Operand<'p> {
+    /// As it was given.
+    path: &'p [u8],
+    /// As it is shown: without steps that lead nowhere.
+    tidied: Vec<u8>,
 }
 
 /// Whether an entry of this name is looked at, unless it is excluded.
@@ -160,9 +178,7 @@ impl Walk {
         path: Vec<u8>,
         tree: &mut T,
     ) -> Result<(), AllocError>
-        // Nothing is changed.
-        ensures files { T.files tree.new ≡ T.files tree.old }
-        ensures asked { T.asked tree.new ≡ T.asked tree.old }
+        ensures unchanged { Unchanged T.Tree tree.old tree.new }
         ensures takes { OnOk result (TakesLink is_taken specials (T.files tree.old) path.items
             (reached self.old) (reached self.new)) }
         ensures hears { OnOk result (Hears (reached self.old).found (reached self.new).found
@@ -184,18 +200,16 @@ impl Walk {
         alloc: Global,
         specials: bool,
         kind: Kind,
-        name: &[u8],
-        path: Vec<u8>,
+        met: Entry<'_>,
         tree: &mut T,
     ) -> Result<(), AllocError>
-        // Nothing is changed.
-        ensures files { T.files tree.new ≡ T.files tree.old }
-        ensures asked { T.asked tree.new ≡ T.asked tree.old }
-        ensures takes { OnOk result (TakesKind specials kind (T.files tree.old) path.items name.now
-            (reached self.old) (reached self.new)) }
+        ensures unchanged { Unchanged T.Tree tree.old tree.new }
+        ensures takes { OnOk result (TakesKind specials kind (T.files tree.old)
+            met.entry.path.items met.entry.name.now (reached self.old) (reached self.new)) }
         ensures hears { OnOk result (Hears (reached self.old).found (reached self.new).found
             (T.faults tree.old) (T.faults tree.new)) }
     {
+        let Entry { name, path } = met;
         match kind {
             Kind::Folder => {
                 let folder = joined(alloc, path.as_slice(), b"/")?;
@@ -213,21 +227,18 @@ impl Walk {
         &mut self,
         alloc: Global,
         specials: bool,
-        name: &[u8],
-        path: Vec<u8>,
+        met: Entry<'_>,
         tree: &mut T,
     ) -> Result<(), AllocError>
-        // Nothing is changed.
-        ensures files { T.files tree.new ≡ T.files tree.old }
-        ensures asked { T.asked tree.new ≡ T.asked tree.old }
-        ensures takes { OnOk result (TakesMet specials (T.files tree.old) path.items name.now
-            (reached self.old) (reached self.new)) }
+        ensures unchanged { Unchanged T.Tree tree.old tree.new }
+        ensures takes { OnOk result (TakesMet specials (T.files tree.old) met.entry.path.items
+            met.entry.name.now (reached self.old) (reached self.new)) }
         ensures hears { OnOk result (Hears (reached self.old).found (reached self.new).found
             (T.faults tree.old) (T.faults tree.new)) }
     {
-        match tree.entry_kind(path.as_slice()) {
-            Ok(kind) => self.take_kind(alloc, specials, kind, name, path, tree),
-            Err(fault) => self.add(path, Some(fault), None),
+        match tree.entry_kind(met.path.as_slice()) {
+            Ok(kind) => self.take_kind(alloc, specials, kind, met, tree),
+            Err(fault) => self.add(met.path, Some(fault), None),
         }
     }
 
@@ -241,9 +252,7 @@ impl Walk {
         name: &[u8],
         tree: &mut T,
     ) -> Result<(), AllocError>
-        // Nothing is changed.
-        ensures files { T.files tree.new ≡ T.files tree.old }
-        ensures asked { T.asked tree.new ≡ T.asked tree.old }
+        ensures unchanged { Unchanged T.Tree tree.old tree.new }
         ensures takes { OnOk result (TakesEntry (T.files tree.old) (told chooser.now) folder.now
             name.now (reached self.old) (reached self.new)) }
         ensures hears { OnOk result (Hears (reached self.old).found (reached self.new).found
@@ -256,7 +265,7 @@ impl Walk {
         if chooser.is_excluded(path.as_slice()) {
             return Ok(());
         }
-        self.take_met(alloc, chooser.takes_specials(), name, path, tree)
+        self.take_met(alloc, chooser.takes_specials(), Entry { name, path }, tree)
     }
 
     /// Looks at what stands in a folder under these names.
@@ -268,9 +277,7 @@ impl Walk {
         names: &[&[u8]],
         tree: &mut T,
     ) -> Result<(), AllocError>
-        // Nothing is changed.
-        ensures files { T.files tree.new ≡ T.files tree.old }
-        ensures asked { T.asked tree.new ≡ T.asked tree.old }
+        ensures unchanged { Unchanged T.Tree tree.old tree.new }
         ensures takes { OnOk result (TakesAll (T.files tree.old) (told chooser.now) folder.now
             (map (λ name. name.now) names.now) (reached self.old) (reached self.new)) }
         ensures hears { OnOk result (Hears (reached self.old).found (reached self.new).found
@@ -291,9 +298,7 @@ impl Walk {
         folder: &[u8],
         tree: &mut T,
     ) -> Result<(), AllocError>
-        // Nothing is changed.
-        ensures files { T.files tree.new ≡ T.files tree.old }
-        ensures asked { T.asked tree.new ≡ T.asked tree.old }
+        ensures unchanged { Unchanged T.Tree tree.old tree.new }
         ensures takes { OnOk result (TakesFolder (T.files tree.old) (told chooser.now) folder.now
             (reached self.old) (reached self.new)) }
         ensures hears { OnOk result (Hears (reached self.old).found (reached self.new).found
@@ -318,26 +323,24 @@ impl Walk {
         &mut self,
         alloc: Global,
         identity: Identity,
-        path: &[u8],
-        name: Vec<u8>,
+        operand: Operand<'_>,
         tree: &mut T,
     ) -> Result<(), AllocError>
-        requires tidied { name.items ≡ tidied path.now }
-        // Nothing is changed.
-        ensures files { T.files tree.new ≡ T.files tree.old }
-        ensures asked { T.asked tree.new ≡ T.asked tree.old }
-        ensures takes { OnOk result (TakesNamedFile (T.files tree.old) identity path.now
-            (reached self.old) (reached self.new)) }
+        requires tidied { operand.tidied.items ≡ tidied operand.path.now }
+        ensures unchanged { Unchanged T.Tree tree.old tree.new }
+        ensures takes { OnOk result (TakesNamedFile (T.files tree.old) identity
+            operand.entry.path.now (reached self.old) (reached self.new)) }
         ensures hears { OnOk result (Hears (reached self.old).found (reached self.new).found
             (T.faults tree.old) (T.faults tree.new)) }
     {
-        match tree.entry_kind(name.as_slice()) {
+        match tree.entry_kind(operand.tidied.as_slice()) {
             Ok(entry) => {
                 let is_link = entry.is_link();
-                self.add(name, None, Some(FoundFile { identity, is_link }))
+                let file = FoundFile { identity, is_link };
+                self.add(operand.tidied, None, Some(file))
             }
             Err(fault) => {
-                let name = reported(alloc, path)?;
+                let name = reported(alloc, operand.path)?;
                 self.add(name, Some(fault), None)
             }
         }
@@ -348,22 +351,19 @@ impl Walk {
         &mut self,
         alloc: Global,
         kind: Kind,
-        path: &[u8],
-        name: Vec<u8>,
+        operand: Operand<'_>,
         tree: &mut T,
     ) -> Result<(), AllocError>
-        requires tidied { name.items ≡ tidied path.now }
-        // Nothing is changed.
-        ensures files { T.files tree.new ≡ T.files tree.old }
-        ensures asked { T.asked tree.new ≡ T.asked tree.old }
-        ensures takes { OnOk result (TakesWanted kind (T.files tree.old) path.now
+        requires tidied { operand.tidied.items ≡ tidied operand.path.now }
+        ensures unchanged { Unchanged T.Tree tree.old tree.new }
+        ensures takes { OnOk result (TakesWanted kind (T.files tree.old) operand.entry.path.now
             (reached self.old) (reached self.new)) }
         ensures hears { OnOk result (Hears (reached self.old).found (reached self.new).found
             (T.faults tree.old) (T.faults tree.new)) }
     {
         match kind {
-            Kind::File(identity) => self.take_named_file(alloc, identity, path, name, tree),
-            _ => self.add(name, None, None),
+            Kind::File(identity) => self.take_named_file(alloc, identity, operand, tree),
+            _ => self.add(operand.tidied, None, None),
         }
     }
 
@@ -373,30 +373,27 @@ impl Walk {
         alloc: Global,
         chooser: &Chooser<'_>,
         kind: Kind,
-        path: &[u8],
-        name: Vec<u8>,
+        operand: Operand<'_>,
         tree: &mut T,
     ) -> Result<(), AllocError>
-        requires tidied { name.items ≡ tidied path.now }
-        requires allowed { is_excluded (told chooser.now) (tidied path.now) ≡ false }
-        requires told { Tells ((T.files tree.old).kind path.now) kind }
-        // Nothing is changed.
-        ensures files { T.files tree.new ≡ T.files tree.old }
-        ensures asked { T.asked tree.new ≡ T.asked tree.old }
+        requires tidied { operand.tidied.items ≡ tidied operand.path.now }
+        requires allowed { is_excluded (told chooser.now) (tidied operand.path.now) ≡ false }
+        requires told { Tells ((T.files tree.old).kind operand.path.now) kind }
+        ensures unchanged { Unchanged T.Tree tree.old tree.new }
         ensures takes { OnOk result (TakesKindGiven (T.files tree.old) (told chooser.now) kind
-            path.now (reached self.old) (reached self.new)) }
-        ensures hears { OnOk result (HearsGiven (T.files tree.old) (told chooser.now) path.now
-            (reached self.old).found (reached self.new).found
+            operand.entry.path.now (reached self.old) (reached self.new)) }
+        ensures hears { OnOk result (HearsGiven (T.files tree.old) (told chooser.now)
+            operand.entry.path.now (reached self.old).found (reached self.new).found
             (T.faults tree.old) (T.faults tree.new)) }
     {
         if kind == Kind::Folder {
-            let folder = top(alloc, path)?;
+            let folder = top(alloc, operand.path)?;
             return self.add_folder(folder);
         }
-        if !chooser.is_wanted(name.as_slice()) {
-            return self.add(name, Some(TreeFault::OtherKind), None);
+        if !chooser.is_wanted(operand.tidied.as_slice()) {
+            return self.add(operand.tidied, Some(TreeFault::OtherKind), None);
         }
-        self.take_wanted(alloc, kind, path, name, tree)
+        self.take_wanted(alloc, kind, operand, tree)
     }
 
     /// Takes a name that was given and isn't excluded.
@@ -405,25 +402,22 @@ impl Walk {
         &mut self,
         alloc: Global,
         chooser: &Chooser<'_>,
-        path: &[u8],
-        name: Vec<u8>,
+        operand: Operand<'_>,
         tree: &mut T,
     ) -> Result<(), AllocError>
-        requires tidied { name.items ≡ tidied path.now }
-        requires allowed { is_excluded (told chooser.now) (tidied path.now) ≡ false }
-        // Nothing is changed.
-        ensures files { T.files tree.new ≡ T.files tree.old }
-        ensures asked { T.asked tree.new ≡ T.asked tree.old }
-        ensures takes { OnOk result (TakesAsked (T.files tree.old) (told chooser.now) path.now
-            (reached self.old) (reached self.new)) }
-        ensures hears { OnOk result (HearsGiven (T.files tree.old) (told chooser.now) path.now
-            (reached self.old).found (reached self.new).found
+        requires tidied { operand.tidied.items ≡ tidied operand.path.now }
+        requires allowed { is_excluded (told chooser.now) (tidied operand.path.now) ≡ false }
+        ensures unchanged { Unchanged T.Tree tree.old tree.new }
+        ensures takes { OnOk result (TakesAsked (T.files tree.old) (told chooser.now)
+            operand.entry.path.now (reached self.old) (reached self.new)) }
+        ensures hears { OnOk result (HearsGiven (T.files tree.old) (told chooser.now)
+            operand.entry.path.now (reached self.old).found (reached self.new).found
             (T.faults tree.old) (T.faults tree.new)) }
     {
-        match tree.kind(path) {
-            Ok(kind) => self.take_kind_given(alloc, chooser, kind, path, name, tree),
+        match tree.kind(operand.path) {
+            Ok(kind) => self.take_kind_given(alloc, chooser, kind, operand, tree),
             Err(fault) => {
-                let name = reported(alloc, path)?;
+                let name = reported(alloc, operand.path)?;
                 self.add(name, Some(fault), None)
             }
         }
@@ -438,20 +432,18 @@ impl Walk {
         path: &[u8],
         tree: &mut T,
     ) -> Result<(), AllocError>
-        // Nothing is changed.
-        ensures files { T.files tree.new ≡ T.files tree.old }
-        ensures asked { T.asked tree.new ≡ T.asked tree.old }
+        ensures unchanged { Unchanged T.Tree tree.old tree.new }
         ensures takes { OnOk result (TakesGiven (T.files tree.old) (told chooser.now) path.now
             (reached self.old) (reached self.new)) }
         ensures hears { OnOk result (HearsGiven (T.files tree.old) (told chooser.now) path.now
             (reached self.old).found (reached self.new).found
             (T.faults tree.old) (T.faults tree.new)) }
     {
-        let name = tidy(alloc, path)?;
-        if chooser.is_excluded(name.as_slice()) {
+        let tidied = tidy(alloc, path)?;
+        if chooser.is_excluded(tidied.as_slice()) {
             return Ok(());
         }
-        self.take_asked(alloc, chooser, path, name, tree)
+        self.take_asked(alloc, chooser, Operand { path, tidied }, tree)
     }
 
     /// A walk that has taken the names that were given.
@@ -461,9 +453,7 @@ impl Walk {
         paths: &[&[u8]],
         tree: &mut T,
     ) -> Result<Walk, AllocError>
-        // Nothing is changed.
-        ensures files { T.files tree.new ≡ T.files tree.old }
-        ensures asked { T.asked tree.new ≡ T.asked tree.old }
+        ensures unchanged { Unchanged T.Tree tree.old tree.new }
         ensures walked { IfOk result (λ walk. Walked (T.files tree.old) (told chooser.now)
             (map (λ path. path.now) paths.now) (reached walk)) }
         ensures real { IfOk result (λ walk. AreReal (T.files tree.old) (told chooser.now)
@@ -487,9 +477,7 @@ impl Walk {
         chooser: &Chooser<'_>,
         tree: &mut T,
     ) -> Result<(), AllocError>
-        // Nothing is changed.
-        ensures files { T.files tree.new ≡ T.files tree.old }
-        ensures asked { T.asked tree.new ≡ T.asked tree.old }
+        ensures unchanged { Unchanged T.Tree tree.old tree.new }
         ensures walked { OnOk result ((paths : List Name)
             → Walked (T.files tree.old) (told chooser.now) paths (reached self.old)
             → Walked (T.files tree.old) (told chooser.now) paths
@@ -535,9 +523,7 @@ impl Search {
         folder: Vec<u8>,
         tree: &mut T,
     ) -> Result<(), AllocError>
-        // Nothing is changed.
-        ensures files { T.files tree.new ≡ T.files tree.old }
-        ensures asked { T.asked tree.new ≡ T.asked tree.old }
+        ensures unchanged { Unchanged T.Tree tree.old tree.new }
         ensures looks { OnOk result (LooksInto (T.files tree.old) (told chooser.now) folder.items
             (T.faults tree.old) (T.faults tree.new) self.old self.new) }
     {
@@ -556,9 +542,7 @@ impl Search {
         chooser: &Chooser<'_>,
         tree: &mut T,
     ) -> Result<(), AllocError>
-        // Nothing is changed.
-        ensures files { T.files tree.new ≡ T.files tree.old }
-        ensures asked { T.asked tree.new ≡ T.asked tree.old }
+        ensures unchanged { Unchanged T.Tree tree.old tree.new }
         ensures searches { OnOk result (Searches (T.files tree.old) (told chooser.now)
             (T.faults tree.old) (T.faults tree.new) self.old self.new) }
         ensures none { OnOk result (self.new.walk.folders.items ≡ []) }
@@ -579,9 +563,7 @@ impl Search {
         operands: &[&[u8]],
         tree: &mut T,
     ) -> Result<Search, AllocError>
-        // Nothing is changed.
-        ensures files { T.files tree.new ≡ T.files tree.old }
-        ensures asked { T.asked tree.new ≡ T.asked tree.old }
+        ensures unchanged { Unchanged T.Tree tree.old tree.new }
         ensures sees { IfOk result (λ search. SeesAll (T.files tree.old) (told chooser.now)
             (map (λ operand. operand.now) operands.now) (T.faults tree.old) (T.faults tree.new)
             search) }
@@ -613,9 +595,7 @@ pub fn find<T: Tree>(
     operands: &[&[u8]],
     tree: &mut T,
 ) -> Result<Vec<Found>, AllocError>
-    // Nothing is changed, nor asked to be.
-    ensures files { T.files tree.new ≡ T.files tree.old }
-    ensures asked { T.asked tree.new ≡ T.asked tree.old }
+    ensures unchanged { Unchanged T.Tree tree.old tree.new }
     // All files that the names stand for and that aren't excluded, and nothing else.
     ensures finds { IfOk result (λ found. Finds (T.files tree.old) (chosen choice.entry)
         (map (λ operand. operand.now) operands.now) found.items) }
@@ -648,9 +628,7 @@ fn ordered(alloc: Global, looked: Vec<Looked>) -> Result<Vec<Looked>, AllocError
 /// What these names stand for, whatever they are called: what was found of the names themselves, and in each folder that was
 /// looked into. Nothing is excluded.
 pub fn look<T: Tree>(alloc: Global, operands: &[&[u8]], tree: &mut T) -> Result<Seen, AllocError>
-    // Nothing is changed, nor asked to be.
-    ensures files { T.files tree.new ≡ T.files tree.old }
-    ensures asked { T.asked tree.new ≡ T.asked tree.old }
+    ensures unchanged { Unchanged T.Tree tree.old tree.new }
     // All that the names stand for, and all that stands in the folders.
     ensures sees { IfOk result (λ seen. Sees (T.files tree.old)
         (map (λ operand. operand.now) operands.now) (T.faults tree.old) (T.faults tree.new)
@@ -675,9 +653,7 @@ pub fn find_in<T: Tree>(
     folder: &[u8],
     tree: &mut T,
 ) -> Result<Vec<Found>, AllocError>
-    // Nothing is changed, nor asked to be.
-    ensures files { T.files tree.new ≡ T.files tree.old }
-    ensures asked { T.asked tree.new ≡ T.asked tree.old }
+    ensures unchanged { Unchanged T.Tree tree.old tree.new }
     ensures finds { IfOk result (λ found. FindsIn (T.files tree.old) folder.now found.items) }
     // Where the device tells the faults of its calls, none is reported but where a call failed.
     ensures real { IfOk result (λ found. AreHeard (T.faults tree.old) (T.faults tree.new)
