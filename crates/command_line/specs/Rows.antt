@@ -7,6 +7,7 @@ use Rattle.hcl_source.specs.FaultTexts.{fault_text}
 use Rattle.hcl_source.specs.declared.device.ByteSink.{Ghosts}
 use Rattle.hcl_source.specs.declared.device.Flushes.{Flushes}
 use Rattle.hcl_source.specs.declared.fault.Fault.{Fault}
+use Rattle.command_line.specs.declared.streams.Streams.{Streams}
 
 -- what tells a program from the other
 pub record Program : Type 0 where
@@ -86,6 +87,10 @@ pub record End : Type 0 where
 
 abbrev pub end_of : {O E : Type 0} → Ghosts O → O → O → Ghosts E → E → E → ℕ → End
 end_of out out_old out_new err err_old err_new status = record { out = writer out out_old out_new; err = writer err err_old err_new; status = status }
+
+-- the same of both streams of a run
+abbrev pub end_of_streams : {O E : Type 0} → Ghosts O → Ghosts E → Streams O E → Streams O E → ℕ → End
+end_of_streams out err old new status = end_of out old.out new.out err old.err new.err status
 
 -- a writer took the text, or where it failed a part of it from its front
 abbrev pub TookBy : Bool → Option (List ℕ) → Option (List ℕ) → List ℕ → Type 0

@@ -42,7 +42,7 @@ impl Program {
     }
 
     /// The same of a message that may have names in it.
-    pub fn tell_bytes<O: ByteSink, E: ByteSink>(
+    pub(crate) fn tell_bytes<O: ByteSink, E: ByteSink>(
         &self,
         out: &mut O,
         err: &mut E,

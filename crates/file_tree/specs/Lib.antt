@@ -14,3 +14,4 @@ pub mod Ordered
 pub mod Paths
 pub mod Quotes
 pub mod Seen
+pub mod Unchanged

@@ -3,6 +3,7 @@
 ghost use Rattle.std.specs.Prelude.{◌≡◌, ◌&&◌, not, ◌==◌, false, [], IfOk, List, OnOk, length, map};
 ghost use Rattle.file_tree.specs.Choices.{chosen, is_excluded};
 ghost use Rattle.file_tree.specs.Files.{Name, Tells};
+ghost use Rattle.file_tree.specs.Unchanged.{Unchanged};
 ghost use Rattle.file_tree.specs.Finds.{AreReal, Finds};
 ghost use Rattle.file_tree.specs.FolderFiles.{AreHeard, FindsIn};
 ghost use Rattle.file_tree.specs.Inner.Chosen.{told};
@@ -67,6 +68,23 @@ struct Search {
     /// The entries found for the names themselves, and the folders still to be listed.
     walk: Walk,
     looked: Vec<Looked>,
+}
+
+/// What stands in a folder under a name.
+#[derive(Drop)]
+struct Entry<'n> {
+    /// Its name in the folder.
+    name: &'n [u8],
+    path: Vec<u8>,
+}
+
+/// A name that was given.
+#[derive(Drop)]
+struct Operand<'p> {
+    /// As it was given.
+    path: &'p [u8],
+    /// As it is shown: without steps that lead nowhere.
+    tidied: Vec<u8>,
 }
 
 /// Whether an entry of this name is looked at, unless it is excluded.
@@ -159,9 +177,7 @@ impl Walk {
         path: Vec<u8>,
         tree: &mut T,
     ) -> Result<(), AllocError>
-        // Nothing is changed.
-        ensures files { T.files tree.new ≡ T.files tree.old }
-        ensures asked { T.asked tree.new ≡ T.asked tree.old }
+        ensures unchanged { Unchanged T.Tree tree.old tree.new }
         ensures takes { OnOk result (TakesLink is_taken specials (T.files tree.old) path.items
             (reached self.old) (reached self.new)) }
         ensures hears { OnOk result (Hears (reached self.old).found (reached self.new).found
@@ -183,18 +199,16 @@ impl Walk {
         alloc: Global,
         specials: bool,
         kind: Kind,
-        name: &[u8],
-        path: Vec<u8>,
+        met: Entry<'_>,
         tree: &mut T,
     ) -> Result<(), AllocError>
-        // Nothing is changed.
-        ensures files { T.files tree.new ≡ T.files tree.old }
-        ensures asked { T.asked tree.new ≡ T.asked tree.old }
-        ensures takes { OnOk result (TakesKind specials kind (T.files tree.old) path.items name.now
-            (reached self.old) (reached self.new)) }
+        ensures unchanged { Unchanged T.Tree tree.old tree.new }
+        ensures takes { OnOk result (TakesKind specials kind (T.files tree.old)
+            met.entry.path.items met.entry.name.now (reached self.old) (reached self.new)) }
         ensures hears { OnOk result (Hears (reached self.old).found (reached self.new).found
             (T.faults tree.old) (T.faults tree.new)) }
     {
+        let Entry { name, path } = met;
         match kind {
             Kind::Folder => {
                 let folder = joined(alloc, path.as_slice(), b"/")?;
@@ -212,21 +226,18 @@ impl Walk {
         &mut self,
         alloc: Global,
         specials: bool,
-        name: &[u8],
-        path: Vec<u8>,
+        met: Entry<'_>,
         tree: &mut T,
     ) -> Result<(), AllocError>
-        // Nothing is changed.
-        ensures files { T.files tree.new ≡ T.files tree.old }
-        ensures asked { T.asked tree.new ≡ T.asked tree.old }
-        ensures takes { OnOk result (TakesMet specials (T.files tree.old) path.items name.now
-            (reached self.old) (reached self.new)) }
+        ensures unchanged { Unchanged T.Tree tree.old tree.new }
+        ensures takes { OnOk result (TakesMet specials (T.files tree.old) met.entry.path.items
+            met.entry.name.now (reached self.old) (reached self.new)) }
         ensures hears { OnOk result (Hears (reached self.old).found (reached self.new).found
             (T.faults tree.old) (T.faults tree.new)) }
     {
-        match tree.entry_kind(path.as_slice()) {
-            Ok(kind) => self.take_kind(alloc, specials, kind, name, path, tree),
-            Err(fault) => self.add(path, Some(fault), None),
+        match tree.entry_kind(met.path.as_slice()) {
+            Ok(kind) => self.take_kind(alloc, specials, kind, met, tree),
+            Err(fault) => self.add(met.path, Some(fault), None),
         }
     }
 
@@ -240,9 +251,7 @@ impl Walk {
         name: &[u8],
         tree: &mut T,
     ) -> Result<(), AllocError>
-        // Nothing is changed.
-        ensures files { T.files tree.new ≡ T.files tree.old }
-        ensures asked { T.asked tree.new ≡ T.asked tree.old }
+        ensures unchanged { Unchanged T.Tree tree.old tree.new }
         ensures takes { OnOk result (TakesEntry (T.files tree.old) (told chooser.now) folder.now
             name.now (reached self.old) (reached self.new)) }
         ensures hears { OnOk result (Hears (reached self.old).found (reached self.new).found
@@ -255,7 +264,7 @@ impl Walk {
         if chooser.is_excluded(path.as_slice()) {
             return Ok(());
         }
-        self.take_met(alloc, chooser.takes_specials(), name, path, tree)
+        self.take_met(alloc, chooser.takes_specials(), Entry { name, path }, tree)
     }
 
     /// Looks at the entries of a folder under these names.
@@ -267,9 +276,7 @@ impl Walk {
         names: &[&[u8]],
         tree: &mut T,
     ) -> Result<(), AllocError>
-        // Nothing is changed.
-        ensures files { T.files tree.new ≡ T.files tree.old }
-        ensures asked { T.asked tree.new ≡ T.asked tree.old }
+        ensures unchanged { Unchanged T.Tree tree.old tree.new }
         ensures takes { OnOk result (TakesAll (T.files tree.old) (told chooser.now) folder.now
             (map (λ name. name.now) names.now) (reached self.old) (reached self.new)) }
         ensures hears { OnOk result (Hears (reached self.old).found (reached self.new).found
@@ -290,9 +297,7 @@ impl Walk {
         folder: &[u8],
         tree: &mut T,
     ) -> Result<(), AllocError>
-        // Nothing is changed.
-        ensures files { T.files tree.new ≡ T.files tree.old }
-        ensures asked { T.asked tree.new ≡ T.asked tree.old }
+        ensures unchanged { Unchanged T.Tree tree.old tree.new }
         ensures takes { OnOk result (TakesFolder (T.files tree.old) (told chooser.now) folder.now
             (reached self.old) (reached self.new)) }
         ensures hears { OnOk result (Hears (reached self.old).found (reached self.new).found
@@ -317,26 +322,24 @@ impl Walk {
         &mut self,
         alloc: Global,
         identity: Identity,
-        path: &[u8],
-        name: Vec<u8>,
+        operand: Operand<'_>,
         tree: &mut T,
     ) -> Result<(), AllocError>
-        requires tidied { name.items ≡ tidied path.now }
-        // Nothing is changed.
-        ensures files { T.files tree.new ≡ T.files tree.old }
-        ensures asked { T.asked tree.new ≡ T.asked tree.old }
-        ensures takes { OnOk result (TakesNamedFile (T.files tree.old) identity path.now
-            (reached self.old) (reached self.new)) }
+        requires tidied { operand.tidied.items ≡ tidied operand.path.now }
+        ensures unchanged { Unchanged T.Tree tree.old tree.new }
+        ensures takes { OnOk result (TakesNamedFile (T.files tree.old) identity
+            operand.entry.path.now (reached self.old) (reached self.new)) }
         ensures hears { OnOk result (Hears (reached self.old).found (reached self.new).found
             (T.faults tree.old) (T.faults tree.new)) }
     {
-        match tree.entry_kind(name.as_slice()) {
+        match tree.entry_kind(operand.tidied.as_slice()) {
             Ok(entry) => {
                 let is_link = entry.is_link();
-                self.add(name, None, Some(FoundFile { identity, is_link }))
+                let file = FoundFile { identity, is_link };
+                self.add(operand.tidied, None, Some(file))
             }
             Err(fault) => {
-                let name = reported(alloc, path)?;
+                let name = reported(alloc, operand.path)?;
                 self.add(name, Some(fault), None)
             }
         }
@@ -347,22 +350,19 @@ impl Walk {
         &mut self,
         alloc: Global,
         kind: Kind,
-        path: &[u8],
-        name: Vec<u8>,
+        operand: Operand<'_>,
         tree: &mut T,
     ) -> Result<(), AllocError>
-        requires tidied { name.items ≡ tidied path.now }
-        // Nothing is changed.
-        ensures files { T.files tree.new ≡ T.files tree.old }
-        ensures asked { T.asked tree.new ≡ T.asked tree.old }
-        ensures takes { OnOk result (TakesWanted kind (T.files tree.old) path.now
+        requires tidied { operand.tidied.items ≡ tidied operand.path.now }
+        ensures unchanged { Unchanged T.Tree tree.old tree.new }
+        ensures takes { OnOk result (TakesWanted kind (T.files tree.old) operand.entry.path.now
             (reached self.old) (reached self.new)) }
         ensures hears { OnOk result (Hears (reached self.old).found (reached self.new).found
             (T.faults tree.old) (T.faults tree.new)) }
     {
         match kind {
-            Kind::File(identity) => self.take_named_file(alloc, identity, path, name, tree),
-            _ => self.add(name, None, None),
+            Kind::File(identity) => self.take_named_file(alloc, identity, operand, tree),
+            _ => self.add(operand.tidied, None, None),
         }
     }
 
@@ -372,30 +372,27 @@ impl Walk {
         alloc: Global,
         chooser: &Chooser<'_>,
         kind: Kind,
-        path: &[u8],
-        name: Vec<u8>,
+        operand: Operand<'_>,
         tree: &mut T,
     ) -> Result<(), AllocError>
-        requires tidied { name.items ≡ tidied path.now }
-        requires allowed { is_excluded (told chooser.now) (tidied path.now) ≡ false }
-        requires told { Tells ((T.files tree.old).kind path.now) kind }
-        // Nothing is changed.
-        ensures files { T.files tree.new ≡ T.files tree.old }
-        ensures asked { T.asked tree.new ≡ T.asked tree.old }
+        requires tidied { operand.tidied.items ≡ tidied operand.path.now }
+        requires allowed { is_excluded (told chooser.now) (tidied operand.path.now) ≡ false }
+        requires told { Tells ((T.files tree.old).kind operand.path.now) kind }
+        ensures unchanged { Unchanged T.Tree tree.old tree.new }
         ensures takes { OnOk result (TakesKindGiven (T.files tree.old) (told chooser.now) kind
-            path.now (reached self.old) (reached self.new)) }
-        ensures hears { OnOk result (HearsGiven (T.files tree.old) (told chooser.now) path.now
-            (reached self.old).found (reached self.new).found
+            operand.entry.path.now (reached self.old) (reached self.new)) }
+        ensures hears { OnOk result (HearsGiven (T.files tree.old) (told chooser.now)
+            operand.entry.path.now (reached self.old).found (reached self.new).found
             (T.faults tree.old) (T.faults tree.new)) }
     {
         if kind == Kind::Folder {
-            let folder = top(alloc, path)?;
+            let folder = top(alloc, operand.path)?;
             return self.add_folder(folder);
         }
-        if !chooser.is_wanted(name.as_slice()) {
-            return self.add(name, Some(TreeFault::OtherKind), None);
+        if !chooser.is_wanted(operand.tidied.as_slice()) {
+            return self.add(operand.tidied, Some(TreeFault::OtherKind), None);
         }
-        self.take_wanted(alloc, kind, path, name, tree)
+        self.take_wanted(alloc, kind, operand, tree)
     }
 
     /// Takes a given name that isn't excluded.
@@ -404,25 +401,22 @@ impl Walk {
         &mut self,
         alloc: Global,
         chooser: &Chooser<'_>,
-        path: &[u8],
-        name: Vec<u8>,
+        operand: Operand<'_>,
         tree: &mut T,
     ) -> Result<(), AllocError>
-        requires tidied { name.items ≡ tidied path.now }
-        requires allowed { is_excluded (told chooser.now) (tidied path.now) ≡ false }
-        // Nothing is changed.
-        ensures files { T.files tree.new ≡ T.files tree.old }
-        ensures asked { T.asked tree.new ≡ T.asked tree.old }
-        ensures takes { OnOk result (TakesAsked (T.files tree.old) (told chooser.now) path.now
-            (reached self.old) (reached self.new)) }
-        ensures hears { OnOk result (HearsGiven (T.files tree.old) (told chooser.now) path.now
-            (reached self.old).found (reached self.new).found
+        requires tidied { operand.tidied.items ≡ tidied operand.path.now }
+        requires allowed { is_excluded (told chooser.now) (tidied operand.path.now) ≡ false }
+        ensures unchanged { Unchanged T.Tree tree.old tree.new }
+        ensures takes { OnOk result (TakesAsked (T.files tree.old) (told chooser.now)
+            operand.entry.path.now (reached self.old) (reached self.new)) }
+        ensures hears { OnOk result (HearsGiven (T.files tree.old) (told chooser.now)
+            operand.entry.path.now (reached self.old).found (reached self.new).found
             (T.faults tree.old) (T.faults tree.new)) }
     {
-        match tree.kind(path) {
-            Ok(kind) => self.take_kind_given(alloc, chooser, kind, path, name, tree),
+        match tree.kind(operand.path) {
+            Ok(kind) => self.take_kind_given(alloc, chooser, kind, operand, tree),
             Err(fault) => {
-                let name = reported(alloc, path)?;
+                let name = reported(alloc, operand.path)?;
                 self.add(name, Some(fault), None)
             }
         }
@@ -437,20 +431,18 @@ impl Walk {
         path: &[u8],
         tree: &mut T,
     ) -> Result<(), AllocError>
-        // Nothing is changed.
-        ensures files { T.files tree.new ≡ T.files tree.old }
-        ensures asked { T.asked tree.new ≡ T.asked tree.old }
+        ensures unchanged { Unchanged T.Tree tree.old tree.new }
         ensures takes { OnOk result (TakesGiven (T.files tree.old) (told chooser.now) path.now
             (reached self.old) (reached self.new)) }
         ensures hears { OnOk result (HearsGiven (T.files tree.old) (told chooser.now) path.now
             (reached self.old).found (reached self.new).found
             (T.faults tree.old) (T.faults tree.new)) }
     {
-        let name = tidy(alloc, path)?;
-        if chooser.is_excluded(name.as_slice()) {
+        let tidied = tidy(alloc, path)?;
+        if chooser.is_excluded(tidied.as_slice()) {
             return Ok(());
         }
-        self.take_asked(alloc, chooser, path, name, tree)
+        self.take_asked(alloc, chooser, Operand { path, tidied }, tree)
     }
 
     /// A walk that has taken the given names.
@@ -460,9 +452,7 @@ impl Walk {
         paths: &[&[u8]],
         tree: &mut T,
     ) -> Result<Walk, AllocError>
-        // Nothing is changed.
-        ensures files { T.files tree.new ≡ T.files tree.old }
-        ensures asked { T.asked tree.new ≡ T.asked tree.old }
+        ensures unchanged { Unchanged T.Tree tree.old tree.new }
         ensures walked { IfOk result (λ walk. Walked (T.files tree.old) (told chooser.now)
             (map (λ path. path.now) paths.now) (reached walk)) }
         ensures real { IfOk result (λ walk. AreReal (T.files tree.old) (told chooser.now)
@@ -486,9 +476,7 @@ impl Walk {
         chooser: &Chooser<'_>,
         tree: &mut T,
     ) -> Result<(), AllocError>
-        // Nothing is changed.
-        ensures files { T.files tree.new ≡ T.files tree.old }
-        ensures asked { T.asked tree.new ≡ T.asked tree.old }
+        ensures unchanged { Unchanged T.Tree tree.old tree.new }
         ensures walked { OnOk result ((paths : List Name)
             → Walked (T.files tree.old) (told chooser.now) paths (reached self.old)
             → Walked (T.files tree.old) (told chooser.now) paths
@@ -534,9 +522,7 @@ impl Search {
         folder: Vec<u8>,
         tree: &mut T,
     ) -> Result<(), AllocError>
-        // Nothing is changed.
-        ensures files { T.files tree.new ≡ T.files tree.old }
-        ensures asked { T.asked tree.new ≡ T.asked tree.old }
+        ensures unchanged { Unchanged T.Tree tree.old tree.new }
         ensures looks { OnOk result (LooksInto (T.files tree.old) (told chooser.now) folder.items
             (T.faults tree.old) (T.faults tree.new) self.old self.new) }
     {
@@ -555,9 +541,7 @@ impl Search {
         chooser: &Chooser<'_>,
         tree: &mut T,
     ) -> Result<(), AllocError>
-        // Nothing is changed.
-        ensures files { T.files tree.new ≡ T.files tree.old }
-        ensures asked { T.asked tree.new ≡ T.asked tree.old }
+        ensures unchanged { Unchanged T.Tree tree.old tree.new }
         ensures searches { OnOk result (Searches (T.files tree.old) (told chooser.now)
             (T.faults tree.old) (T.faults tree.new) self.old self.new) }
         ensures none { OnOk result (self.new.walk.folders.items ≡ []) }
@@ -578,9 +562,7 @@ impl Search {
         operands: &[&[u8]],
         tree: &mut T,
     ) -> Result<Search, AllocError>
-        // Nothing is changed.
-        ensures files { T.files tree.new ≡ T.files tree.old }
-        ensures asked { T.asked tree.new ≡ T.asked tree.old }
+        ensures unchanged { Unchanged T.Tree tree.old tree.new }
         ensures sees { IfOk result (λ search. SeesAll (T.files tree.old) (told chooser.now)
             (map (λ operand. operand.now) operands.now) (T.faults tree.old) (T.faults tree.new)
             search) }
@@ -612,9 +594,7 @@ pub fn find<T: Tree>(
     operands: &[&[u8]],
     tree: &mut T,
 ) -> Result<Vec<Found>, AllocError>
-    // Nothing is changed, and no change is asked for.
-    ensures files { T.files tree.new ≡ T.files tree.old }
-    ensures asked { T.asked tree.new ≡ T.asked tree.old }
+    ensures unchanged { Unchanged T.Tree tree.old tree.new }
     // All files that the names stand for and that aren't excluded, and nothing else.
     ensures finds { IfOk result (λ found. Finds (T.files tree.old) (chosen choice.entry)
         (map (λ operand. operand.now) operands.now) found.items) }
@@ -647,9 +627,7 @@ fn ordered(alloc: Global, looked: Vec<Looked>) -> Result<Vec<Looked>, AllocError
 /// What these names stand for, whatever they are called: the entries found for the names themselves, and in each folder
 /// that was listed. Nothing is excluded.
 pub fn look<T: Tree>(alloc: Global, operands: &[&[u8]], tree: &mut T) -> Result<Seen, AllocError>
-    // Nothing is changed, and no change is asked for.
-    ensures files { T.files tree.new ≡ T.files tree.old }
-    ensures asked { T.asked tree.new ≡ T.asked tree.old }
+    ensures unchanged { Unchanged T.Tree tree.old tree.new }
     // Everything that the names stand for, and all files of the folders.
     ensures sees { IfOk result (λ seen. Sees (T.files tree.old)
         (map (λ operand. operand.now) operands.now) (T.faults tree.old) (T.faults tree.new)
@@ -674,9 +652,7 @@ pub fn find_in<T: Tree>(
     folder: &[u8],
     tree: &mut T,
 ) -> Result<Vec<Found>, AllocError>
-    // Nothing is changed, and no change is asked for.
-    ensures files { T.files tree.new ≡ T.files tree.old }
-    ensures asked { T.asked tree.new ≡ T.asked tree.old }
+    ensures unchanged { Unchanged T.Tree tree.old tree.new }
     ensures finds { IfOk result (λ found. FindsIn (T.files tree.old) folder.now found.items) }
     // If the device tells the faults of its calls, a name is reported only for a failed call.
     ensures real { IfOk result (λ found. AreHeard (T.faults tree.old) (T.faults tree.new)

@@ -2,6 +2,7 @@
 
 ghost use Rattle.std.specs.Prelude.{◌≡◌, ◌++◌, IfOk, map};
 ghost use Rattle.file_tree.specs.Ordered.{Orders};
+ghost use Rattle.file_tree.specs.Unchanged.{Unchanged};
 ghost use Rattle.lint_command.specs.Ends.{Collects};
 
 use file_tree::tree::Tree;
@@ -36,9 +37,7 @@ pub(crate) fn collect<T: Tree>(
     operands: &[&[u8]],
     tree: &mut T,
 ) -> Result<Collected, AllocError>
-    // Nothing is changed, nor asked to be.
-    ensures files { T.files tree.new ≡ T.files tree.old }
-    ensures asked { T.asked tree.new ≡ T.asked tree.old }
+    ensures unchanged { Unchanged T.Tree tree.old tree.new }
     ensures collects { IfOk result (λ c. Collects (T.files tree.old) shard
         (map (λ operand. operand.now) operands.now) (T.faults tree.old) (T.faults tree.new)
         c.modules.items c.faults.items) }

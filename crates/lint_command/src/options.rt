@@ -223,20 +223,37 @@ fn is_good(null: bool, names: &[&[u8]]) -> bool
     !null || names.is_empty()
 }
 
-/// The options of these parts of a line.
-fn options_by<'a>(
+/// What a line says, part by part.
+#[derive(Drop)]
+struct Parts<'a> {
     given: Result<Given, Usage>,
     quiet: bool,
+    /// None if the text is no part.
     shard: Option<Option<Shard>>,
+    /// None if there is no such form.
     form: Option<Option<Form>>,
-    are_jobs: bool,
-    is_good: bool,
+    /// Whether the text is a number of jobs.
+    are_jobs_good: bool,
     null: bool,
     names: Vec<&'a [u8]>,
-) -> Result<LintOptions<'a>, Usage>
-    ensures { asked_by result ≡ asking_by (given_in given) quiet shard form are_jobs is_good null
-        (map (λ name. name.now) names.entry.items) }
+}
+
+/// The options of these parts of a line.
+fn options_by<'a>(parts: Parts<'a>) -> Result<LintOptions<'a>, Usage>
+    ensures { asked_by result ≡ asking_by (given_in parts.entry.given) parts.entry.quiet
+        parts.entry.shard parts.entry.form parts.entry.are_jobs_good
+        (is_good parts.entry.null (length parts.entry.names.items)) parts.entry.null
+        (map (λ name. name.now) parts.entry.names.items) }
 {
+    let Parts {
+        given,
+        quiet,
+        shard,
+        form,
+        are_jobs_good,
+        null,
+        names,
+    } = parts;
     let given = match given {
         Ok(given) => given,
         Err(usage) => return Err(usage),
@@ -247,10 +264,10 @@ fn options_by<'a>(
     let Some(form) = form else {
         return Err(Usage::BadForm);
     };
-    if !are_jobs {
+    if !are_jobs_good {
         return Err(Usage::BadJobs);
     }
-    if !is_good {
+    if !is_good(null, names.as_slice()) {
         return Err(Usage::NamesTwice);
     }
     Ok(LintOptions {
@@ -273,14 +290,15 @@ fn options_with<'a>(
     ensures { asked_by result ≡ asking_with (rows_of (found_of matches.now))
         (map (λ name. name.now) names.entry.items) }
 {
-    let given = given_of(matches);
-    let quiet = is_given(matches, "quiet");
-    let shard = shard_of(matches);
-    let form = form_of(matches);
-    let are_jobs = are_jobs_good(matches);
-    let null = is_given(matches, "null");
-    let is_good = is_good(null, names.as_slice());
-    options_by(given, quiet, shard, form, are_jobs, is_good, null, names)
+    options_by(Parts {
+        given: given_of(matches),
+        quiet: is_given(matches, "quiet"),
+        shard: shard_of(matches),
+        form: form_of(matches),
+        are_jobs_good: are_jobs_good(matches),
+        null: is_given(matches, "null"),
+        names,
+    })
 }
 
 /// What the words ask for that name a rule to explain.

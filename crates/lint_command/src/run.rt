@@ -1,11 +1,11 @@
 //! A run over any tree and any devices.
 
 ghost use Rattle.std.specs.Prelude.{◌≡◌, ◌==◌, ◌&&◌, ◌||◌, ◌++◌, [], IfErr, IfOk, List, Some, ℕ, codes, false, flat_map, is_err, is_some, map, nat_lt, true, if◌then◌else◌};
-ghost use Rattle.command_line.specs.Rows.{Took, end_of, error_line, writer};
+ghost use Rattle.command_line.specs.Rows.{Took, end_of_streams, error_line, writer};
 ghost use Rattle.module_config.specs.Words.{configured_words};
 ghost use Rattle.tree_lint.specs.Faults.{fault_lines};
 ghost use Rattle.tree_lint.specs.Numbers.{summary_line};
-ghost use Rattle.tree_lint.specs.Readers.{has_reader_out};
+ghost use Rattle.tree_lint.specs.Readers.{Leaves, has_reader_out};
 ghost use Rattle.tree_lint.specs.Refusals.{tree_linter};
 ghost use Rattle.tree_lint.specs.Runs.{worse_status};
 ghost use Rattle.lint_command.specs.Asked.{asking_of, job_of};
@@ -17,7 +17,7 @@ use crate::collect::{Collected, collect};
 use crate::options::{Job, LintOptions, options};
 use crate::usage::NUMBER;
 use crate::words::{say, tree_linter};
-use command_line::write_pieces;
+use command_line::{Streams, write_pieces};
 use file_tree::tree::Tree;
 use file_tree::walk::Found;
 use hcl_scan::{ByteSink, ByteSource, Failed};
@@ -33,7 +33,7 @@ use tree_lint::refusal::tell_faults;
 use tree_lint::run::{RunEnd, run_over, worse_status};
 use tree_lint::written::{Manner, Terminals, Written};
 use tree_words::operands::{operands_in, operands_of, read_names};
-use tree_words::words::words_of;
+use tree_words::words::{Line, words_of};
 
 static READ_FAILED: &str = "tfrules-all: error: read failed\n";
 
@@ -118,59 +118,6 @@ fn tell_end<E: ByteSink>(
     tell_rest(quiet, counts, configured, err)
 }
 
-/// The status of a run in which these can't be looked at, and so many modules aren't linted.
-fn fault_status(faults: &[Found], unlinted: usize) -> u8
-    ensures { result ≡ fault_status faults.now unlinted }
-{
-    if !faults.is_empty() {
-        return 1;
-    }
-    if unlinted == 0 { 0 } else { 1 }
-}
-
-/// Says the last words of a run whose writes went well, and gives its status.
-fn end_well<E: ByteSink>(
-    quiet: bool,
-    ran: &RunEnd,
-    faults: &[Found],
-    configured: &Configured,
-    err: &mut E,
-) -> u8
-    requires err { E.failed err.old ≡ false }
-    ensures took { Took (writer E.ByteSink err.old err.new)
-        (flat_map fault_lines faults.now
-        ++ (configured_words configured.now
-        ++ summary quiet configured.now.unlinted ran.now.counts)) }
-    ensures exit { result ≡ (if E.failed err.new then 1
-        else worse_status ran.now.status (fault_status faults.now configured.now.unlinted)) }
-{
-    match tell_end(quiet, &ran.counts, faults, configured, err) {
-        Ok(()) => worse_status(ran.status, fault_status(faults, configured.unlinted)),
-        Err(_) => 1,
-    }
-}
-
-/// Says the last words of a run, and gives its status.
-fn finish<O: ByteSink, E: ByteSink>(
-    quiet: bool,
-    ran: &RunEnd,
-    faults: &[Found],
-    configured: &Configured,
-    out: &O,
-    err: &mut E,
-) -> u8
-    requires err { E.failed err.old ≡ false }
-    ensures took { Took (writer E.ByteSink err.old err.new)
-        (last_words quiet (O.failed out.now) faults.now configured.now ran.now.counts) }
-    ensures exit { result ≡ (if O.failed out.now || E.failed err.new then 1
-        else worse_status ran.now.status (fault_status faults.now configured.now.unlinted)) }
-{
-    if out.has_failed() {
-        return tree_linter().finish(out, err, 1);
-    }
-    end_well(quiet, ran, faults, configured, err)
-}
-
 /// What is to be said of a run, beside what it finds in modules.
 #[derive(Clone, Copy)]
 struct Rest<'r> {
@@ -180,6 +127,49 @@ struct Rest<'r> {
     /// What can't be looked at.
     faults: &'r [Found],
     configured: &'r Configured,
+}
+
+/// The status of a run by what can't be looked at and the modules that aren't linted.
+fn fault_status(rest: Rest<'_>) -> u8
+    ensures { result ≡ fault_status rest.entry.faults.now rest.entry.configured.now.unlinted }
+{
+    if !rest.faults.is_empty() {
+        return 1;
+    }
+    if rest.configured.unlinted == 0 { 0 } else { 1 }
+}
+
+/// Says the last words of a run whose writes went well, and gives its status.
+fn end_well<E: ByteSink>(rest: Rest<'_>, ran: &RunEnd, err: &mut E) -> u8
+    requires err { E.failed err.old ≡ false }
+    ensures took { Took (writer E.ByteSink err.old err.new)
+        (flat_map fault_lines rest.entry.faults.now
+        ++ (configured_words rest.entry.configured.now
+        ++ summary rest.entry.quiet rest.entry.configured.now.unlinted ran.now.counts)) }
+    ensures exit { result ≡ (if E.failed err.new then 1
+        else worse_status ran.now.status
+        (fault_status rest.entry.faults.now rest.entry.configured.now.unlinted)) }
+{
+    match tell_end(rest.quiet, &ran.counts, rest.faults, rest.configured, err) {
+        Ok(()) => worse_status(ran.status, fault_status(rest)),
+        Err(_) => 1,
+    }
+}
+
+/// Says the last words of a run, and gives its status.
+fn finish<O: ByteSink, E: ByteSink>(rest: Rest<'_>, ran: &RunEnd, out: &O, err: &mut E) -> u8
+    requires err { E.failed err.old ≡ false }
+    ensures took { Took (writer E.ByteSink err.old err.new)
+        (last_words rest.entry.quiet (O.failed out.now) rest.entry.faults.now
+        rest.entry.configured.now ran.now.counts) }
+    ensures exit { result ≡ (if O.failed out.now || E.failed err.new then 1
+        else worse_status ran.now.status
+        (fault_status rest.entry.faults.now rest.entry.configured.now.unlinted)) }
+{
+    if out.has_failed() {
+        return tree_linter().finish(out, err, 1);
+    }
+    end_well(rest, ran, err)
 }
 
 /// What stands before the issues of all modules.
@@ -250,24 +240,21 @@ fn close<O: ByteSink, E: ByteSink>(
     alloc: Global,
     ran: &mut RunEnd,
     rest: Rest<'_>,
-    out: &mut O,
-    err: &mut E,
+    streams: &mut Streams<O, E>,
 ) -> u8
-    requires out { O.failed out.old ≡ false }
-    requires err { E.failed err.old ≡ false }
+    requires out { O.failed streams.old.out ≡ false }
+    requires err { E.failed streams.old.err ≡ false }
     ensures { Closes rest.entry.manner.form rest.entry.quiet rest.entry.configured.now
-        rest.entry.faults.now ran.old (writer O.ByteSink out.old out.new)
-        (writer E.ByteSink err.old err.new) (out.new ≡ out.old) result }
+        rest.entry.faults.now ran.old (writer O.ByteSink streams.old.out streams.new.out)
+        (writer E.ByteSink streams.old.err streams.new.err)
+        (streams.new.out ≡ streams.old.out) result }
 {
-    let status = worse_status(
-        ran.status,
-        fault_status(rest.faults, rest.configured.unlinted),
-    );
+    let status = worse_status(ran.status, fault_status(rest));
     let Ok(text) = foot_of(alloc, status, ran, rest) else {
-        return tell_lost(err);
+        return tell_lost(&mut streams.err);
     };
-    let _ = write_pieces(out, &[text.as_slice()]);
-    finish(rest.quiet, ran, rest.faults, rest.configured, out, err)
+    let _ = write_pieces(&mut streams.out, &[text.as_slice()]);
+    finish(rest, ran, &streams.out, &mut streams.err)
 }
 
 /// Lints the modules whose options are known, and says what else there is.
@@ -276,34 +263,31 @@ fn lint_configured<T: Tree + Drop, O: ByteSink, E: ByteSink>(
     rest: Rest<'_>,
     head: &[u8],
     files: &mut ModuleTree<T>,
-    out: &mut O,
-    err: &mut E,
+    streams: &mut Streams<O, E>,
 ) -> u8
     requires back { has_reader_out files.old ≡ false }
-    requires out { O.failed out.old ≡ false }
-    requires err { E.failed err.old ≡ false }
+    requires out { O.failed streams.old.out ≡ false }
+    requires err { E.failed streams.old.err ≡ false }
     requires head { head.now ≡ head_of rest.manner.form }
     ensures ran { RunsThen (T.files files.old.tree) rest.entry.manner rest.entry.quiet
         rest.entry.configured.now rest.entry.faults.now
         (T.faults files.old.tree) (T.faults files.new.tree)
-        (end_of O.ByteSink out.old out.new E.ByteSink err.old err.new result) }
-    ensures files { T.files files.new.tree ≡ T.files files.old.tree }
-    ensures asked { T.asked files.new.tree ≡ T.asked files.old.tree }
-    ensures back { has_reader_out files.new ≡ false }
+        (end_of_streams O.ByteSink E.ByteSink streams.old streams.new result) }
+    ensures leaves { Leaves T.Tree files.old files.new }
 {
     let written = Written {
         manner: rest.manner,
         head,
     };
     let governed = rest.configured.governed.as_slice();
-    let mut ran = run_over(alloc, written, governed, files, out, err);
-    if err.has_failed() {
+    let mut ran = run_over(alloc, written, governed, files, streams);
+    if streams.err.has_failed() {
         return 1;
     }
-    if out.has_failed() {
-        return tree_linter().finish(out, err, 1);
+    if streams.out.has_failed() {
+        return tree_linter().finish(&streams.out, &mut streams.err, 1);
     }
-    close(alloc, &mut ran, rest, out, err)
+    close(alloc, &mut ran, rest, streams)
 }
 
 /// What is asked for, and which outputs are read on a terminal.
@@ -319,27 +303,25 @@ fn lint_collected<T: Tree + Drop, O: ByteSink, E: ByteSink>(
     task: Task,
     collected: Collected,
     files: &mut ModuleTree<T>,
-    out: &mut O,
-    err: &mut E,
+    streams: &mut Streams<O, E>,
 ) -> u8
     requires back { has_reader_out files.old ≡ false }
-    requires out { O.failed out.old ≡ false }
-    requires err { E.failed err.old ≡ false }
+    requires out { O.failed streams.old.out ≡ false }
+    requires err { E.failed streams.old.err ≡ false }
     ensures ends { LintsCollected task.terminals (job_of task.job) collected.modules.items
-        collected.faults.items (T.files files.old.tree) (T.faults files.old.tree) (T.faults files.new.tree)
-        (end_of O.ByteSink out.old out.new E.ByteSink err.old err.new result) }
-    ensures files { T.files files.new.tree ≡ T.files files.old.tree }
-    ensures asked { T.asked files.new.tree ≡ T.asked files.old.tree }
-    ensures back { has_reader_out files.new ≡ false }
+        collected.faults.items (T.files files.old.tree) (T.faults files.old.tree)
+        (T.faults files.new.tree)
+        (end_of_streams O.ByteSink E.ByteSink streams.old streams.new result) }
+    ensures leaves { Leaves T.Tree files.old files.new }
 {
     let Collected { modules, faults } = collected;
     let job = task.job;
     let given = job.given;
     let Ok(configured) = configure(alloc, given.said, given.reads, modules, &mut files.tree) else {
-        return tree_linter().tell_out_of_memory(out, err);
+        return streams.tell_out_of_memory(&tree_linter());
     };
     let Ok(head) = head_of(alloc, job.form) else {
-        return tree_linter().tell_out_of_memory(out, err);
+        return streams.tell_out_of_memory(&tree_linter());
     };
     let rest = Rest {
         quiet: job.quiet,
@@ -350,7 +332,7 @@ fn lint_collected<T: Tree + Drop, O: ByteSink, E: ByteSink>(
         faults: faults.as_slice(),
         configured: &configured,
     };
-    lint_configured(alloc, rest, head.as_slice(), files, out, err)
+    lint_configured(alloc, rest, head.as_slice(), files, streams)
 }
 
 /// Finds the modules and lints them.
@@ -359,23 +341,20 @@ fn lint<T: Tree + Drop, O: ByteSink, E: ByteSink>(
     task: Task,
     operands: &[&[u8]],
     files: &mut ModuleTree<T>,
-    out: &mut O,
-    err: &mut E,
+    streams: &mut Streams<O, E>,
 ) -> u8
     requires back { has_reader_out files.old ≡ false }
-    requires out { O.failed out.old ≡ false }
-    requires err { E.failed err.old ≡ false }
+    requires out { O.failed streams.old.out ≡ false }
+    requires err { E.failed streams.old.err ≡ false }
     ensures ends { LintsOr task.terminals (job_of task.job)
         (map (λ operand. operand.now) operands.now)
         (T.files files.old.tree) (T.faults files.old.tree) (T.faults files.new.tree)
-        (end_of O.ByteSink out.old out.new E.ByteSink err.old err.new result) }
-    ensures files { T.files files.new.tree ≡ T.files files.old.tree }
-    ensures asked { T.asked files.new.tree ≡ T.asked files.old.tree }
-    ensures back { has_reader_out files.new ≡ false }
+        (end_of_streams O.ByteSink E.ByteSink streams.old streams.new result) }
+    ensures leaves { Leaves T.Tree files.old files.new }
 {
     match collect(alloc, task.job.shard, operands, &mut files.tree) {
-        Ok(collected) => lint_collected(alloc, task, collected, files, out, err),
-        Err(_) => tree_linter().tell_out_of_memory(out, err),
+        Ok(collected) => lint_collected(alloc, task, collected, files, streams),
+        Err(_) => streams.tell_out_of_memory(&tree_linter()),
     }
 }
 
@@ -385,31 +364,28 @@ fn lint_null<T: Tree + Drop, R: ByteSource, O: ByteSink, E: ByteSink>(
     task: Task,
     input: &mut R,
     files: &mut ModuleTree<T>,
-    out: &mut O,
-    err: &mut E,
+    streams: &mut Streams<O, E>,
 ) -> u8
     requires back { has_reader_out files.old ≡ false }
     requires input { R.failed input.old ≡ false }
-    requires out { O.failed out.old ≡ false }
-    requires err { E.failed err.old ≡ false }
+    requires out { O.failed streams.old.out ≡ false }
+    requires err { E.failed streams.old.err ≡ false }
     ensures ends { ReadsAndLints task.terminals (job_of task.job) (R.failed input.new)
         (R.left input.old)
         (T.files files.old.tree) (T.faults files.old.tree) (T.faults files.new.tree)
-        (end_of O.ByteSink out.old out.new E.ByteSink err.old err.new result) }
-    ensures files { T.files files.new.tree ≡ T.files files.old.tree }
-    ensures asked { T.asked files.new.tree ≡ T.asked files.old.tree }
-    ensures back { has_reader_out files.new ≡ false }
+        (end_of_streams O.ByteSink E.ByteSink streams.old streams.new result) }
+    ensures leaves { Leaves T.Tree files.old files.new }
 {
     let read = read_names(alloc, input);
     if input.has_failed() {
-        return tree_linter().tell(out, err, READ_FAILED, 1);
+        return streams.tell(&tree_linter(), READ_FAILED, 1);
     }
     let Ok(names) = read else {
-        return tree_linter().tell_out_of_memory(out, err);
+        return streams.tell_out_of_memory(&tree_linter());
     };
     match operands_in(alloc, names.as_slice()) {
-        Ok(operands) => lint(alloc, task, operands.as_slice(), files, out, err),
-        Err(_) => tree_linter().tell_out_of_memory(out, err),
+        Ok(operands) => lint(alloc, task, operands.as_slice(), files, streams),
+        Err(_) => streams.tell_out_of_memory(&tree_linter()),
     }
 }
 
@@ -419,22 +395,19 @@ fn lint_named<T: Tree + Drop, O: ByteSink, E: ByteSink>(
     task: Task,
     names: &[&[u8]],
     files: &mut ModuleTree<T>,
-    out: &mut O,
-    err: &mut E,
+    streams: &mut Streams<O, E>,
 ) -> u8
     requires back { has_reader_out files.old ≡ false }
-    requires out { O.failed out.old ≡ false }
-    requires err { E.failed err.old ≡ false }
+    requires out { O.failed streams.old.out ≡ false }
+    requires err { E.failed streams.old.err ≡ false }
     ensures ends { LintsNamed task.terminals (job_of task.job) (map (λ name. name.now) names.now)
         (T.files files.old.tree) (T.faults files.old.tree) (T.faults files.new.tree)
-        (end_of O.ByteSink out.old out.new E.ByteSink err.old err.new result) }
-    ensures files { T.files files.new.tree ≡ T.files files.old.tree }
-    ensures asked { T.asked files.new.tree ≡ T.asked files.old.tree }
-    ensures back { has_reader_out files.new ≡ false }
+        (end_of_streams O.ByteSink E.ByteSink streams.old streams.new result) }
+    ensures leaves { Leaves T.Tree files.old files.new }
 {
     match operands_of(alloc, names) {
-        Ok(operands) => lint(alloc, task, operands.as_slice(), files, out, err),
-        Err(_) => tree_linter().tell_out_of_memory(out, err),
+        Ok(operands) => lint(alloc, task, operands.as_slice(), files, streams),
+        Err(_) => streams.tell_out_of_memory(&tree_linter()),
     }
 }
 
@@ -445,62 +418,56 @@ fn run_asked<T: Tree + Drop, R: ByteSource, O: ByteSink, E: ByteSink>(
     options: &LintOptions<'_>,
     files: &mut ModuleTree<T>,
     input: &mut R,
-    out: &mut O,
-    err: &mut E,
+    streams: &mut Streams<O, E>,
 ) -> u8
     requires back { has_reader_out files.old ≡ false }
     requires input { R.failed input.old ≡ false }
-    requires out { O.failed out.old ≡ false }
-    requires err { E.failed err.old ≡ false }
+    requires out { O.failed streams.old.out ≡ false }
+    requires err { E.failed streams.old.err ≡ false }
     ensures ends { EndsAsked terminals (asking_of options.now) (R.failed input.new)
         (R.left input.old) (T.files files.old.tree) (T.faults files.old.tree)
         (T.faults files.new.tree)
-        (end_of O.ByteSink out.old out.new E.ByteSink err.old err.new result) }
+        (end_of_streams O.ByteSink E.ByteSink streams.old streams.new result) }
     // Standard input is read only for names.
     ensures unread { options.now.null ≡ false → input.new ≡ input.old }
-    ensures files { T.files files.new.tree ≡ T.files files.old.tree }
-    ensures asked { T.asked files.new.tree ≡ T.asked files.old.tree }
-    ensures back { has_reader_out files.new ≡ false }
+    ensures leaves { Leaves T.Tree files.old files.new }
 {
     let task = Task {
         job: options.job,
         terminals,
     };
     if options.null {
-        return lint_null(alloc, task, input, files, out, err);
+        return lint_null(alloc, task, input, files, streams);
     }
-    lint_named(alloc, task, options.names.as_slice(), files, out, err)
+    lint_named(alloc, task, options.names.as_slice(), files, streams)
 }
 
 /// The program of words that are texts, and names beside them.
 fn run_line<'w, T: Tree + Drop, R: ByteSource, O: ByteSink, E: ByteSink>(
     alloc: Global,
-    words: &'w [&'w str],
-    others: &'w [&'w [u8]],
+    line: Line<'w>,
     terminals: Terminals,
     files: &mut ModuleTree<T>,
     input: &mut R,
-    out: &mut O,
-    err: &mut E,
+    streams: &mut Streams<O, E>,
 ) -> u8
     requires back { has_reader_out files.old ≡ false }
     requires input { R.failed input.old ≡ false }
-    requires out { O.failed out.old ≡ false }
-    requires err { E.failed err.old ≡ false }
-    ensures ends { IsEndOf terminals (map (λ word. word.now) words.now)
-        (map (λ name. name.now) others.now) (R.failed input.new) (R.left input.old) (T.files files.old.tree)
+    requires out { O.failed streams.old.out ≡ false }
+    requires err { E.failed streams.old.err ≡ false }
+    ensures ends { IsEndOf terminals (map (λ word. word.now) line.entry.texts.now)
+        (map (λ name. name.now) line.entry.others.now) (R.failed input.new) (R.left input.old)
+        (T.files files.old.tree)
         (T.faults files.old.tree) (T.faults files.new.tree)
-        (end_of O.ByteSink out.old out.new E.ByteSink err.old err.new result) }
+        (end_of_streams O.ByteSink E.ByteSink streams.old streams.new result) }
     // Standard input is read only for names.
-    ensures unread { reads_names (asking_of_texts (map (λ word. word.now) words.now)
-        (map (λ name. name.now) others.now)) ≡ false → input.new ≡ input.old }
-    ensures files { T.files files.new.tree ≡ T.files files.old.tree }
-    ensures asked { T.asked files.new.tree ≡ T.asked files.old.tree }
-    ensures back { has_reader_out files.new ≡ false }
+    ensures unread { reads_names (asking_of_texts (map (λ word. word.now) line.entry.texts.now)
+        (map (λ name. name.now) line.entry.others.now)) ≡ false → input.new ≡ input.old }
+    ensures leaves { Leaves T.Tree files.old files.new }
 {
-    match options(alloc, words, others) {
-        Ok(options) => run_asked(alloc, terminals, &options, files, input, out, err),
-        Err(usage) => say(alloc, words, usage, out, err),
+    match options(alloc, line.texts, line.others) {
+        Ok(options) => run_asked(alloc, terminals, &options, files, input, streams),
+        Err(usage) => say(alloc, line.texts, usage, streams),
     }
 }
 
@@ -512,38 +479,28 @@ pub fn program<T: Tree + Drop, R: ByteSource, O: ByteSink, E: ByteSink>(
     terminals: Terminals,
     files: &mut ModuleTree<T>,
     input: &mut R,
-    out: &mut O,
-    err: &mut E,
+    streams: &mut Streams<O, E>,
 ) -> u8
     requires back { has_reader_out files.old ≡ false }
     requires input { R.failed input.old ≡ false }
-    requires out { O.failed out.old ≡ false }
-    requires err { E.failed err.old ≡ false }
+    requires out { O.failed streams.old.out ≡ false }
+    requires err { E.failed streams.old.err ≡ false }
     // What was linted and said, and with which status it ends.
     ensures ends { IsEnd terminals (map (λ word. word.now) words.now) (R.failed input.new)
         (R.left input.old) (T.files files.old.tree)
         (T.faults files.old.tree) (T.faults files.new.tree)
-        (end_of O.ByteSink out.old out.new E.ByteSink err.old err.new result) }
+        (end_of_streams O.ByteSink E.ByteSink streams.old streams.new result) }
     // Standard input is read only where the words ask for names from there.
     ensures unread { reads_names (asking_of_words (map (λ word. word.now) words.now)) ≡ false
         → input.new ≡ input.old }
-    // Nothing is changed, nor asked to be.
-    ensures files { T.files files.new.tree ≡ T.files files.old.tree }
-    ensures asked { T.asked files.new.tree ≡ T.asked files.old.tree }
-    // No file is left open.
-    ensures back { has_reader_out files.new ≡ false }
+    ensures leaves { Leaves T.Tree files.old files.new }
 {
     let Ok(words) = words_of(alloc, "tfrules-all", words) else {
-        return tree_linter().tell_out_of_memory(out, err);
+        return streams.tell_out_of_memory(&tree_linter());
     };
-    run_line(
-        alloc,
-        words.texts.as_slice(),
-        words.others.as_slice(),
-        terminals,
-        files,
-        input,
-        out,
-        err,
-    )
+    let line = Line {
+        texts: words.texts.as_slice(),
+        others: words.others.as_slice(),
+    };
+    run_line(alloc, line, terminals, files, input, streams)
 }

@@ -1,7 +1,7 @@
 //! What is said of words that ask for no run.
 
 ghost use Rattle.std.specs.Prelude.{◌≡◌, ℕ, List, false, map};
-ghost use Rattle.command_line.specs.Rows.{end_of};
+ghost use Rattle.command_line.specs.Rows.{end_of_streams};
 ghost use Rattle.lint_command.specs.Ends.{ShowsUsage};
 ghost use Rattle.tree_lint.specs.Refusals.{tree_linter};
 ghost use Rattle.lint_command.specs.declared.usage.Usage.TheVariants.{BadLine, Explain, ListRules};
@@ -10,7 +10,7 @@ use crate::explain::{explained, rule_list};
 use crate::linter_words::linter_words;
 use crate::usage::{HELP, Usage, VERSION};
 use crate::wrong_value::{unknown_rule, wrong_value};
-use command_line::Program;
+use command_line::{Program, Streams};
 use hcl_scan::ByteSink;
 use rule_set::Rule;
 use std::alloc::Global;
@@ -46,41 +46,45 @@ pub(crate) fn tree_linter() -> Program
 }
 
 /// Says which word of a line is wrong, and what the lines of this program are.
-fn bad_line<O: ByteSink, E: ByteSink>(alloc: Global, words: &[&str], out: &mut O, err: &mut E) -> u8
-    requires out { O.failed out.old ≡ false }
-    requires err { E.failed err.old ≡ false }
+fn bad_line<O: ByteSink, E: ByteSink>(
+    alloc: Global,
+    words: &[&str],
+    streams: &mut Streams<O, E>,
+) -> u8
+    requires out { O.failed streams.old.out ≡ false }
+    requires err { E.failed streams.old.err ≡ false }
     ensures { ShowsUsage (map (λ word. word.now) words.now) BadLine
-        (end_of O.ByteSink out.old out.new E.ByteSink err.old err.new result) }
+        (end_of_streams O.ByteSink E.ByteSink streams.old streams.new result) }
 {
     match bad_line_text(alloc, &linter_words(), words) {
-        Ok(text) => tree_linter().tell_bytes(out, err, text.as_slice(), 1),
-        Err(_) => tree_linter().tell_out_of_memory(out, err),
+        Ok(text) => streams.tell_bytes(&tree_linter(), text.as_slice(), 1),
+        Err(_) => streams.tell_out_of_memory(&tree_linter()),
     }
 }
 
 /// Shows the list of the rules.
-fn list_rules<O: ByteSink, E: ByteSink>(alloc: Global, out: &mut O, err: &mut E) -> u8
-    requires out { O.failed out.old ≡ false }
-    requires err { E.failed err.old ≡ false }
+fn list_rules<O: ByteSink, E: ByteSink>(alloc: Global, streams: &mut Streams<O, E>) -> u8
+    requires out { O.failed streams.old.out ≡ false }
+    requires err { E.failed streams.old.err ≡ false }
     ensures { (texts : List (List ℕ)) → ShowsUsage texts ListRules
-        (end_of O.ByteSink out.old out.new E.ByteSink err.old err.new result) }
+        (end_of_streams O.ByteSink E.ByteSink streams.old streams.new result) }
 {
     match rule_list(alloc) {
-        Ok(text) => tree_linter().deliver(out, err, text.as_str(), 0),
-        Err(_) => tree_linter().tell_out_of_memory(out, err),
+        Ok(text) => streams.deliver(&tree_linter(), text.as_str(), 0),
+        Err(_) => streams.tell_out_of_memory(&tree_linter()),
     }
 }
 
 /// Shows what is said of a rule.
-fn explain<O: ByteSink, E: ByteSink>(alloc: Global, rule: Rule, out: &mut O, err: &mut E) -> u8
-    requires out { O.failed out.old ≡ false }
-    requires err { E.failed err.old ≡ false }
+fn explain<O: ByteSink, E: ByteSink>(alloc: Global, rule: Rule, streams: &mut Streams<O, E>) -> u8
+    requires out { O.failed streams.old.out ≡ false }
+    requires err { E.failed streams.old.err ≡ false }
     ensures { (texts : List (List ℕ)) → ShowsUsage texts (Explain rule)
-        (end_of O.ByteSink out.old out.new E.ByteSink err.old err.new result) }
+        (end_of_streams O.ByteSink E.ByteSink streams.old streams.new result) }
 {
     match explained(alloc, rule) {
-        Ok(text) => tree_linter().deliver(out, err, text.as_str(), 0),
-        Err(_) => tree_linter().tell_out_of_memory(out, err),
+        Ok(text) => streams.deliver(&tree_linter(), text.as_str(), 0),
+        Err(_) => streams.tell_out_of_memory(&tree_linter()),
     }
 }
 
@@ -89,38 +93,36 @@ pub(crate) fn say<O: ByteSink, E: ByteSink>(
     alloc: Global,
     words: &[&str],
     usage: Usage,
-    out: &mut O,
-    err: &mut E,
+    streams: &mut Streams<O, E>,
 ) -> u8
-    requires out { O.failed out.old ≡ false }
-    requires err { E.failed err.old ≡ false }
+    requires out { O.failed streams.old.out ≡ false }
+    requires err { E.failed streams.old.err ≡ false }
     ensures { ShowsUsage (map (λ word. word.now) words.now) usage
-        (end_of O.ByteSink out.old out.new E.ByteSink err.old err.new result) }
+        (end_of_streams O.ByteSink E.ByteSink streams.old streams.new result) }
 {
     match usage {
-        Usage::Help => tree_linter().deliver(out, err, HELP, 0),
-        Usage::Version => tree_linter().deliver(out, err, VERSION, 0),
-        Usage::ListRules => list_rules(alloc, out, err),
-        Usage::Explain(rule) => explain(alloc, rule, out, err),
-        Usage::BadLine => bad_line(alloc, words, out, err),
-        Usage::UnknownRule => unknown_rule(alloc, words, out, err),
-        Usage::UnknownExplained => wrong_value(alloc, words, "explain", UNKNOWN_RULE, out, err),
-        Usage::NoRuleLeft => wrong_value(alloc, words, "rules", NO_RULE_LEFT, out, err),
-        Usage::BadNaming => wrong_value(alloc, words, "naming", BAD_NAMING, out, err),
+        Usage::Help => streams.deliver(&tree_linter(), HELP, 0),
+        Usage::Version => streams.deliver(&tree_linter(), VERSION, 0),
+        Usage::ListRules => list_rules(alloc, streams),
+        Usage::Explain(rule) => explain(alloc, rule, streams),
+        Usage::BadLine => bad_line(alloc, words, streams),
+        Usage::UnknownRule => unknown_rule(alloc, words, streams),
+        Usage::UnknownExplained => wrong_value(alloc, words, "explain", UNKNOWN_RULE, streams),
+        Usage::NoRuleLeft => wrong_value(alloc, words, "rules", NO_RULE_LEFT, streams),
+        Usage::BadNaming => wrong_value(alloc, words, "naming", BAD_NAMING, streams),
         Usage::BadSeverity => {
             wrong_value(
                 alloc,
                 words,
                 "minimum-failure-severity",
                 BAD_SEVERITY,
-                out,
-                err,
+                streams,
             )
         }
-        Usage::BadPart => wrong_value(alloc, words, "shard", BAD_PART, out, err),
-        Usage::BadForm => wrong_value(alloc, words, "format", BAD_FORM, out, err),
-        Usage::BadJobs => tree_linter().tell(out, err, BAD_JOBS, 1),
-        Usage::NamesTwice => tree_linter().tell(out, err, NAMES_TWICE, 1),
-        Usage::OutOfMemory => tree_linter().tell_out_of_memory(out, err),
+        Usage::BadPart => wrong_value(alloc, words, "shard", BAD_PART, streams),
+        Usage::BadForm => wrong_value(alloc, words, "format", BAD_FORM, streams),
+        Usage::BadJobs => streams.tell(&tree_linter(), BAD_JOBS, 1),
+        Usage::NamesTwice => streams.tell(&tree_linter(), NAMES_TWICE, 1),
+        Usage::OutOfMemory => streams.tell_out_of_memory(&tree_linter()),
     }
 }

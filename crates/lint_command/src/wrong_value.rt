@@ -2,7 +2,7 @@
 
 ghost use Rattle.std.specs.Prelude.{◌≡◌, ◌++◌, ◌⊎◌, [], IfOk, codes, false, map, unwrap_or};
 ghost use Rattle.clap.specs.Words.{first_of, found_of, rows_of};
-ghost use Rattle.command_line.specs.Rows.{end_of, error_line, out_of_memory};
+ghost use Rattle.command_line.specs.Rows.{end_of_streams, error_line, out_of_memory};
 ghost use Rattle.file_tree.specs.Quotes.{in_quotes};
 ghost use Rattle.lint_command.specs.Ends.{SaysOnly, value_in, wrong_value};
 ghost use Rattle.rule_lists.specs.Lists.{unknown_in};
@@ -11,6 +11,7 @@ ghost use Rattle.tree_lint.specs.Refusals.{tree_linter};
 use crate::options::command;
 use crate::words::tree_linter;
 use clap::ArgMatches;
+use command_line::Streams;
 use file_tree::quote::push_in_quotes;
 use hcl_scan::ByteSink;
 use rule_lists::unknown_in;
@@ -57,19 +58,18 @@ fn tell_value<O: ByteSink, E: ByteSink>(
     alloc: Global,
     front: &str,
     value: &str,
-    out: &mut O,
-    err: &mut E,
+    streams: &mut Streams<O, E>,
 ) -> u8
-    requires out { O.failed out.old ≡ false }
-    requires err { E.failed err.old ≡ false }
+    requires out { O.failed streams.old.out ≡ false }
+    requires err { E.failed streams.old.err ≡ false }
     ensures { SaysOnly (out_of_memory tree_linter)
-        (end_of O.ByteSink out.old out.new E.ByteSink err.old err.new result)
+        (end_of_streams O.ByteSink E.ByteSink streams.old streams.new result)
         ⊎ SaysOnly (wrong_value front.now value.now)
-        (end_of O.ByteSink out.old out.new E.ByteSink err.old err.new result) }
+        (end_of_streams O.ByteSink E.ByteSink streams.old streams.new result) }
 {
     match value_line(alloc, front, value) {
-        Ok(text) => tree_linter().tell_bytes(out, err, text.as_slice(), 1),
-        Err(_) => tree_linter().tell_out_of_memory(out, err),
+        Ok(text) => streams.tell_bytes(&tree_linter(), text.as_slice(), 1),
+        Err(_) => streams.tell_out_of_memory(&tree_linter()),
     }
 }
 
@@ -79,20 +79,19 @@ pub(crate) fn wrong_value<O: ByteSink, E: ByteSink>(
     words: &[&str],
     option: &str,
     front: &str,
-    out: &mut O,
-    err: &mut E,
+    streams: &mut Streams<O, E>,
 ) -> u8
-    requires out { O.failed out.old ≡ false }
-    requires err { E.failed err.old ≡ false }
+    requires out { O.failed streams.old.out ≡ false }
+    requires err { E.failed streams.old.err ≡ false }
     ensures { SaysOnly (out_of_memory tree_linter)
-        (end_of O.ByteSink out.old out.new E.ByteSink err.old err.new result)
+        (end_of_streams O.ByteSink E.ByteSink streams.old streams.new result)
         ⊎ SaysOnly (wrong_value front.now
         (value_in (map (λ word. word.now) words.now) option.now))
-        (end_of O.ByteSink out.old out.new E.ByteSink err.old err.new result) }
+        (end_of_streams O.ByteSink E.ByteSink streams.old streams.new result) }
 {
     match value_of(alloc, words, option) {
-        Ok(value) => tell_value(alloc, front, value, out, err),
-        Err(_) => tree_linter().tell_out_of_memory(out, err),
+        Ok(value) => tell_value(alloc, front, value, streams),
+        Err(_) => streams.tell_out_of_memory(&tree_linter()),
     }
 }
 
@@ -100,19 +99,18 @@ pub(crate) fn wrong_value<O: ByteSink, E: ByteSink>(
 pub(crate) fn unknown_rule<O: ByteSink, E: ByteSink>(
     alloc: Global,
     words: &[&str],
-    out: &mut O,
-    err: &mut E,
+    streams: &mut Streams<O, E>,
 ) -> u8
-    requires out { O.failed out.old ≡ false }
-    requires err { E.failed err.old ≡ false }
+    requires out { O.failed streams.old.out ≡ false }
+    requires err { E.failed streams.old.err ≡ false }
     ensures { SaysOnly (out_of_memory tree_linter)
-        (end_of O.ByteSink out.old out.new E.ByteSink err.old err.new result)
+        (end_of_streams O.ByteSink E.ByteSink streams.old streams.new result)
         ⊎ SaysOnly (wrong_value (codes "unknown rule ")
         (unknown_in (value_in (map (λ word. word.now) words.now) (codes "rules"))))
-        (end_of O.ByteSink out.old out.new E.ByteSink err.old err.new result) }
+        (end_of_streams O.ByteSink E.ByteSink streams.old streams.new result) }
 {
     match value_of(alloc, words, "rules") {
-        Ok(list) => tell_value(alloc, "unknown rule ", unknown_in(list), out, err),
-        Err(_) => tree_linter().tell_out_of_memory(out, err),
+        Ok(list) => tell_value(alloc, "unknown rule ", unknown_in(list), streams),
+        Err(_) => streams.tell_out_of_memory(&tree_linter()),
     }
 }

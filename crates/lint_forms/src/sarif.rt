@@ -125,48 +125,54 @@ fn page_of(alloc: Global, name: &str) -> Result<String, AllocError>
     )
 }
 
-/// The document's description of a rule, by these texts.
-fn write_described<'a>(
-    writer: &mut Writer,
+/// The texts of a rule.
+#[derive(Clone, Copy)]
+struct Described<'a> {
     name: &'a str,
     short: &'a str,
     full: &'a str,
+    /// Why it reports what it does.
     why: &'a str,
+    /// Its page.
     page: &'a str,
     level: &'a str,
-) -> Result<(), AllocError>
+}
+
+/// The document's description of a rule, by these texts.
+fn write_described(writer: &mut Writer, rule: Described<'_>) -> Result<(), AllocError>
     ensures { AddsTokens result writer.old writer.new (json_tokens
-        (described name.now short.now full.now why.now page.now level.now)) }
+        (described rule.entry.name.now rule.entry.short.now rule.entry.full.now rule.entry.why.now
+        rule.entry.page.now rule.entry.level.now)) }
 {
     write_parts(
         writer,
         &[
             JsonPart::Object,
             JsonPart::Key("id"),
-            JsonPart::Text(name),
+            JsonPart::Text(rule.name),
             JsonPart::Key("shortDescription"),
             JsonPart::Object,
             JsonPart::Key("text"),
-            JsonPart::Text(short),
+            JsonPart::Text(rule.short),
             JsonPart::EndObject,
             JsonPart::Key("fullDescription"),
             JsonPart::Object,
             JsonPart::Key("text"),
-            JsonPart::Text(full),
+            JsonPart::Text(rule.full),
             JsonPart::EndObject,
             JsonPart::Key("help"),
             JsonPart::Object,
             JsonPart::Key("text"),
-            JsonPart::Text(full),
+            JsonPart::Text(rule.full),
             JsonPart::Key("markdown"),
-            JsonPart::Text(why),
+            JsonPart::Text(rule.why),
             JsonPart::EndObject,
             JsonPart::Key("helpUri"),
-            JsonPart::Text(page),
+            JsonPart::Text(rule.page),
             JsonPart::Key("defaultConfiguration"),
             JsonPart::Object,
             JsonPart::Key("level"),
-            JsonPart::Text(level),
+            JsonPart::Text(rule.level),
             JsonPart::EndObject,
             JsonPart::EndObject,
         ],
@@ -183,15 +189,15 @@ fn write_rule(alloc: Global, writer: &mut Writer, rule: Rule) -> Result<(), Allo
     let full = full_text(alloc, short, why)?;
     let page = page_of(alloc, name)?;
     let level = level_word(Subject::Rule(rule));
-    write_described(
-        writer,
+    let described = Described {
         name,
         short,
-        full.as_str(),
+        full: full.as_str(),
         why,
-        page.as_str(),
+        page: page.as_str(),
         level,
-    )
+    };
+    write_described(writer, described)
 }
 
 /// The document's description of a rule's substitute, by this name and text.

@@ -1,6 +1,7 @@
 //! Whole runs over modules that files `.tfrules` govern.
 
 use crate::checks::PIPES;
+use command_line::Streams;
 use hcl_scan::{MemorySink, MemorySource};
 use lint_command::run::program;
 use std::alloc::{AllocError, Global};
@@ -400,12 +401,12 @@ fn run(
     let tree = MemoryTree::new_in(alloc, HERE, entries.as_slice(), failures).expect(rt, "memory");
     let mut files = ModuleTree::new(tree, Hashing::shared());
     let mut input = MemorySource::new(b"", 4096);
-    let mut out = MemorySink::new(4096);
-    let mut err = MemorySink::new(4096);
-    let status = program(
-        alloc, words, PIPES, &mut files, &mut input, &mut out, &mut err,
-    );
-    (err, status, fails_a_search(files.tree.calls()))
+    let mut streams = Streams {
+        out: MemorySink::new(4096),
+        err: MemorySink::new(4096),
+    };
+    let status = program(alloc, words, PIPES, &mut files, &mut input, &mut streams);
+    (streams.err, status, fails_a_search(files.tree.calls()))
 }
 
 /// Runs the program with the words of a row over its tree, and compares its output.

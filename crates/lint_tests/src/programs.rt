@@ -1,6 +1,7 @@
 //! Whole runs of the program over a tree in memory.
 
 use crate::checks::PIPES;
+use command_line::Streams;
 use hcl_scan::{MemorySink, MemorySource};
 use lint_command::run::program;
 use std::alloc::Global;
@@ -382,13 +383,20 @@ pub(crate) fn shows_on(
     let tree = MemoryTree::new_in(alloc, b"/r/w", entries, STEADY).expect(rt, "memory");
     let mut files = ModuleTree::new(tree, Hashing::shared());
     let mut input = MemorySource::new(row.input, 4096);
-    let mut out = MemorySink::new(4096);
-    let mut err = MemorySink::new(4096);
+    let mut streams = Streams {
+        out: MemorySink::new(4096),
+        err: MemorySink::new(4096),
+    };
     let status = program(
-        alloc, row.words, terminals, &mut files, &mut input, &mut out, &mut err,
+        alloc,
+        row.words,
+        terminals,
+        &mut files,
+        &mut input,
+        &mut streams,
     );
-    shown(rt, out.bytes(), row.out, row);
-    shown(rt, err.bytes(), row.err, row);
+    shown(rt, streams.out.bytes(), row.out, row);
+    shown(rt, streams.err.bytes(), row.err, row);
     assert_eq!(rt; status, row.status, "of {:?}", row.words);
 }
 
@@ -483,14 +491,14 @@ fn failing(rt: &impl Abort, alloc: Global, words: Words, call: usize) -> (u8, bo
     let tree = MemoryTree::new(alloc, ENTRIES, failures).expect(rt, "memory");
     let mut files = ModuleTree::new(tree, Hashing::shared());
     let mut input = MemorySource::new(UNREAD, 4096);
-    let mut out = MemorySink::new(4096);
-    let mut err = MemorySink::new(4096);
-    let status = program(
-        alloc, words, PIPES, &mut files, &mut input, &mut out, &mut err,
-    );
+    let mut streams = Streams {
+        out: MemorySink::new(4096),
+        err: MemorySink::new(4096),
+    };
+    let status = program(alloc, words, PIPES, &mut files, &mut input, &mut streams);
     assert_eq!(rt; input.rest(), UNREAD, "standard input of {:?}", words);
     let has_failed = files.tree.calls().failed().is_some();
-    (status, has_failed, !err.bytes().is_empty())
+    (status, has_failed, !streams.err.bytes().is_empty())
 }
 
 /// How many calls of a run fail in turn, each of which is reported.

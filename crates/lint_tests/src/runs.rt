@@ -3,6 +3,7 @@
 ghost use Rattle.std.specs.Prelude.{◌≡◌, false};
 
 use crate::checks::{Modules, PIPES, same_bytes, same_counts, same_number};
+use command_line::Streams;
 use hcl_scan::MemorySink;
 use module_find::Module;
 use std::alloc::{AllocError, Global};
@@ -173,9 +174,12 @@ fn sink(write: Option<usize>) -> MemorySink
 fn run(alloc: Global, given: &Given, modules: &[Governed]) -> Result<Shown, AllocError> {
     let tree = MemoryTree::new(alloc, ENTRIES, given.failures)?;
     let mut files = ModuleTree::new(tree, Hashing::shared());
-    let mut out = sink(given.write);
-    let mut err = sink(None);
-    let end = run_over(alloc, TEXT, modules, &mut files, &mut out, &mut err);
+    let mut streams = Streams {
+        out: sink(given.write),
+        err: sink(None),
+    };
+    let end = run_over(alloc, TEXT, modules, &mut files, &mut streams);
+    let Streams { out, err } = streams;
     Ok(Shown { out, err, end })
 }
 

@@ -1,6 +1,7 @@
 //! The contents of the `.tfrules`.
 
 ghost use Rattle.std.specs.Prelude.{◌≡◌, ◌++◌, ◌∷◌, [], IfOk, OnOk};
+ghost use Rattle.file_tree.specs.Unchanged.{Unchanged};
 ghost use Rattle.module_config.specs.Configs.{AreRead, IsRead};
 ghost use Rattle.module_config.specs.Inner.Reading.{AddsFile, IsTextOf};
 
@@ -42,8 +43,7 @@ fn text_of(alloc: Global, loaded: Result<Source, LoadError>) -> Result<ConfigTex
 
 /// The contents of the file with this name.
 fn read_text<T: Tree>(alloc: Global, name: &[u8], tree: &mut T) -> Result<ConfigText, AllocError>
-    ensures files { T.files tree.new ≡ T.files tree.old }
-    ensures asked { T.asked tree.new ≡ T.asked tree.old }
+    ensures unchanged { Unchanged T.Tree tree.old tree.new }
     ensures is { IfOk result (IsRead (T.files tree.old) name.now
         (T.faults tree.old) (T.faults tree.new)) }
 {
@@ -72,8 +72,7 @@ fn add_file<T: Tree>(
     files: &mut Vec<ConfigFile>,
     tree: &mut T,
 ) -> Result<(), AllocError>
-    ensures files { T.files tree.new ≡ T.files tree.old }
-    ensures asked { T.asked tree.new ≡ T.asked tree.old }
+    ensures unchanged { Unchanged T.Tree tree.old tree.new }
     ensures adds { OnOk result (AddsFile (T.files tree.old) found.name.items
         (T.faults tree.old) (T.faults tree.new) files.old.items files.new.items) }
 {
@@ -91,8 +90,7 @@ pub(crate) fn read_all<T: Tree>(
     found: Vec<Found>,
     tree: &mut T,
 ) -> Result<Vec<ConfigFile>, AllocError>
-    ensures files { T.files tree.new ≡ T.files tree.old }
-    ensures asked { T.asked tree.new ≡ T.asked tree.old }
+    ensures unchanged { Unchanged T.Tree tree.old tree.new }
     ensures are { IfOk result (λ files. AreRead (T.files tree.old) found.items files.items
         (T.faults tree.old) (T.faults tree.new)) }
 {

@@ -2,6 +2,7 @@
 
 ghost use Rattle.std.specs.Prelude.{◌≡◌, ◌&&◌, ◌++◌, ◌∷◌, [], IfOk, OnOk, flat_map, map};
 ghost use Rattle.std.specs.List.{list_any};
+ghost use Rattle.file_tree.specs.Unchanged.{Unchanged};
 ghost use Rattle.lint_config.specs.Options.{options_of};
 ghost use Rattle.module_config.specs.Configs.{AreInOrder, Configures, failure_in, file_in, noted_of};
 ghost use Rattle.module_config.specs.Governors.{ArePlaced, wants};
@@ -64,8 +65,7 @@ fn add_placed<T: Tree>(
     placed: &mut Vec<Placed>,
     tree: &mut T,
 ) -> Result<(), AllocError>
-    ensures files { T.files tree.new ≡ T.files tree.old }
-    ensures asked { T.asked tree.new ≡ T.asked tree.old }
+    ensures unchanged { Unchanged T.Tree tree.old tree.new }
     ensures adds { OnOk result (AddsPlaced (T.files tree.old) start.now one
         (T.faults tree.old) (T.faults tree.new) placed.old.items placed.new.items) }
 {
@@ -84,8 +84,7 @@ fn place_all<T: Tree>(
     modules: Vec<Module>,
     tree: &mut T,
 ) -> Result<Vec<Placed>, AllocError>
-    ensures files { T.files tree.new ≡ T.files tree.old }
-    ensures asked { T.asked tree.new ≡ T.asked tree.old }
+    ensures unchanged { Unchanged T.Tree tree.old tree.new }
     ensures are { IfOk result (λ placed. ArePlaced (T.files tree.old) start.now modules.items
         placed.items (T.faults tree.old) (T.faults tree.new)) }
 {
@@ -170,9 +169,7 @@ pub fn configure<T: Tree>(
     modules: Vec<Module>,
     tree: &mut T,
 ) -> Result<Configured, AllocError>
-    // Nothing is changed, and no change is asked for.
-    ensures files { T.files tree.new ≡ T.files tree.old }
-    ensures asked { T.asked tree.new ≡ T.asked tree.old }
+    ensures unchanged { Unchanged T.Tree tree.old tree.new }
     ensures configures { IfOk result (Configures (T.files tree.old) (options_of line) reads
         modules.items (T.faults tree.old) (T.faults tree.new)) }
 {

@@ -1,6 +1,7 @@
 //! The first folder that has an entry.
 
 ghost use Rattle.std.specs.Prelude.{◌≡◌, ◌++◌, IfErr, IfOk, map};
+ghost use Rattle.file_tree.specs.Unchanged.{Unchanged};
 ghost use Rattle.module_config.specs.Inner.Looking.{IsEntryOf, LooksFirst, LooksUp, StuckBy};
 
 use file_tree::fault::TreeFault;
@@ -19,8 +20,7 @@ pub(crate) enum Stuck {
 
 /// Whether a name exists.
 fn stands<T: Tree>(name: Vec<u8>, tree: &mut T) -> Result<bool, Stuck>
-    ensures files { T.files tree.new ≡ T.files tree.old }
-    ensures asked { T.asked tree.new ≡ T.asked tree.old }
+    ensures unchanged { Unchanged T.Tree tree.old tree.new }
     ensures ok { IfOk result (LooksUp (T.files tree.old) name.items
         (T.faults tree.old) (T.faults tree.new)) }
     ensures err { IfErr result (StuckBy (λ asked. asked ≡ name.items)
@@ -39,8 +39,7 @@ fn stands<T: Tree>(name: Vec<u8>, tree: &mut T) -> Result<bool, Stuck>
 
 /// Whether a folder has this entry.
 fn has<T: Tree>(alloc: Global, folder: &[u8], entry: &[u8], tree: &mut T) -> Result<bool, Stuck>
-    ensures files { T.files tree.new ≡ T.files tree.old }
-    ensures asked { T.asked tree.new ≡ T.asked tree.old }
+    ensures unchanged { Unchanged T.Tree tree.old tree.new }
     ensures ok { IfOk result (LooksUp (T.files tree.old) (folder.now ++ entry.now)
         (T.faults tree.old) (T.faults tree.new)) }
     ensures err { IfErr result (StuckBy (λ asked. asked ≡ folder.now ++ entry.now)
@@ -59,8 +58,7 @@ pub(crate) fn first_with<T: Tree>(
     entry: &[u8],
     tree: &mut T,
 ) -> Result<usize, Stuck>
-    ensures files { T.files tree.new ≡ T.files tree.old }
-    ensures asked { T.asked tree.new ≡ T.asked tree.old }
+    ensures unchanged { Unchanged T.Tree tree.old tree.new }
     ensures ok { IfOk result (LooksFirst (T.files tree.old) entry.now
         (map (λ folder. folder.now) folders.now) (T.faults tree.old) (T.faults tree.new)) }
     ensures err { IfErr result (StuckBy

@@ -3,6 +3,7 @@
 ghost use Rattle.std.specs.Prelude.{◌≡◌, ◌++◌, ◌∷◌, [], IfErr, IfOk, OnOk, filter, map, option_map};
 ghost use Rattle.file_tree.specs.Files.{Tells};
 ghost use Rattle.file_tree.specs.Paths.{place};
+ghost use Rattle.file_tree.specs.Unchanged.{Unchanged};
 ghost use Rattle.module_config.specs.Governs.{Governs, counted, file_at};
 ghost use Rattle.module_config.specs.Governors.{IsGovernor, IsNoted, IsPlaced, OnlyMissing, wants};
 ghost use Rattle.module_config.specs.declared.first.Stuck.TheVariants.{OutOfMemory};
@@ -65,8 +66,7 @@ fn failed_of(alloc: Global, name: &[u8], fault: TreeFault) -> Stuck
 
 /// The full path of a folder.
 fn path_of<T: Tree>(alloc: Global, folder: &[u8], tree: &mut T) -> Result<Vec<u8>, Stuck>
-    ensures files { T.files tree.new ≡ T.files tree.old }
-    ensures asked { T.asked tree.new ≡ T.asked tree.old }
+    ensures unchanged { Unchanged T.Tree tree.old tree.new }
     ensures ok { IfOk result (λ path. (T.faults tree.new ≡ T.faults tree.old)
         × Tells ((T.files tree.old).path (place folder.now)) path.items) }
     ensures err { IfErr result (StuckBy (λ asked. asked ≡ place folder.now)
@@ -174,8 +174,7 @@ fn file_over<T: Tree>(
     path: &[u8],
     tree: &mut T,
 ) -> Result<Option<Vec<u8>>, Stuck>
-    ensures files { T.files tree.new ≡ T.files tree.old }
-    ensures asked { T.asked tree.new ≡ T.asked tree.old }
+    ensures unchanged { Unchanged T.Tree tree.old tree.new }
     ensures ok { IfOk result (λ file. OnlyMissing (T.faults tree.old) (T.faults tree.new)
         × Governs (T.files tree.old) current.now path.now (option_map (λ name. name.items) file)) }
     ensures err { IfErr result (StuckBy (IsAskedIn path.now)
@@ -214,8 +213,7 @@ fn governor_over<T: Tree>(
     folder: &[u8],
     tree: &mut T,
 ) -> Result<Governor, AllocError>
-    ensures files { T.files tree.new ≡ T.files tree.old }
-    ensures asked { T.asked tree.new ≡ T.asked tree.old }
+    ensures unchanged { Unchanged T.Tree tree.old tree.new }
     ensures is { IfOk result (IsGovernor (T.files tree.old) current.now (place folder.now)
         (T.faults tree.old) (T.faults tree.new)) }
 {
@@ -244,8 +242,7 @@ pub(crate) fn governor_of<T: Tree>(
     one: &Module,
     tree: &mut T,
 ) -> Result<Governor, AllocError>
-    ensures files { T.files tree.new ≡ T.files tree.old }
-    ensures asked { T.asked tree.new ≡ T.asked tree.old }
+    ensures unchanged { Unchanged T.Tree tree.old tree.new }
     ensures is { IfOk result (IsPlaced (wants one.now) (T.files tree.old) start.now
         one.now.folder.items (T.faults tree.old) (T.faults tree.new)) }
 {

@@ -1,6 +1,7 @@
 //! Where a run begins.
 
 ghost use Rattle.std.specs.Prelude.{◌≡◌};
+ghost use Rattle.file_tree.specs.Unchanged.{Unchanged};
 ghost use Rattle.module_config.specs.Governors.{IsStart, shown_from};
 
 use file_tree::fault::TreeFault;
@@ -20,8 +21,7 @@ pub enum Start {
 impl Start {
     /// Where a run begins, if that has to be known.
     pub(crate) fn find<T: Tree>(is_needed: bool, tree: &mut T) -> Start
-        ensures files { T.files tree.new ≡ T.files tree.old }
-        ensures asked { T.asked tree.new ≡ T.asked tree.old }
+        ensures unchanged { Unchanged T.Tree tree.old tree.new }
         ensures is { IsStart (T.files tree.old) is_needed (T.faults tree.old) (T.faults tree.new)
             result }
     {

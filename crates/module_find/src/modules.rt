@@ -2,6 +2,7 @@
 
 ghost use Rattle.std.specs.Prelude.{◌≡◌, ◌&&◌, ◌++◌, ◌∷◌, [], None, Some, IfOk, IfSome, OnOk, map, string_bytes, true};
 ghost use Rattle.std.specs.List.{Contains};
+ghost use Rattle.file_tree.specs.Unchanged.{Unchanged};
 ghost use Rattle.file_tree.specs.declared.walk.Looked.{Looked};
 ghost use Rattle.module_find.specs.Inner.Adding.{AddsModule, TakesFound, told_by};
 ghost use Rattle.module_find.specs.Modules.{AreModules, IsModule, IsModuleOf, fault_by, is_module_file, told_as};
@@ -148,8 +149,7 @@ fn module_in<T: Tree>(
     looked: &mut Vec<Looked>,
     tree: &mut T,
 ) -> Result<Sorted, AllocError>
-    ensures files { T.files tree.new ≡ T.files tree.old }
-    ensures asked { T.asked tree.new ≡ T.asked tree.old }
+    ensures unchanged { Unchanged T.Tree tree.old tree.new }
     ensures left { (l : Looked) → Contains looked.new.items l → Contains looked.old.items l }
     ensures is { IfOk result (λ s. IsModule (T.files tree.old) looked.old.items folder.items
         s.module s.faults.items (T.faults tree.old) (T.faults tree.new)) }
@@ -177,8 +177,7 @@ impl Modules {
         looked: &mut Vec<Looked>,
         tree: &mut T,
     ) -> Result<(), AllocError>
-        ensures files { T.files tree.new ≡ T.files tree.old }
-        ensures asked { T.asked tree.new ≡ T.asked tree.old }
+        ensures unchanged { Unchanged T.Tree tree.old tree.new }
         ensures left { (l : Looked) → Contains looked.new.items l → Contains looked.old.items l }
         ensures adds { OnOk result (AddsModule (T.files tree.old) looked.old.items
             folder.name.items self.old self.new (T.faults tree.old) (T.faults tree.new)) }
@@ -202,9 +201,7 @@ pub fn modules_of<T: Tree>(
     mut looked: Vec<Looked>,
     tree: &mut T,
 ) -> Result<Modules, AllocError>
-    // Nothing is changed, and no change is asked for.
-    ensures files { T.files tree.new ≡ T.files tree.old }
-    ensures asked { T.asked tree.new ≡ T.asked tree.old }
+    ensures unchanged { Unchanged T.Tree tree.old tree.new }
     // If the device tells the faults of its calls, each reported fault is one of these, or that of a name.
     ensures are { IfOk result (λ all. AreModules (T.files tree.old) looked.items folders.items
         all.modules.items all.faults.items (T.faults tree.old) (T.faults tree.new)) }

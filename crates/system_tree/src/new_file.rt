@@ -21,13 +21,36 @@ pub struct Texts<'a> {
     pub new: &'a [u8],
 }
 
-/// A file that is to be replaced.
-#[derive(Drop)]
-pub struct Old<'a> {
-    /// By the front of its folder.
+/// A file that was read: by which path, and which file it was.
+#[derive(Clone, Copy)]
+pub struct Origin<'a> {
     pub path: &'a str,
-    pub bytes: &'a [u8],
-    pub metadata: Metadata,
+    pub identity: Identity,
+}
+
+/// A file that is to be replaced, open for reading and writing.
+#[derive(Drop)]
+struct Old<'a> {
+    /// By the front of its folder.
+    path: &'a str,
+    bytes: &'a [u8],
+    file: File,
+    metadata: Metadata,
+}
+
+impl Old<'_> {
+    /// Whether it has its old bytes still.
+    fn has_its_bytes(&mut self) -> bool {
+        has_bytes(&mut self.file, self.bytes, self.metadata.len())
+    }
+
+    /// Whether the folder has it still, by its name, as it was opened.
+    fn is_there(&self, rt: &HostRuntime) -> bool {
+        match patient::symlink_metadata(rt, self.path) {
+            Ok(now) => is_same(&now, &self.metadata),
+            Err(_) => false,
+        }
+    }
 }
 
 /// What a new file has of the old one.
@@ -98,33 +121,24 @@ fn is_same(one: &Metadata, other: &Metadata) -> bool {
         && one.ctime_nsec() == other.ctime_nsec()
 }
 
-/// Whether the folder has the old file still, by its name, as it was opened.
-fn is_there(rt: &HostRuntime, old: &Old<'_>) -> bool {
-    match patient::symlink_metadata(rt, old.path) {
-        Ok(now) => is_same(&now, &old.metadata),
-        Err(_) => false,
-    }
-}
-
 /// Fills a new file and renames it over the old one, if that is unchanged. The old name is asked last: what another
 /// program saves after that is lost.
 fn put(
     rt: &HostRuntime,
     beside: &Beside,
     folder: &Folder,
-    file: &mut File,
-    old: &Old<'_>,
+    old: &mut Old<'_>,
     new: &[u8],
     sync: bool,
 ) -> Result<Replaced, TreeFault> {
     let has_group = fill(beside, folder, old, new, sync)?;
-    if !has_bytes(file, old.bytes, old.metadata.len()) {
+    if !old.has_its_bytes() {
         return Err(TreeFault::Changed);
     }
     if !beside.is_there(rt) {
         return Err(TreeFault::NotWritten);
     }
-    if !is_there(rt, old) {
+    if !old.is_there(rt) {
         return Err(TreeFault::Changed);
     }
     if !beside.put_over(rt, old.path) {
@@ -141,14 +155,13 @@ fn put(
 fn replace_by_new(
     rt: &HostRuntime,
     folder: &Folder,
-    file: &mut File,
-    old: &Old<'_>,
+    old: &mut Old<'_>,
     new: &[u8],
     sync: bool,
     began: Option<SystemTime>,
 ) -> Result<Replaced, TreeFault> {
     let beside = make(rt, folder, began)?;
-    match put(rt, &beside, folder, file, old, new, sync) {
+    match put(rt, &beside, folder, old, new, sync) {
         Ok(_) if sync && !folder.sync() => Err(TreeFault::NotSynced),
         Ok(replaced) => Ok(replaced),
         Err(fault) => {
@@ -160,50 +173,54 @@ fn replace_by_new(
 
 /// Opens the file that was read, by its path. A pipe in its place isn't waited for where it is opened for both reading
 /// and writing.
-fn open_old(rt: &HostRuntime, path: &str, read: Identity) -> Result<(File, Metadata), TreeFault> {
-    let Ok(file) = OpenOptions::new().read(true).write(true).open(rt, path) else {
+fn open_old(rt: &HostRuntime, origin: Origin<'_>) -> Result<(File, Metadata), TreeFault> {
+    let Ok(file) = OpenOptions::new()
+        .read(true)
+        .write(true)
+        .open(rt, origin.path)
+    else {
         return Err(TreeFault::NotWritable);
     };
     match patient::open_metadata(&file) {
-        Ok(metadata) if identity_of(&metadata) == read => Ok((file, metadata)),
+        Ok(metadata) if identity_of(&metadata) == origin.identity => Ok((file, metadata)),
         Ok(_) => Err(TreeFault::Changed),
         Err(_) => Err(TreeFault::Unreadable),
     }
 }
 
-/// Replaces the file of a path in its folder, if it is the one that was read and has its old bytes still. `began` is
-/// when the run did. That the folder has it is asked before anything is made there: so the owner of the old file is
-/// given the new one only where he has a file of the same bytes already.
+/// Replaces a file in its folder, if it is the one that was read and has its old bytes still. `began` is when the run
+/// did. That the folder has it is asked before anything is made there: so the owner of the old file is given the new one
+/// only where he has a file of the same bytes already.
 pub fn replace(
     rt: &HostRuntime,
     folder: &Folder,
-    path: &str,
-    read: Identity,
+    origin: Origin<'_>,
     texts: Texts<'_>,
     writing: Writing,
     began: Option<SystemTime>,
 ) -> Result<Replaced, TreeFault> {
     let front = folder.front();
-    let name = parted(path).1;
-    let Ok(path_held) = format!(in rt.alloc(); "{front}{name}") else {
+    let name = parted(origin.path).1;
+    let Ok(path) = format!(in rt.alloc(); "{front}{name}") else {
         return Err(TreeFault::OutOfMemory);
     };
-    let (mut file, metadata) = open_old(rt, path, read)?;
-    let old = Old {
-        path: path_held.as_str(),
+    let (file, metadata) = open_old(rt, origin)?;
+    let mut old = Old {
+        path: path.as_str(),
         bytes: texts.old,
+        file,
         metadata,
     };
-    if !has_rest(&mut file, old.bytes, old.metadata.len()) || !is_there(rt, &old) {
+    if !has_rest(&mut old.file, old.bytes, old.metadata.len()) || !old.is_there(rt) {
         return Err(TreeFault::Changed);
     }
-    match replace_by_new(rt, folder, &mut file, &old, texts.new, writing.sync, began) {
+    match replace_by_new(rt, folder, &mut old, texts.new, writing.sync, began) {
         Err(TreeFault::NoneBeside | TreeFault::OwnerNotKept | TreeFault::NotReplaced)
             if writing.in_place => {
-            if !has_bytes(&mut file, old.bytes, old.metadata.len()) || !is_there(rt, &old) {
+            if !old.has_its_bytes() || !old.is_there(rt) {
                 return Err(TreeFault::Changed);
             }
-            write_over(&mut file, texts.old, texts.new, writing.sync)?;
+            write_over(&mut old.file, texts.old, texts.new, writing.sync)?;
             Ok(Replaced::Kept)
         }
         done => done,

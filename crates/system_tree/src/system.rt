@@ -6,7 +6,7 @@ ghost use Rattle.file_tree.specs.Files.{silent};
 
 use crate::folder::{Folder, identity_of};
 use crate::link::{parted, real_path};
-use crate::new_file::{Texts, replace};
+use crate::new_file::{Origin, Texts, replace};
 use crate::patient;
 use crate::shared::SharedFiles;
 use file_tree::fault::TreeFault;
@@ -378,15 +378,11 @@ impl SystemTree {
         texts: Texts<'_>,
         writing: Writing,
     ) -> Result<Replaced, TreeFault> {
-        let done = replace(
-            &self.rt,
-            &folder,
+        let origin = Origin {
             path,
-            opened.identity,
-            texts,
-            writing,
-            self.began,
-        );
+            identity: opened.identity,
+        };
+        let done = replace(&self.rt, &folder, origin, texts, writing, self.began);
         self.held = Some(folder);
         done
     }

@@ -96,25 +96,33 @@ fn is_own(blocks: &[OwnBlock<'_>], next: usize, number: usize, reference: Refere
     begins_before(block, number, name)
 }
 
+/// The blocks of variables, in order.
+#[derive(Clone, Copy)]
+struct Blocks<'b, 's> {
+    all: &'b [OwnBlock<'s>],
+    /// How many of them end at or before the token that is looked at.
+    passed: usize,
+}
+
 /// Puts the reference that begins with a token into the set, unless it stands in the block of its own variable. Its text
 /// is spelled in the room of another's.
 fn put(
     alloc: Global,
     tokens: &Tokens<'_>,
-    blocks: &[OwnBlock<'_>],
-    next: usize,
+    blocks: Blocks<'_, '_>,
     word: Seen<'_>,
     text: &mut String,
     into: &mut TextSet,
 ) -> Result<(), AllocError>
     requires within { word.number < length tokens.now.tokens }
     requires small { word.number + 1 < 2 ^ 64 }
-    requires apart { Apart 0 (map own_of blocks.now) }
-    requires passed { ArePassed (map own_of blocks.now) next word.number }
-    requires next { next ≤ length blocks.now }
-    requires ahead { IsAhead blocks.now next word.number }
+    requires apart { Apart 0 (map own_of blocks.all.now) }
+    requires passed { ArePassed (map own_of blocks.all.now) blocks.passed word.number }
+    requires next { blocks.passed ≤ length blocks.all.now }
+    requires ahead { IsAhead blocks.all.now blocks.passed word.number }
     ensures ok { OnOk result (into.new
-        ≡ insert_all bytes_eq into.old (unless_own (map own_of blocks.now) word.entry.number
+        ≡ insert_all bytes_eq into.old (unless_own (map own_of blocks.entry.all.now)
+        word.entry.number
         (reference_at (numbered_of word.entry ∷ seen_from tokens.now.tokens
         (word.entry.number + 1))))) }
     ensures err { OnErr result (into.new ≡ into.old) }
@@ -122,7 +130,7 @@ fn put(
     let Some(reference) = reference_at(tokens, word) else {
         return Ok(());
     };
-    if is_own(blocks, next, word.number, reference) {
+    if is_own(blocks.all, blocks.passed, word.number, reference) {
         return Ok(());
     }
     spell(reference, text)?;
@@ -184,7 +192,11 @@ pub fn collect(
             kind: token.kind,
             text: token.text,
         };
-        put(alloc, tokens, blocks, passed_blocks, word, &mut text, into)?;
+        let blocks = Blocks {
+            all: blocks,
+            passed: passed_blocks,
+        };
+        put(alloc, tokens, blocks, word, &mut text, into)?;
     }
     Ok(())
 }

@@ -6,6 +6,7 @@ ghost use Rattle.std.specs.Prelude.{◌≡◌, false};
 mod progress_line;
 
 use crate::progress_line::ProgressLine;
+use command_line::Streams;
 use hcl_scan::{ByteSink, FromRead, ToWrite};
 use std::process::ExitCode;
 use system_tree::patient::Patient;
@@ -17,10 +18,12 @@ use tree_command::run::program;
 const NO_WORDS: u8 = 4;
 
 fn main(rt: HostRuntime) -> ExitCode {
-    let mut out = ToWrite::new(Patient::new(rt.stdout()));
-    let mut err = ToWrite::new(Patient::new(rt.stderr()));
+    let mut streams = Streams {
+        out: ToWrite::new(Patient::new(rt.stdout())),
+        err: ToWrite::new(Patient::new(rt.stderr())),
+    };
     let status = match process_words(&rt) {
-        Ok(words) if !words.is_empty() => run_over(&rt, words.as_slice(), &mut out, &mut err),
+        Ok(words) if !words.is_empty() => run_over(&rt, words.as_slice(), &mut streams),
         _ => NO_WORDS,
     };
     ExitCode::from(status)
@@ -30,11 +33,10 @@ fn main(rt: HostRuntime) -> ExitCode {
 fn run_over<O: ByteSink, E: ByteSink>(
     rt: &HostRuntime,
     words: &[Vec<u8>],
-    out: &mut O,
-    err: &mut E,
+    streams: &mut Streams<O, E>,
 ) -> u8
-    requires out { O.failed out.old ≡ false }
-    requires err { E.failed err.old ≡ false }
+    requires out { O.failed streams.old.out ≡ false }
+    requires err { E.failed streams.old.err ≡ false }
 {
     let Ok(words) = borrowed_words(rt.alloc(), words) else {
         return NO_WORDS;
@@ -54,7 +56,6 @@ fn run_over<O: ByteSink, E: ByteSink>(
         &mut tree,
         &mut progress,
         &mut input,
-        out,
-        err,
+        streams,
     )
 }

@@ -3,6 +3,7 @@
 
 ghost use Rattle.std.specs.Prelude.{◌≡◌, false};
 
+use command_line::Streams;
 use hcl_scan::{ByteSink, FromRead, ToWrite};
 use lint_command::run::program;
 use std::hash::RandomState;
@@ -19,10 +20,12 @@ use tree_lint::written::Terminals;
 const NO_WORDS: u8 = 1;
 
 fn main(rt: HostRuntime) -> ExitCode {
-    let mut out = ToWrite::new(Patient::new(rt.stdout()));
-    let mut err = ToWrite::new(Patient::new(rt.stderr()));
+    let mut streams = Streams {
+        out: ToWrite::new(Patient::new(rt.stdout())),
+        err: ToWrite::new(Patient::new(rt.stderr())),
+    };
     let status = match process_words(&rt) {
-        Ok(words) if !words.is_empty() => lint(&rt, words.as_slice(), &mut out, &mut err),
+        Ok(words) if !words.is_empty() => lint(&rt, words.as_slice(), &mut streams),
         _ => NO_WORDS,
     };
     ExitCode::from(status)
@@ -33,11 +36,10 @@ fn main(rt: HostRuntime) -> ExitCode {
 fn lint<O: ByteSink, E: ByteSink>(
     rt: &HostRuntime,
     words: &[Vec<u8>],
-    out: &mut O,
-    err: &mut E,
+    streams: &mut Streams<O, E>,
 ) -> u8
-    requires out { O.failed out.old ≡ false }
-    requires err { E.failed err.old ≡ false }
+    requires out { O.failed streams.old.out ≡ false }
+    requires err { E.failed streams.old.err ≡ false }
 {
     let Ok(words) = borrowed_words(rt.alloc(), words) else {
         return NO_WORDS;
@@ -60,7 +62,6 @@ fn lint<O: ByteSink, E: ByteSink>(
         terminals,
         &mut files,
         &mut input,
-        out,
-        err,
+        streams,
     )
 }

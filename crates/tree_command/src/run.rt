@@ -1,7 +1,8 @@
 //! A run over any tree and any devices.
 
 ghost use Rattle.std.specs.Prelude.{◌≡◌, ◌||◌, ℕ, List, false, IfOk, Some, if◌then◌else◌, map};
-ghost use Rattle.command_line.specs.Rows.{Shows, Took, end_of, writer};
+ghost use Rattle.command_line.specs.Rows.{Shows, Took, end_of_streams, writer};
+ghost use Rattle.file_tree.specs.Unchanged.{Unchanged};
 ghost use Rattle.tree_command.specs.Ends.{EndsAsked, FormatsNamed, FormatsOr, IsEnd, IsEndOf, IsPartOf, ReadsAndFormats, ShowsUsage, words_at_end};
 ghost use Rattle.tree_command.specs.Asked.{asking_of, part_told};
 ghost use Rattle.tree_command.specs.Formatter.{formatter};
@@ -15,7 +16,7 @@ use crate::formatter_words::formatter_words;
 use crate::options::{TreeOptions, options};
 use crate::part::{Part, part_of};
 use crate::usage::{BAD_JOBS, BAD_PART, HELP, NAMES_TWICE, TWO_MODES, Usage, VERSION};
-use command_line::Program;
+use command_line::{Program, Streams};
 use file_tree::once::each_file_once;
 use file_tree::tree::{Tree, WritableTree};
 use file_tree::walk::{Found, find};
@@ -27,7 +28,7 @@ use tree_format::run::{Ran, run_over};
 use tree_format::tally::tell_tally;
 use tree_words::operands::{operands_in, operands_of, read_names};
 use tree_words::pick::pick;
-use tree_words::words::words_of;
+use tree_words::words::{Line, words_of};
 use tree_words::wrong::bad_line_text;
 
 /// The status of a run in which something failed.
@@ -54,9 +55,7 @@ fn find_part<T: Tree>(
     operands: &[&[u8]],
     tree: &mut T,
 ) -> Result<Vec<Found>, AllocError>
-    // Nothing is changed.
-    ensures files { T.files tree.new ≡ T.files tree.old }
-    ensures asked { T.asked tree.new ≡ T.asked tree.old }
+    ensures unchanged { Unchanged T.Tree tree.old tree.new }
     ensures finds { IfOk result
         (λ found. IsPartOf (T.files tree.old) (T.faults tree.old) (T.faults tree.new)
         (part_told part.entry) (map (λ operand. operand.now) operands.now) found.items) }
@@ -66,17 +65,27 @@ fn find_part<T: Tree>(
     pick(alloc, found, part.shard)
 }
 
+/// What a run does.
+#[derive(Clone, Copy)]
+struct Job<'p> {
+    /// Nothing is said of the run as a whole.
+    quiet: bool,
+    mode: Mode,
+    /// The files of which it takes its part.
+    part: Part<'p>,
+}
+
 /// Says the last words of a run, and gives its status.
-fn finish<O: ByteSink, E: ByteSink>(quiet: bool, mode: Mode, ran: &Ran, out: &O, err: &mut E) -> u8
+fn finish<O: ByteSink, E: ByteSink>(job: Job<'_>, ran: &Ran, out: &O, err: &mut E) -> u8
     requires err { E.failed err.old ≡ false }
     ensures took { Took (writer E.ByteSink err.old err.new)
-        (words_at_end quiet mode (O.failed out.now) ran.now.tally) }
+        (words_at_end job.entry.quiet job.entry.mode (O.failed out.now) ran.now.tally) }
     ensures exit { result ≡ (if O.failed out.now || E.failed err.new then 4 else ran.now.status) }
 {
-    if quiet || out.has_failed() {
+    if job.quiet || out.has_failed() {
         return formatter().finish(out, err, ran.status);
     }
-    match tell_tally(err, mode, &ran.tally) {
+    match tell_tally(err, job.mode, &ran.tally) {
         Ok(()) => ran.status,
         Err(_) => FAILURE,
     }
@@ -86,35 +95,33 @@ fn finish<O: ByteSink, E: ByteSink>(quiet: bool, mode: Mode, ran: &Ran, out: &O,
 #[tactic(auto, using(tree_format::proofs::KeptFormatLemmas::kept_same, tree_format::proofs::KeptFormatLemmas::kept_still, tree_format::proofs::KeptFormatLemmas::kept_from))]
 fn run<T: WritableTree, P: Progress, O: ByteSink, E: ByteSink>(
     alloc: Global,
-    quiet: bool,
-    mode: Mode,
-    part: Part<'_>,
+    job: Job<'_>,
     operands: &[&[u8]],
     tree: &mut T,
     progress: &mut P,
-    out: &mut O,
-    err: &mut E,
+    streams: &mut Streams<O, E>,
 ) -> u8
-    requires out { O.failed out.old ≡ false }
-    requires err { E.failed err.old ≡ false }
+    requires out { O.failed streams.old.out ≡ false }
+    requires err { E.failed streams.old.err ≡ false }
     // However the run goes, each file is then as it was, or, where files are to be written, it has the format of its bytes.
     ensures kept { (name : List ℕ)
-        → Kept mode ((T.files tree.old).told name) ((T.files tree.new).told name) }
-    ensures ends { FormatsOr (P.shows progress.old) quiet mode (part_told part.entry)
+        → Kept job.entry.mode ((T.files tree.old).told name) ((T.files tree.new).told name) }
+    ensures ends { FormatsOr (P.shows progress.old) job.entry.quiet job.entry.mode
+        (part_told job.entry.part)
         (map (λ operand. operand.now) operands.now) (state_of T.Tree tree.old)
         (state_of T.Tree tree.new)
-        (end_of O.ByteSink out.old out.new E.ByteSink err.old err.new result) }
+        (end_of_streams O.ByteSink E.ByteSink streams.old streams.new result) }
 {
-    match find_part(alloc, part, operands, tree) {
+    match find_part(alloc, job.part, operands, tree) {
         Ok(found) => {
-            let ran = run_over(alloc, mode, found.as_slice(), tree, progress, out, err);
+            let ran = run_over(alloc, job.mode, found.as_slice(), tree, progress, streams);
             progress.end();
-            if err.has_failed() {
+            if streams.err.has_failed() {
                 return FAILURE;
             }
-            finish(quiet, mode, &ran, out, err)
+            finish(job, &ran, &streams.out, &mut streams.err)
         }
-        Err(_) => formatter().tell_out_of_memory(out, err),
+        Err(_) => streams.tell_out_of_memory(&formatter()),
     }
 }
 
@@ -122,45 +129,34 @@ fn run<T: WritableTree, P: Progress, O: ByteSink, E: ByteSink>(
 #[tactic(auto, using(tree_format::proofs::KeptFormatLemmas::kept_same, tree_format::proofs::KeptFormatLemmas::kept_still, tree_format::proofs::KeptFormatLemmas::kept_from))]
 fn run_null<T: WritableTree, P: Progress, R: ByteSource, O: ByteSink, E: ByteSink>(
     alloc: Global,
-    quiet: bool,
-    mode: Mode,
-    part: Part<'_>,
+    job: Job<'_>,
     input: &mut R,
     tree: &mut T,
     progress: &mut P,
-    out: &mut O,
-    err: &mut E,
+    streams: &mut Streams<O, E>,
 ) -> u8
     requires input { R.failed input.old ≡ false }
-    requires out { O.failed out.old ≡ false }
-    requires err { E.failed err.old ≡ false }
+    requires out { O.failed streams.old.out ≡ false }
+    requires err { E.failed streams.old.err ≡ false }
     // However the run goes, each file is then as it was, or, where files are to be written, it has the format of its bytes.
     ensures kept { (name : List ℕ)
-        → Kept mode ((T.files tree.old).told name) ((T.files tree.new).told name) }
-    ensures ends { ReadsAndFormats (P.shows progress.old) quiet mode (part_told part.entry)
-        (R.failed input.new) (R.left input.old) (state_of T.Tree tree.old) (state_of T.Tree tree.new)
-        (end_of O.ByteSink out.old out.new E.ByteSink err.old err.new result) }
+        → Kept job.entry.mode ((T.files tree.old).told name) ((T.files tree.new).told name) }
+    ensures ends { ReadsAndFormats (P.shows progress.old) job.entry.quiet job.entry.mode
+        (part_told job.entry.part)
+        (R.failed input.new) (R.left input.old)
+        (state_of T.Tree tree.old) (state_of T.Tree tree.new)
+        (end_of_streams O.ByteSink E.ByteSink streams.old streams.new result) }
 {
     let read = read_names(alloc, input);
     if input.has_failed() {
-        return formatter().tell(out, err, READ_FAILED, FAILURE);
+        return streams.tell(&formatter(), READ_FAILED, FAILURE);
     }
     let Ok(names) = read else {
-        return formatter().tell_out_of_memory(out, err);
+        return streams.tell_out_of_memory(&formatter());
     };
     match operands_in(alloc, names.as_slice()) {
-        Ok(operands) => run(
-            alloc,
-            quiet,
-            mode,
-            part,
-            operands.as_slice(),
-            tree,
-            progress,
-            out,
-            err,
-        ),
-        Err(_) => formatter().tell_out_of_memory(out, err),
+        Ok(operands) => run(alloc, job, operands.as_slice(), tree, progress, streams),
+        Err(_) => streams.tell_out_of_memory(&formatter()),
     }
 }
 
@@ -168,50 +164,42 @@ fn run_null<T: WritableTree, P: Progress, R: ByteSource, O: ByteSink, E: ByteSin
 #[tactic(auto, using(tree_format::proofs::KeptFormatLemmas::kept_same, tree_format::proofs::KeptFormatLemmas::kept_still, tree_format::proofs::KeptFormatLemmas::kept_from))]
 fn run_named<T: WritableTree, P: Progress, O: ByteSink, E: ByteSink>(
     alloc: Global,
-    quiet: bool,
-    mode: Mode,
-    part: Part<'_>,
+    job: Job<'_>,
     names: &[&[u8]],
     tree: &mut T,
     progress: &mut P,
-    out: &mut O,
-    err: &mut E,
+    streams: &mut Streams<O, E>,
 ) -> u8
-    requires out { O.failed out.old ≡ false }
-    requires err { E.failed err.old ≡ false }
+    requires out { O.failed streams.old.out ≡ false }
+    requires err { E.failed streams.old.err ≡ false }
     // However the run goes, each file is then as it was, or, where files are to be written, it has the format of its bytes.
     ensures kept { (name : List ℕ)
-        → Kept mode ((T.files tree.old).told name) ((T.files tree.new).told name) }
-    ensures ends { FormatsNamed (P.shows progress.old) quiet mode (part_told part.entry)
+        → Kept job.entry.mode ((T.files tree.old).told name) ((T.files tree.new).told name) }
+    ensures ends { FormatsNamed (P.shows progress.old) job.entry.quiet job.entry.mode
+        (part_told job.entry.part)
         (map (λ name. name.now) names.now) (state_of T.Tree tree.old) (state_of T.Tree tree.new)
-        (end_of O.ByteSink out.old out.new E.ByteSink err.old err.new result) }
+        (end_of_streams O.ByteSink E.ByteSink streams.old streams.new result) }
 {
     match operands_of(alloc, names) {
-        Ok(operands) => run(
-            alloc,
-            quiet,
-            mode,
-            part,
-            operands.as_slice(),
-            tree,
-            progress,
-            out,
-            err,
-        ),
-        Err(_) => formatter().tell_out_of_memory(out, err),
+        Ok(operands) => run(alloc, job, operands.as_slice(), tree, progress, streams),
+        Err(_) => streams.tell_out_of_memory(&formatter()),
     }
 }
 
 /// Says of a line that is none of this program's which word is wrong, and what the lines are.
-fn bad_line<O: ByteSink, E: ByteSink>(alloc: Global, words: &[&str], out: &mut O, err: &mut E) -> u8
-    requires out { O.failed out.old ≡ false }
-    requires err { E.failed err.old ≡ false }
+fn bad_line<O: ByteSink, E: ByteSink>(
+    alloc: Global,
+    words: &[&str],
+    streams: &mut Streams<O, E>,
+) -> u8
+    requires out { O.failed streams.old.out ≡ false }
+    requires err { E.failed streams.old.err ≡ false }
     ensures { ShowsUsage (map (λ word. word.now) words.now) BadLine
-        (end_of O.ByteSink out.old out.new E.ByteSink err.old err.new result) }
+        (end_of_streams O.ByteSink E.ByteSink streams.old streams.new result) }
 {
     match bad_line_text(alloc, &formatter_words(), words) {
-        Ok(text) => formatter().tell_bytes(out, err, text.as_slice(), 2),
-        Err(_) => formatter().tell_out_of_memory(out, err),
+        Ok(text) => streams.tell_bytes(&formatter(), text.as_slice(), 2),
+        Err(_) => streams.tell_out_of_memory(&formatter()),
     }
 }
 
@@ -220,23 +208,22 @@ fn say<O: ByteSink, E: ByteSink>(
     alloc: Global,
     words: &[&str],
     usage: Usage,
-    out: &mut O,
-    err: &mut E,
+    streams: &mut Streams<O, E>,
 ) -> u8
-    requires out { O.failed out.old ≡ false }
-    requires err { E.failed err.old ≡ false }
+    requires out { O.failed streams.old.out ≡ false }
+    requires err { E.failed streams.old.err ≡ false }
     ensures { ShowsUsage (map (λ word. word.now) words.now) usage
-        (end_of O.ByteSink out.old out.new E.ByteSink err.old err.new result) }
+        (end_of_streams O.ByteSink E.ByteSink streams.old streams.new result) }
 {
     match usage {
-        Usage::Help => formatter().deliver(out, err, HELP, 0),
-        Usage::Version => formatter().deliver(out, err, VERSION, 0),
-        Usage::BadLine => bad_line(alloc, words, out, err),
-        Usage::TwoModes => formatter().tell(out, err, TWO_MODES, 2),
-        Usage::BadPart => formatter().tell(out, err, BAD_PART, 2),
-        Usage::BadJobs => formatter().tell(out, err, BAD_JOBS, 2),
-        Usage::NamesTwice => formatter().tell(out, err, NAMES_TWICE, 2),
-        Usage::OutOfMemory => formatter().tell_out_of_memory(out, err),
+        Usage::Help => streams.deliver(&formatter(), HELP, 0),
+        Usage::Version => streams.deliver(&formatter(), VERSION, 0),
+        Usage::BadLine => bad_line(alloc, words, streams),
+        Usage::TwoModes => streams.tell(&formatter(), TWO_MODES, 2),
+        Usage::BadPart => streams.tell(&formatter(), BAD_PART, 2),
+        Usage::BadJobs => streams.tell(&formatter(), BAD_JOBS, 2),
+        Usage::NamesTwice => streams.tell(&formatter(), NAMES_TWICE, 2),
+        Usage::OutOfMemory => streams.tell_out_of_memory(&formatter()),
     }
 }
 
@@ -248,66 +235,66 @@ fn run_asked<T: WritableTree, P: Progress, R: ByteSource, O: ByteSink, E: ByteSi
     tree: &mut T,
     progress: &mut P,
     input: &mut R,
-    out: &mut O,
-    err: &mut E,
+    streams: &mut Streams<O, E>,
 ) -> u8
     requires input { R.failed input.old ≡ false }
-    requires out { O.failed out.old ≡ false }
-    requires err { E.failed err.old ≡ false }
+    requires out { O.failed streams.old.out ≡ false }
+    requires err { E.failed streams.old.err ≡ false }
     // However the run goes, each file is then as it was, or, where files are to be written, it has the format of its bytes.
     ensures kept { (name : List ℕ)
         → Kept options.now.mode ((T.files tree.old).told name) ((T.files tree.new).told name) }
     // Standard input is read only for names.
     ensures unread { options.now.given.null ≡ false → input.new ≡ input.old }
     ensures ends { EndsAsked (P.shows progress.old) (asking_of options.now)
-        (R.failed input.new) (R.left input.old) (state_of T.Tree tree.old) (state_of T.Tree tree.new)
-        (end_of O.ByteSink out.old out.new E.ByteSink err.old err.new result) }
+        (R.failed input.new) (R.left input.old)
+        (state_of T.Tree tree.old) (state_of T.Tree tree.new)
+        (end_of_streams O.ByteSink E.ByteSink streams.old streams.new result) }
 {
     let given = &options.given;
-    let quiet = given.quiet;
-    let mode = options.mode;
-    let part = part_of(options);
+    let job = Job {
+        quiet: given.quiet,
+        mode: options.mode,
+        part: part_of(options),
+    };
     if given.null {
-        return run_null(alloc, quiet, mode, part, input, tree, progress, out, err);
+        return run_null(alloc, job, input, tree, progress, streams);
     }
-    let names = given.names.as_slice();
-    run_named(alloc, quiet, mode, part, names, tree, progress, out, err)
+    run_named(alloc, job, given.names.as_slice(), tree, progress, streams)
 }
 
 /// The program of words that are texts, and names beside them.
 #[tactic(auto, using(tree_format::proofs::KeptFormatLemmas::safe_same, tree_format::proofs::KeptFormatLemmas::safe_kept))]
 fn run_line<'w, T: WritableTree, P: Progress, R: ByteSource, O: ByteSink, E: ByteSink>(
     alloc: Global,
-    words: &'w [&'w str],
-    others: &'w [&'w [u8]],
+    line: Line<'w>,
     tree: &mut T,
     progress: &mut P,
     input: &mut R,
-    out: &mut O,
-    err: &mut E,
+    streams: &mut Streams<O, E>,
 ) -> u8
     requires input { R.failed input.old ≡ false }
-    requires out { O.failed out.old ≡ false }
-    requires err { E.failed err.old ≡ false }
+    requires out { O.failed streams.old.out ≡ false }
+    requires err { E.failed streams.old.err ≡ false }
     // However the run goes, each file is then as it was, or has the format of its bytes.
     ensures safe { (name : List ℕ)
         → IsSafe ((T.files tree.old).told name) ((T.files tree.new).told name) }
     // It has its format only where the words ask for that.
-    ensures kept { (mode : Mode) → mode_of_texts (map (λ word. word.now) words.now) ≡ Some mode
+    ensures kept { (mode : Mode)
+        → mode_of_texts (map (λ word. word.now) line.entry.texts.now) ≡ Some mode
         → (name : List ℕ) → Kept mode ((T.files tree.old).told name)
         ((T.files tree.new).told name) }
     // Standard input is read only for names.
-    ensures unread { reads_names (asking_of_texts (map (λ word. word.now) words.now)
-        (map (λ name. name.now) others.now)) ≡ false → input.new ≡ input.old }
+    ensures unread { reads_names (asking_of_texts (map (λ word. word.now) line.entry.texts.now)
+        (map (λ name. name.now) line.entry.others.now)) ≡ false → input.new ≡ input.old }
     // What was looked at and said, and with which status it ends.
-    ensures ends { IsEndOf (P.shows progress.old) (map (λ word. word.now) words.now)
-        (map (λ name. name.now) others.now) (R.failed input.new) (R.left input.old) (state_of T.Tree tree.old)
-        (state_of T.Tree tree.new)
-        (end_of O.ByteSink out.old out.new E.ByteSink err.old err.new result) }
+    ensures ends { IsEndOf (P.shows progress.old) (map (λ word. word.now) line.entry.texts.now)
+        (map (λ name. name.now) line.entry.others.now) (R.failed input.new) (R.left input.old)
+        (state_of T.Tree tree.old) (state_of T.Tree tree.new)
+        (end_of_streams O.ByteSink E.ByteSink streams.old streams.new result) }
 {
-    match options(alloc, words, others) {
-        Ok(options) => run_asked(alloc, &options, tree, progress, input, out, err),
-        Err(usage) => say(alloc, words, usage, out, err),
+    match options(alloc, line.texts, line.others) {
+        Ok(options) => run_asked(alloc, &options, tree, progress, input, streams),
+        Err(usage) => say(alloc, line.texts, usage, streams),
     }
 }
 
@@ -319,12 +306,11 @@ pub fn program<T: WritableTree, P: Progress, R: ByteSource, O: ByteSink, E: Byte
     tree: &mut T,
     progress: &mut P,
     input: &mut R,
-    out: &mut O,
-    err: &mut E,
+    streams: &mut Streams<O, E>,
 ) -> u8
     requires input { R.failed input.old ≡ false }
-    requires out { O.failed out.old ≡ false }
-    requires err { E.failed err.old ≡ false }
+    requires out { O.failed streams.old.out ≡ false }
+    requires err { E.failed streams.old.err ≡ false }
     // However the run goes, each file is then as it was, or has the format of its bytes.
     ensures safe { (name : List ℕ)
         → IsSafe ((T.files tree.old).told name) ((T.files tree.new).told name) }
@@ -337,20 +323,16 @@ pub fn program<T: WritableTree, P: Progress, R: ByteSource, O: ByteSink, E: Byte
         → input.new ≡ input.old }
     // What was looked at and said, and with which status it ends.
     ensures ends { IsEnd (P.shows progress.old) (map (λ word. word.now) words.now)
-        (R.failed input.new) (R.left input.old) (state_of T.Tree tree.old) (state_of T.Tree tree.new)
-        (end_of O.ByteSink out.old out.new E.ByteSink err.old err.new result) }
+        (R.failed input.new) (R.left input.old)
+        (state_of T.Tree tree.old) (state_of T.Tree tree.new)
+        (end_of_streams O.ByteSink E.ByteSink streams.old streams.new result) }
 {
     let Ok(words) = words_of(alloc, "tffmt-all", words) else {
-        return formatter().tell_out_of_memory(out, err);
+        return streams.tell_out_of_memory(&formatter());
     };
-    run_line(
-        alloc,
-        words.texts.as_slice(),
-        words.others.as_slice(),
-        tree,
-        progress,
-        input,
-        out,
-        err,
-    )
+    let line = Line {
+        texts: words.texts.as_slice(),
+        others: words.others.as_slice(),
+    };
+    run_line(alloc, line, tree, progress, input, streams)
 }

@@ -1,12 +1,13 @@
 //! Looks and runs over the trees of this crate, which meet the premises of the laws of runs.
 
 ghost use Rattle.std.specs.Prelude.{◌≡◌, ◌&&◌, [], Some, false, true};
-ghost use Rattle.command_line.specs.Rows.{end_of};
+ghost use Rattle.command_line.specs.Rows.{end_of_streams};
 ghost use Rattle.tree_devices.specs.Runs.{FailsByALook, HasGoodRun, IsReadyIn, IsToldIn, NotesOne};
 ghost use Rattle.tree_format.specs.States.{state_of};
 
 use crate::memory_tree::MemoryTree;
 use crate::planned_tree::PlannedTree;
+use command_line::Streams;
 use file_tree::tree::Tree;
 use file_tree::walk::Found;
 use hcl_scan::ByteSink;
@@ -57,18 +58,17 @@ pub fn run_planned<'a, O: ByteSink, E: ByteSink>(
     mode: Mode,
     found: &[Found],
     tree: &mut PlannedTree<'a>,
-    out: &mut O,
-    err: &mut E,
+    streams: &mut Streams<O, E>,
 ) -> u8
-    requires out { O.failed out.old ≡ false }
-    requires err { E.failed err.old ≡ false }
+    requires out { O.failed streams.old.out ≡ false }
+    requires err { E.failed streams.old.err ≡ false }
     ensures real { FailsByALook mode found.now
         (state_of ⟦<PlannedTree<'a> as Tree>⟧ tree.old)
         (state_of ⟦<PlannedTree<'a> as Tree>⟧ tree.new)
-        (end_of O.ByteSink out.old out.new E.ByteSink err.old err.new result) }
+        (end_of_streams O.ByteSink E.ByteSink streams.old streams.new result) }
 {
     failures_are_real();
-    let ran = run_over(alloc, mode, found, tree, &mut Nobody, out, err);
+    let ran = run_over(alloc, mode, found, tree, &mut Nobody, streams);
     ran.status
 }
 

@@ -7,6 +7,7 @@ ghost use Rattle.hcl_source.specs.Load.{max_source, IsText};
 ghost use Rattle.tree_format.specs.Looks.{Asks, Looks, Notes, Visits, shown_diff};
 ghost use Rattle.tree_format.specs.Refusals.{is_about_line as is_about_line_of};
 ghost use Rattle.file_tree.specs.Quotes.{shown_head};
+ghost use Rattle.file_tree.specs.Unchanged.{Unchanged};
 ghost use Rattle.tree_format.specs.declared.mode.Mode.TheVariants.{Write};
 ghost use Rattle.file_tree.specs.declared.fault.TreeFault.TheVariants.{OutOfMemory};
 ghost use Rattle.tree_format.specs.Inner.Steps.{Completes, IsShown, LoadNotes, LoadsFile, Makes, MakesAsking, outcome_by, outcome_of_scan};
@@ -220,8 +221,7 @@ fn outcome_of_scan(error: ScanError) -> Outcome
 #[tactic(auto, using(crate::proofs::KeptFormatLemmas::notes_fault))]
 fn load<T: Tree>(alloc: Global, name: &[u8], tree: &mut T) -> Result<Source, Outcome>
     ensures loads { LoadsFile ((T.files tree.old).told ((T.files tree.old).real name.now)) result }
-    ensures files { T.files tree.new ≡ T.files tree.old }
-    ensures asked { T.asked tree.new ≡ T.asked tree.old }
+    ensures unchanged { Unchanged T.Tree tree.old tree.new }
     ensures notes { LoadNotes (T.faults tree.old) (T.faults tree.new) result }
 {
     let mut reader = match tree.reader(name) {

@@ -11,25 +11,11 @@ ghost use Rattle.tree_format.specs.Inner.Pieces.{place_words};
 
 use crate::mode::{Ending, Mode};
 use crate::outcome::Outcome;
+use command_line::{Streams, write_pieces};
 use file_tree::quote::write_quoted;
 use file_tree::tree::Replaced;
-use hcl_scan::{ByteSink, Failed, Fault, write_fully};
+use hcl_scan::{ByteSink, Failed, Fault};
 use itoa::Buffer;
-
-/// Writes the pieces one after the other, up to the first write that fails. So a line needs no memory.
-pub(crate) fn write_pieces<S: ByteSink>(sink: &mut S, pieces: &[&[u8]]) -> Result<(), Failed>
-    requires { S.failed sink.old ≡ false }
-    ensures took { Took (writer S.ByteSink sink.old sink.new)
-        (concat (map (λ piece. piece.now) pieces.now)) }
-    ensures failed { S.failed sink.new ≡ is_err result }
-{
-    for piece in pieces {
-        if let Err(_fault) = write_fully(sink, piece) {
-            return Err(Failed);
-        }
-    }
-    Ok(())
-}
 
 /// Writes a name as it is shown, and then the pieces.
 fn write_named<S: ByteSink>(sink: &mut S, name: &[u8], pieces: &[&[u8]]) -> Result<(), Failed>
@@ -139,17 +125,17 @@ fn tell_rights<S: ByteSink>(sink: &mut S, how: Replaced, name: &[u8]) -> Result<
 fn tell_written<O: ByteSink, E: ByteSink>(
     how: Replaced,
     name: &[u8],
-    out: &mut O,
-    err: &mut E,
+    streams: &mut Streams<O, E>,
 ) -> Result<(), Failed>
-    requires out { O.failed out.old ≡ false }
-    requires err { E.failed err.old ≡ false }
-    ensures out { Took (writer O.ByteSink out.old out.new) (listed Line name.now) }
-    ensures err { Took (writer E.ByteSink err.old err.new) (rights_words how name.now) }
-    ensures failed { is_err result ≡ (O.failed out.new || E.failed err.new) }
+    requires out { O.failed streams.old.out ≡ false }
+    requires err { E.failed streams.old.err ≡ false }
+    ensures out { Took (writer O.ByteSink streams.old.out streams.new.out) (listed Line name.now) }
+    ensures err { Took (writer E.ByteSink streams.old.err streams.new.err)
+        (rights_words how name.now) }
+    ensures failed { is_err result ≡ (O.failed streams.new.out || E.failed streams.new.err) }
 {
-    let told = tell_rights(err, how, name);
-    if tell_name(out, Ending::Line, name).is_err() {
+    let told = tell_rights(&mut streams.err, how, name);
+    if tell_name(&mut streams.out, Ending::Line, name).is_err() {
         return Err(Failed);
     }
     told
@@ -160,28 +146,27 @@ pub fn report<O: ByteSink, E: ByteSink>(
     mode: Mode,
     name: &[u8],
     outcome: &Outcome,
-    out: &mut O,
-    err: &mut E,
+    streams: &mut Streams<O, E>,
 ) -> Result<(), Failed>
-    requires out { O.failed out.old ≡ false }
-    requires err { E.failed err.old ≡ false }
-    ensures out { Took (writer O.ByteSink out.old out.new)
+    requires out { O.failed streams.old.out ≡ false }
+    requires err { E.failed streams.old.err ≡ false }
+    ensures out { Took (writer O.ByteSink streams.old.out streams.new.out)
         (report_of mode name.now outcome.now).out }
-    ensures err { Took (writer E.ByteSink err.old err.new)
+    ensures err { Took (writer E.ByteSink streams.old.err streams.new.err)
         (report_of mode name.now outcome.now).err }
-    ensures failed { is_err result ≡ (O.failed out.new || E.failed err.new) }
+    ensures failed { is_err result ≡ (O.failed streams.new.out || E.failed streams.new.err) }
 {
     match outcome {
         Outcome::Formatted => Ok(()),
         Outcome::Changed(how) => match mode {
-            Mode::Write(_) => tell_written(*how, name, out, err),
-            Mode::Check => tell_about(err, name, "not formatted"),
-            Mode::List(ending) => tell_name(out, ending, name),
-            Mode::Diff => tell_name(out, Ending::Line, name),
+            Mode::Write(_) => tell_written(*how, name, streams),
+            Mode::Check => tell_about(&mut streams.err, name, "not formatted"),
+            Mode::List(ending) => tell_name(&mut streams.out, ending, name),
+            Mode::Diff => tell_name(&mut streams.out, Ending::Line, name),
         },
-        Outcome::Differs(text) => write_pieces(out, &[text.as_slice()]),
-        Outcome::Refused(fault, snippet) => tell_refused(err, name, fault, snippet),
-        Outcome::Failed(fault) => tell_about(err, name, fault.text()),
+        Outcome::Differs(text) => write_pieces(&mut streams.out, &[text.as_slice()]),
+        Outcome::Refused(fault, snippet) => tell_refused(&mut streams.err, name, fault, snippet),
+        Outcome::Failed(fault) => tell_about(&mut streams.err, name, fault.text()),
     }
 }
 

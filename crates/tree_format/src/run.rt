@@ -1,7 +1,7 @@
 //! A run over files that were found.
 
 ghost use Rattle.std.specs.Prelude.{◌≡◌, ◌≢◌, ℕ, List, [], All, false};
-ghost use Rattle.command_line.specs.Rows.{end_of};
+ghost use Rattle.command_line.specs.Rows.{end_of_streams};
 ghost use Rattle.tree_format.specs.Runs.{Kept, Sees, Settled, is_failed};
 ghost use Rattle.tree_format.specs.States.{state_of};
 ghost use Rattle.tree_format.specs.Tally.{Tallies};
@@ -12,6 +12,7 @@ use crate::outcome::Outcome;
 use crate::progress::Progress;
 use crate::report::{report, status_of, worse};
 use crate::tally::Tally;
+use command_line::Streams;
 use file_tree::tree::WritableTree;
 use file_tree::walk::Found;
 use hcl_scan::ByteSink;
@@ -60,11 +61,10 @@ pub fn run_over<T: WritableTree, P: Progress, O: ByteSink, E: ByteSink>(
     all: &[Found],
     tree: &mut T,
     progress: &mut P,
-    out: &mut O,
-    err: &mut E,
+    streams: &mut Streams<O, E>,
 ) -> Ran
-    requires out { O.failed out.old ≡ false }
-    requires err { E.failed err.old ≡ false }
+    requires out { O.failed streams.old.out ≡ false }
+    requires err { E.failed streams.old.err ≡ false }
     // However the run goes, each file is then as it was, or, where files are to be written, it has the format of its bytes.
     ensures kept { (name : List ℕ)
         → Kept mode ((T.files tree.old).told name) ((T.files tree.new).told name) }
@@ -79,7 +79,7 @@ pub fn run_over<T: WritableTree, P: Progress, O: ByteSink, E: ByteSink>(
     // What was seen, reported and answered.
     ensures ran { Tallies (P.shows progress.old) mode all.now
         (state_of T.Tree tree.old) (state_of T.Tree tree.new)
-        (end_of O.ByteSink out.old out.new E.ByteSink err.old err.new result.status) result.tally }
+        (end_of_streams O.ByteSink E.ByteSink streams.old streams.new result.status) result.tally }
 {
     let _count = all.len();
     let shows = progress.shows_lines();
@@ -89,7 +89,7 @@ pub fn run_over<T: WritableTree, P: Progress, O: ByteSink, E: ByteSink>(
         let outcome = look(alloc, shows, mode, found, tree);
         progress.looked(&outcome);
         tally = tally.add(&outcome);
-        if report(mode, found.name.as_slice(), &outcome, out, err).is_err() {
+        if report(mode, found.name.as_slice(), &outcome, streams).is_err() {
             return Ran { status: 4, tally };
         }
         progress.reported();

@@ -7,7 +7,7 @@ ghost use Rattle.tree_format.specs.Inner.Counts.{CanGrow, tally_with};
 
 use crate::mode::Mode;
 use crate::outcome::Outcome;
-use crate::report::write_pieces;
+use command_line::write_pieces;
 use hcl_scan::{ByteSink, Failed};
 use itoa::Buffer;
 

@@ -4,7 +4,7 @@ ghost use Rattle.std.specs.Prelude.{◌≡◌, ◌≤◌, ◌++◌, [], OnOk, fa
 ghost use Rattle.comment_faults.specs.CommentFaults.{fault_told};
 ghost use Rattle.tfrules_command.specs.Files.{max_module};
 ghost use Rattle.tfrules_command.specs.Line.{max_files};
-ghost use Rattle.tree_lint.specs.Readers.{has_reader_out};
+ghost use Rattle.tree_lint.specs.Readers.{Leaves, has_reader_out};
 ghost use Rattle.tree_lint.specs.Verdicts.{shows_lines, told_in};
 ghost use Rattle.tree_lint.specs.Inner.Gathering.{AddsComments, AddsFile, AddsRead, Gathers, IsEmpty, KeepsFile, KeepsScanned, StopsWith, texts_kept};
 ghost use Rattle.tree_lint.specs.Inner.Showing.{linted_told};
@@ -189,9 +189,7 @@ fn add_file<T: Tree + Drop>(
     requires small { size ≤ max_module }
     ensures adds { AddsFile (told_in (T.files files.old.tree) name.now) size number
         (T.faults files.old.tree) (T.faults files.new.tree) into.old into.new result }
-    ensures files { T.files files.new.tree ≡ T.files files.old.tree }
-    ensures asked { T.asked files.new.tree ≡ T.asked files.old.tree }
-    ensures back { has_reader_out files.new ≡ false }
+    ensures leaves { Leaves T.Tree files.old files.new }
 {
     match files.read(alloc, name) {
         Ok(source) => add_read(alloc, number, size, source, into),
@@ -212,9 +210,7 @@ pub(crate) fn gather<'n, T: Tree + Drop>(
     ensures gathers { Gathers (told_in (T.files files.old.tree))
         (map string_bytes names.entry.now) into.old.checks into.old.terminals
         (T.faults files.old.tree) (T.faults files.new.tree) into.new result }
-    ensures files { T.files files.new.tree ≡ T.files files.old.tree }
-    ensures asked { T.asked files.new.tree ≡ T.asked files.old.tree }
-    ensures back { has_reader_out files.new ≡ false }
+    ensures leaves { Leaves T.Tree files.old files.new }
 {
     let mut size = 0;
     for number in 0..names.len() {

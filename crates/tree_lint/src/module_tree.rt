@@ -2,7 +2,8 @@
 
 ghost use Rattle.std.specs.Prelude.{◌≡◌, IfOk, false, is_err, not, true};
 ghost use Rattle.file_tree.specs.Files.{fault_of, fault_of_reader, with_fault};
-ghost use Rattle.tree_lint.specs.Readers.{has_reader_out};
+ghost use Rattle.file_tree.specs.Unchanged.{Unchanged};
+ghost use Rattle.tree_lint.specs.Readers.{Leaves, has_reader_out};
 ghost use Rattle.tree_lint.specs.Verdicts.{told_in};
 ghost use Rattle.tree_lint.specs.Inner.Gathering.{ReadsFile, StopsLoad};
 
@@ -60,8 +61,7 @@ impl<T: Tree + Drop> ModuleTree<T> {
         ensures fresh { IfOk result (λ r. T.Reader.failed r ≡ false) }
         ensures bytes { IfOk result
             (λ r. T.Reader.left r ≡ told_in (T.files self.old.tree) name.now) }
-        ensures files { T.files self.new.tree ≡ T.files self.old.tree }
-        ensures asked { T.asked self.new.tree ≡ T.asked self.old.tree }
+        ensures unchanged { Unchanged T.Tree self.old.tree self.new.tree }
         ensures faults { T.faults self.new.tree
             ≡ with_fault (T.faults self.old.tree) (fault_of result) }
         ensures out { has_reader_out self.new ≡ not (is_err result) }
@@ -74,8 +74,7 @@ impl<T: Tree + Drop> ModuleTree<T> {
     /// Closes the file that is open.
     fn close(&mut self, reader: T::Reader)
         requires out { has_reader_out self.old ≡ true }
-        ensures files { T.files self.new.tree ≡ T.files self.old.tree }
-        ensures asked { T.asked self.new.tree ≡ T.asked self.old.tree }
+        ensures unchanged { Unchanged T.Tree self.old.tree self.new.tree }
         ensures faults { T.faults self.new.tree
             ≡ with_fault (T.faults self.old.tree) (fault_of_reader (T.Reader.failed reader)) }
         ensures back { has_reader_out self.new ≡ false }
@@ -89,9 +88,7 @@ impl<T: Tree + Drop> ModuleTree<T> {
         requires back { has_reader_out self.old ≡ false }
         ensures reads { ReadsFile (told_in (T.files self.old.tree) name.now)
             (T.faults self.old.tree) (T.faults self.new.tree) result }
-        ensures files { T.files self.new.tree ≡ T.files self.old.tree }
-        ensures asked { T.asked self.new.tree ≡ T.asked self.old.tree }
-        ensures back { has_reader_out self.new ≡ false }
+        ensures leaves { Leaves T.Tree self.old self.new }
     {
         let mut reader = match self.open(name) {
             Ok(reader) => reader,

@@ -20,7 +20,7 @@ use crate::refusal::{Refusal, tell_comment, tell_refusal};
 use crate::run::Task;
 use crate::shown::Shown;
 use crate::terminal::show_lines;
-use command_line::write_pieces;
+use command_line::{Streams, write_pieces};
 use file_tree::path::place;
 use hcl_scan::{ByteSink, Failed, write_fully};
 use lint_forms::Form;
@@ -216,21 +216,21 @@ fn show_some<O: ByteSink, E: ByteSink>(
     task: Task,
     one: &Module,
     linted: Linted<'_, '_>,
-    out: &mut O,
-    err: &mut E,
+    streams: &mut Streams<O, E>,
     kept: &mut Kept,
 ) -> Ended
-    requires out { O.failed out.old ≡ false }
-    requires err { E.failed err.old ≡ false }
+    requires out { O.failed streams.old.out ≡ false }
+    requires err { E.failed streams.old.err ≡ false }
     ensures { Shows task one.now (HasOrNoMemory one.now (linted_told linted.entry))
-        (writer O.ByteSink out.old out.new) (writer E.ByteSink err.old err.new)
+        (writer O.ByteSink streams.old.out streams.new.out)
+        (writer E.ByteSink streams.old.err streams.new.err)
         kept.old kept.new result }
 {
-    let Ok(()) = show_linted(alloc, task, one, linted, out) else {
-        return refuse(alloc, no_memory(one), err, kept);
+    let Ok(()) = show_linted(alloc, task, one, linted, &mut streams.out) else {
+        return refuse(alloc, no_memory(one), &mut streams.err, kept);
     };
     let shows = task.manner.terminals.err;
-    let _ = tell_comments(shows, one.files.as_slice(), linted, err);
+    let _ = tell_comments(shows, one.files.as_slice(), linted, &mut streams.err);
     Ended {
         status: linted.status(task.policy),
         issues: linted.issues.len(),
@@ -244,14 +244,14 @@ pub(crate) fn show<O: ByteSink, E: ByteSink>(
     task: Task,
     one: &Module,
     linted: Linted<'_, '_>,
-    out: &mut O,
-    err: &mut E,
+    streams: &mut Streams<O, E>,
     kept: &mut Kept,
 ) -> Ended
-    requires out { O.failed out.old ≡ false }
-    requires err { E.failed err.old ≡ false }
+    requires out { O.failed streams.old.out ≡ false }
+    requires err { E.failed streams.old.err ≡ false }
     ensures { Shows task one.now (HasOrNoMemory one.now (linted_told linted.entry))
-        (writer O.ByteSink out.old out.new) (writer E.ByteSink err.old err.new)
+        (writer O.ByteSink streams.old.out streams.new.out)
+        (writer E.ByteSink streams.old.err streams.new.err)
         kept.old kept.new result }
 {
     if linted.is_nothing() {
@@ -261,5 +261,5 @@ pub(crate) fn show<O: ByteSink, E: ByteSink>(
             is_shown: false,
         };
     }
-    show_some(alloc, task, one, linted, out, err, kept)
+    show_some(alloc, task, one, linted, streams, kept)
 }

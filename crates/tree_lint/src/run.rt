@@ -1,10 +1,10 @@
 //! A run over modules.
 
 ghost use Rattle.std.specs.Prelude.{◌≡◌, ◌||◌, ◌≤◌, [], false, length};
-ghost use Rattle.command_line.specs.Rows.{end_of, writer};
+ghost use Rattle.command_line.specs.Rows.{end_of_streams, writer};
 ghost use Rattle.tfrules_command.specs.Line.{max_files};
 ghost use Rattle.tree_lint.specs.Numbers.{is_module};
-ghost use Rattle.tree_lint.specs.Readers.{has_reader_out};
+ghost use Rattle.tree_lint.specs.Readers.{Leaves, has_reader_out};
 ghost use Rattle.tree_lint.specs.Runs.{IsLintRun, worse_status};
 ghost use Rattle.tree_lint.specs.Verdicts.{CanBeRead, IsVerdict};
 ghost use Rattle.tree_lint.specs.Inner.Showing.{Shows};
@@ -16,6 +16,7 @@ use crate::module_tree::ModuleTree;
 use crate::policy::{Governed, Policy};
 use crate::report::{REFUSED, no_memory, refuse, show, too_many};
 use crate::written::{Manner, Written};
+use command_line::Streams;
 use file_tree::tree::Tree;
 use hcl_scan::{ByteSink, write_fully};
 use module_find::Module;
@@ -39,35 +40,33 @@ fn lint_files<T: Tree + Drop, O: ByteSink, E: ByteSink>(
     task: Task,
     one: &Module,
     files: &mut ModuleTree<T>,
-    out: &mut O,
-    err: &mut E,
+    streams: &mut Streams<O, E>,
     kept: &mut Kept,
 ) -> Ended
     requires readable { CanBeRead one.now }
     requires back { has_reader_out files.old ≡ false }
-    requires out { O.failed out.old ≡ false }
-    requires err { E.failed err.old ≡ false }
+    requires out { O.failed streams.old.out ≡ false }
+    requires err { E.failed streams.old.err ≡ false }
     ensures shows { Shows task one.now (IsVerdict (T.files files.old.tree) task.manner.terminals
         task.policy one.now (T.faults files.old.tree) (T.faults files.new.tree))
-        (writer O.ByteSink out.old out.new) (writer E.ByteSink err.old err.new)
+        (writer O.ByteSink streams.old.out streams.new.out)
+        (writer E.ByteSink streams.old.err streams.new.err)
         kept.old kept.new result }
-    ensures files { T.files files.new.tree ≡ T.files files.old.tree }
-    ensures asked { T.asked files.new.tree ≡ T.asked files.old.tree }
-    ensures back { has_reader_out files.new ≡ false }
+    ensures leaves { Leaves T.Tree files.old files.new }
 {
     let Ok(facts) = Facts::with_hashing(alloc, files.hashing()) else {
-        return refuse(alloc, no_memory(one), err, kept);
+        return refuse(alloc, no_memory(one), &mut streams.err, kept);
     };
     let mut all = Gathered::new(alloc, facts, task.policy.checks, task.manner.terminals);
     if let Err(stopped) = gather(alloc, one.files.as_slice(), files, &mut all) {
-        return refuse(alloc, stopped.refusal(), err, kept);
+        return refuse(alloc, stopped.refusal(), &mut streams.err, kept);
     }
     match all.facts.issue_list(&task.policy.settings) {
         Ok(issues) => {
             let linted = all.linted(&issues);
-            show(alloc, task, one, linted, out, err, kept)
+            show(alloc, task, one, linted, streams, kept)
         }
-        Err(_) => refuse(alloc, no_memory(one), err, kept),
+        Err(_) => refuse(alloc, no_memory(one), &mut streams.err, kept),
     }
 }
 
@@ -77,60 +76,26 @@ fn lint_one<T: Tree + Drop, O: ByteSink, E: ByteSink>(
     task: Task,
     one: &Module,
     files: &mut ModuleTree<T>,
-    out: &mut O,
-    err: &mut E,
+    streams: &mut Streams<O, E>,
     kept: &mut Kept,
 ) -> Ended
     requires back { has_reader_out files.old ≡ false }
-    requires out { O.failed out.old ≡ false }
-    requires err { E.failed err.old ≡ false }
+    requires out { O.failed streams.old.out ≡ false }
+    requires err { E.failed streams.old.err ≡ false }
     ensures shows { Shows task one.now (IsVerdict (T.files files.old.tree) task.manner.terminals
         task.policy one.now (T.faults files.old.tree) (T.faults files.new.tree))
-        (writer O.ByteSink out.old out.new) (writer E.ByteSink err.old err.new)
+        (writer O.ByteSink streams.old.out streams.new.out)
+        (writer E.ByteSink streams.old.err streams.new.err)
         kept.old kept.new result }
-    ensures files { T.files files.new.tree ≡ T.files files.old.tree }
-    ensures asked { T.asked files.new.tree ≡ T.asked files.old.tree }
-    ensures back { has_reader_out files.new ≡ false }
+    ensures leaves { Leaves T.Tree files.old files.new }
 {
     if !one.is_whole {
         return REFUSED;
     }
     if one.files.len() > MAX_FILES {
-        return refuse(alloc, too_many(one), err, kept);
+        return refuse(alloc, too_many(one), &mut streams.err, kept);
     }
-    lint_files(alloc, task, one, files, out, err, kept)
-}
-
-/// Lints one module by its own policy.
-fn lint_next<T: Tree + Drop, O: ByteSink, E: ByteSink>(
-    alloc: Global,
-    manner: Manner,
-    is_after: bool,
-    one: &Governed,
-    files: &mut ModuleTree<T>,
-    out: &mut O,
-    err: &mut E,
-    kept: &mut Kept,
-) -> Ended
-    requires back { has_reader_out files.old ≡ false }
-    requires out { O.failed out.old ≡ false }
-    requires err { E.failed err.old ≡ false }
-    ensures shows { Shows (record { policy = one.now.policy; manner = manner; is_after = is_after })
-        one.now.module
-        (IsVerdict (T.files files.old.tree) manner.terminals one.now.policy one.now.module
-        (T.faults files.old.tree) (T.faults files.new.tree))
-        (writer O.ByteSink out.old out.new) (writer E.ByteSink err.old err.new)
-        kept.old kept.new result }
-    ensures files { T.files files.new.tree ≡ T.files files.old.tree }
-    ensures asked { T.asked files.new.tree ≡ T.asked files.old.tree }
-    ensures back { has_reader_out files.new ≡ false }
-{
-    let task = Task {
-        policy: one.policy,
-        manner,
-        is_after,
-    };
-    lint_one(alloc, task, &one.module, files, out, err, kept)
+    lint_files(alloc, task, one, files, streams, kept)
 }
 
 /// The worse of two statuses: 1 is worse than 2.
@@ -141,13 +106,6 @@ pub fn worse_status(one: u8, other: u8) -> u8
         return 1;
     }
     one.max(other)
-}
-
-/// Whether one of two devices has failed.
-fn has_failed<O: ByteSink, E: ByteSink>(out: &O, err: &E) -> bool
-    ensures { result ≡ (O.failed out.now || E.failed err.now) }
-{
-    out.has_failed() || err.has_failed()
 }
 
 fn either(one: bool, other: bool) -> bool
@@ -196,26 +154,28 @@ fn run_all<T: Tree + Drop, O: ByteSink, E: ByteSink>(
     manner: Manner,
     modules: &[Governed],
     files: &mut ModuleTree<T>,
-    out: &mut O,
-    err: &mut E,
+    streams: &mut Streams<O, E>,
 ) -> RunEnd
     requires back { has_reader_out files.old ≡ false }
-    requires out { O.failed out.old ≡ false }
-    requires err { E.failed err.old ≡ false }
+    requires out { O.failed streams.old.out ≡ false }
+    requires err { E.failed streams.old.err ≡ false }
     ensures ran { IsLintRun (T.files files.old.tree) manner [] modules.now
         (T.faults files.old.tree) (T.faults files.new.tree)
-        (end_of O.ByteSink out.old out.new E.ByteSink err.old err.new result.status) result }
-    ensures files { T.files files.new.tree ≡ T.files files.old.tree }
-    ensures asked { T.asked files.new.tree ≡ T.asked files.old.tree }
-    ensures back { has_reader_out files.new ≡ false }
+        (end_of_streams O.ByteSink E.ByteSink streams.old streams.new result.status) result }
+    ensures leaves { Leaves T.Tree files.old files.new }
 {
     let mut status = 0;
     let mut has_output = false;
     let mut counts = Counts::new();
     let mut kept = Kept::new(alloc, manner.form.is_some());
     for one in modules {
-        let ended = lint_next(alloc, manner, has_output, one, files, out, err, &mut kept);
-        if has_failed(out, err) {
+        let task = Task {
+            policy: one.policy,
+            manner,
+            is_after: has_output,
+        };
+        let ended = lint_one(alloc, task, &one.module, files, streams, &mut kept);
+        if streams.has_failed() {
             return RunEnd::cut(counts, kept);
         }
         has_output = either(has_output, ended.is_shown);
@@ -239,24 +199,19 @@ pub fn run_over<T: Tree + Drop, O: ByteSink, E: ByteSink>(
     written: Written<'_>,
     modules: &[Governed],
     files: &mut ModuleTree<T>,
-    out: &mut O,
-    err: &mut E,
+    streams: &mut Streams<O, E>,
 ) -> RunEnd
     requires back { has_reader_out files.old ≡ false }
-    requires out { O.failed out.old ≡ false }
-    requires err { E.failed err.old ≡ false }
+    requires out { O.failed streams.old.out ≡ false }
+    requires err { E.failed streams.old.err ≡ false }
     // What becomes of each module, what is said of it, the status, and what was found in all.
     ensures ran { IsLintRun (T.files files.old.tree) written.entry.manner written.entry.head.now
         modules.now (T.faults files.old.tree) (T.faults files.new.tree)
-        (end_of O.ByteSink out.old out.new E.ByteSink err.old err.new result.status) result }
-    // Nothing is changed, nor asked to be.
-    ensures files { T.files files.new.tree ≡ T.files files.old.tree }
-    ensures asked { T.asked files.new.tree ≡ T.asked files.old.tree }
-    // No file is left open.
-    ensures back { has_reader_out files.new ≡ false }
+        (end_of_streams O.ByteSink E.ByteSink streams.old streams.new result.status) result }
+    ensures leaves { Leaves T.Tree files.old files.new }
 {
-    if let Err(_fault) = write_fully(out, written.head) {
+    if let Err(_fault) = write_fully(&mut streams.out, written.head) {
         return RunEnd::cut(Counts::new(), Kept::new(alloc, false));
     }
-    run_all(alloc, written.manner, modules, files, out, err)
+    run_all(alloc, written.manner, modules, files, streams)
 }

@@ -2,6 +2,7 @@
 
 ghost use Rattle.std.specs.Prelude.{◌≡◌, false};
 
+use command_line::Streams;
 use hcl_scan::{ByteSource, MemorySink, MemorySource};
 use std::alloc::{AllocError, Global};
 use tree_command::run::program;
@@ -137,17 +138,19 @@ pub fn run_bytes<'a>(
         ended: 0,
     };
     let mut input = source(names, devices.most, devices.read);
-    let mut out = sink(devices.most, devices.write, devices.flush);
-    let mut err = sink(devices.most, devices.message, false);
+    let mut streams = Streams {
+        out: sink(devices.most, devices.write, devices.flush),
+        err: sink(devices.most, devices.message, false),
+    };
     let status = program(
         alloc,
         words,
         &mut tree,
         &mut watcher,
         &mut input,
-        &mut out,
-        &mut err,
+        &mut streams,
     );
+    let Streams { out, err } = streams;
     Ok(Ended {
         has_read_failed: input.has_failed(),
         tree,

@@ -15,6 +15,15 @@ pub struct Words<'a> {
     pub others: Vec<&'a [u8]>,
 }
 
+/// The words of a line, as slices.
+#[derive(Clone, Copy, Debug)]
+pub struct Line<'w> {
+    /// Those that are texts, the program's name first.
+    pub texts: &'w [&'w str],
+    /// Those that aren't UTF-8.
+    pub others: &'w [&'w [u8]],
+}
+
 impl<'a> Words<'a> {
     /// Takes one word more.
     fn take(&mut self, word: &'a [u8]) -> Result<(), AllocError>

@@ -79,27 +79,34 @@ fn lint_module<'a>(alloc: Global, words: &[&str], files: &mut MadeFiles<'a>, dig
     digest.add_words(err.digest());
 }
 
-/// Lints a module of pieces of a shape. Returns the generator for the next one.
-fn lint_shape(
+/// Modules of pieces of a shape, and the words with which they are linted.
+#[derive(Clone, Copy)]
+struct Load<'w> {
+    shape: &'w Shape,
+    words: &'w [&'w str],
+    /// How many bytes a file has.
+    size: usize,
+}
+
+/// Lints a module. Returns the generator for the next one.
+fn lint_load(
     alloc: Global,
     hashing: Hashing,
-    shape: &Shape,
-    words: &[&str],
-    size: usize,
+    load: Load<'_>,
     maker: Maker,
     digest: &mut Digest,
 ) -> Maker {
     let mut files = MadeFiles {
         alloc,
         hashing,
-        shape,
-        size,
+        shape: load.shape,
+        size: load.size,
         maker,
         has_unopened: false,
         has_unread: false,
         is_out: false,
     };
-    lint_module(alloc, words, &mut files, digest);
+    lint_module(alloc, load.words, &mut files, digest);
     files.maker
 }
 
@@ -120,9 +127,14 @@ pub fn lint_modules(
     let tidy = Shape::new(alloc, TIDY)?;
     let declared = Shape::new(alloc, DECLARED)?;
     for _ in 0..turns {
-        *maker = lint_shape(alloc, hashing, &tidy, LARGE, 4_000_000, *maker, digest);
-        *maker = lint_shape(alloc, hashing, &tidy, DEFAULT, 1_300_000, *maker, digest);
-        *maker = lint_shape(alloc, hashing, &declared, LARGE, 1_000_000, *maker, digest);
+        for (shape, words, size) in [
+            (&tidy, LARGE, 4_000_000),
+            (&tidy, DEFAULT, 1_300_000),
+            (&declared, LARGE, 1_000_000),
+        ] {
+            let load = Load { shape, words, size };
+            *maker = lint_load(alloc, hashing, load, *maker, digest);
+        }
     }
     Ok(())
 }

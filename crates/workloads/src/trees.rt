@@ -7,6 +7,7 @@ use crate::digest::{Digest, DigestSink};
 use crate::made_text::MadeText;
 use crate::pieces::{DECLARED, MESSY, TIDY};
 use crate::texts::{Maker, Shape};
+use command_line::Streams;
 use file_tree::fault::TreeFault;
 use file_tree::kind::{Identity, Kind};
 use file_tree::path::joined;
@@ -266,8 +267,10 @@ impl Progress for Nobody {
 /// Runs the formatter of trees with these words.
 fn format(alloc: Global, words: &[&[u8]], mut tree: MadeTree, digest: &mut Digest) {
     let mut input = MadeText::new(Vec::new(alloc));
-    let mut out = DigestSink::new(*digest);
-    let mut err = DigestSink::new(Digest::new());
+    let mut streams = Streams {
+        out: DigestSink::new(*digest),
+        err: DigestSink::new(Digest::new()),
+    };
     let mut nobody = Nobody;
     let status = tree_command::run::program(
         alloc,
@@ -275,12 +278,11 @@ fn format(alloc: Global, words: &[&[u8]], mut tree: MadeTree, digest: &mut Diges
         &mut tree,
         &mut nobody,
         &mut input,
-        &mut out,
-        &mut err,
+        &mut streams,
     );
-    *digest = out.digest();
+    *digest = streams.out.digest();
     digest.add_status(status);
-    digest.add_words(err.digest());
+    digest.add_words(streams.err.digest());
     digest.add_words(tree.written);
 }
 
@@ -313,20 +315,21 @@ pub fn lint_trees(
         let tree = MadeTree::new(alloc, 800, seed.wrapping_add(turn << 33), 10, 5)?;
         let mut files = ModuleTree::new(tree, hashing);
         let mut input = MadeText::new(Vec::new(alloc));
-        let mut out = DigestSink::new(*digest);
-        let mut err = DigestSink::new(Digest::new());
+        let mut streams = Streams {
+            out: DigestSink::new(*digest),
+            err: DigestSink::new(Digest::new()),
+        };
         let status = lint_command::run::program(
             alloc,
             &[b"tfrules-all", b"--rules", b"all", b"."],
             PIPES,
             &mut files,
             &mut input,
-            &mut out,
-            &mut err,
+            &mut streams,
         );
-        *digest = out.digest();
+        *digest = streams.out.digest();
         digest.add_status(status);
-        digest.add_words(err.digest());
+        digest.add_words(streams.err.digest());
     }
     Ok(())
 }

@@ -9,7 +9,7 @@ pub returns-clause-finds : goal.returns-clause-finds
 returns-clause-finds g c =
     finds_chosen (g.T.Tree.files c.args.tree.now) (g.T.Tree.files c.over.new.tree) _ (chosen c.args.choice) (map (λ operand. operand.now) c.args.operands.now) (reached c.in_ok-walk.walk)
     c.look_into_all.new.self.found.items c.in_order.result.items
-    c.over.ensures.files c.in_ok-chooser.ensures c.in_ok-walk.ensures.walked c.in_ok-look_into_all.ensures.walked c.in_order.ensures
+    c.over.ensures.unchanged.0 c.in_ok-chooser.ensures c.in_ok-walk.ensures.walked c.in_ok-look_into_all.ensures.walked c.in_order.ensures
 
 pub returns-clause-real : goal.returns-clause-real
 returns-clause-real g c = real_chosen _ _ _ _ _ _ _ _ _ _ c.in_ok-chooser.ensures c.in_ok-walk.ensures.real c.in_ok-look_into_all.ensures.hears c.in_order.ensures

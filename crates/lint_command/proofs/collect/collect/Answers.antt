@@ -15,7 +15,7 @@ returns-clause-collects g c = record {
   folders = c.in_ok-stand.stand.items;
   stand = subst (λ found. AreFolders found c.in_ok-stand.stand.items) (λ i. all_found (c.as_slice.ensures.value i) (c.as_slice-2.ensures.value i)) c.in_ok-stand.ensures;
   told = c.in_ok-all.all.faults.items;
-  are = subst (λ files. AreModules files c.in_ok-seen.seen.looked.items (picked_of c.args.shard c.in_ok-stand.stand.items) c.in_ok-all.all.modules.items c.in_ok-all.all.faults.items (g.T.Tree.faults c.look.new.tree) (g.T.Tree.faults c.modules_of.new.tree)) c.look.ensures.files
+  are = subst (λ files. AreModules files c.in_ok-seen.seen.looked.items (picked_of c.args.shard c.in_ok-stand.stand.items) c.in_ok-all.all.modules.items c.in_ok-all.all.faults.items (g.T.Tree.faults c.look.new.tree) (g.T.Tree.faults c.modules_of.new.tree)) c.look.ensures.unchanged.0
       (subst (λ l. AreModules (g.T.Tree.files c.look.new.tree) c.in_ok-seen.seen.looked.items l c.in_ok-all.all.modules.items c.in_ok-all.all.faults.items (g.T.Tree.faults c.look.new.tree) (g.T.Tree.faults c.modules_of.new.tree)) c.in_ok-folders.ensures c.in_ok-all.ensures.are);
   all = all_told c.args.shard c.in_ok-lost.lost.items (flat_map lost_of (all_found c.in_ok-seen.seen.named.items c.in_ok-seen.seen.looked.items)) c.in_ok-all.all.faults.items c.in_ok-faults-2.faults.items
       (c.in_ok-lost.ensures ∙ (λ i. map told_as (flat_map lost_of (all_found (c.as_slice-3.ensures.value i) (c.as_slice-4.ensures.value i)))))

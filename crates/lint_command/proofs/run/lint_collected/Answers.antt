@@ -5,7 +5,7 @@ use Rattle.lint_command.proofs.run.lint_collected.Goals as goal
 
 pub returns-clause-ends : goal.returns-clause-ends
 returns-clause-ends g c =
-    lints_modules (g.T.Tree.files c.args.files.now.tree) _ c.args.task.terminals c.args.task.job c.args.collected.modules.items c.args.collected.faults.items _ _ _ _ c.in-Ok.configured _ c.configure.ensures.files c.as_slice.ensures.value c.in-Ok.ensures.configures c.lint_configured.ensures.ran
+    lints_modules (g.T.Tree.files c.args.files.now.tree) _ c.args.task.terminals c.args.task.job c.args.collected.modules.items c.args.collected.faults.items _ _ _ _ c.in-Ok.configured _ c.configure.ensures.unchanged.0 c.as_slice.ensures.value c.in-Ok.ensures.configures c.lint_configured.ensures.ran
 
 pub returns-in_default-clause-ends : goal.returns-in_default-clause-ends
 returns-in_default-clause-ends g c = inl (memory_said c.tree_linter.result _ c.tree_linter.ensures c.tell_out_of_memory.ensures)

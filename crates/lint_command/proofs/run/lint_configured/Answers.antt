@@ -16,4 +16,4 @@ returns-then-has_failed-2-clause-ran g c =
 pub returns-clause-ran : goal.returns-clause-ran
 returns-clause-ran g c =
     closed_here (g.T.Tree.files c.args.files.now.tree) c.args.rest.manner c.args.rest.quiet c.args.rest.configured.now _ c.args.rest.faults.now _ _ c.run_over-ran.result _ c.args.head.now c.as_slice-governed.ensures.value c.requires.head c.run_over-ran.ensures.ran
-    (writer g.O.ByteSink c.run_over-ran.new.out c.close.new.out) (writer g.E.ByteSink c.run_over-ran.new.err c.close.new.err) _ (sym c.has_failed.ensures ∙ c.if-has_failed.false) (sym c.has_failed-2.ensures ∙ c.if-has_failed-2.false) refl refl refl refl refl (c.close.new.out ≡ c.run_over-ran.new.out) (ap (λ o. writer g.O.ByteSink c.args.out.now o)) c.close.ensures
+    (writer g.O.ByteSink c.run_over-ran.new.streams.out c.close.new.streams.out) (writer g.E.ByteSink c.run_over-ran.new.streams.err c.close.new.streams.err) _ (sym c.has_failed.ensures ∙ c.if-has_failed.false) (sym c.has_failed-2.ensures ∙ c.if-has_failed-2.false) refl refl refl refl refl (c.close.new.streams.out ≡ c.run_over-ran.new.streams.out) (ap (λ o. writer g.O.ByteSink c.args.streams.now.out o)) c.close.ensures

@@ -14,12 +14,12 @@ returns-clause-ends g c =
     subst
     (λ (names : List (List ℕ)). IsEndOf c.args.terminals (texts_in (codes "tfrules-all") words) names (g.R.ByteSource.failed c.run_line.new.input) (g.R.ByteSource.left c.args.input.now) (g.T.Tree.files c.args.files.now.tree)
     (g.T.Tree.faults c.args.files.now.tree) (g.T.Tree.faults c.run_line.new.files.tree)
-    (end_of g.O.ByteSink c.args.out.now c.run_line.new.out g.E.ByteSink c.args.err.now c.run_line.new.err c.run_line.result))
+    (end_of g.O.ByteSink c.args.streams.now.out c.run_line.new.streams.out g.E.ByteSink c.args.streams.now.err c.run_line.new.streams.err c.run_line.result))
     (ap (map (λ (word : Bor (List ℕ)). word.now)) c.as_slice-2.ensures.value ∙ c.in-Ok.ensures.others)
     (subst
     (λ (texts : List (List ℕ)). IsEndOf c.args.terminals texts others (g.R.ByteSource.failed c.run_line.new.input) (g.R.ByteSource.left c.args.input.now) (g.T.Tree.files c.args.files.now.tree)
     (g.T.Tree.faults c.args.files.now.tree) (g.T.Tree.faults c.run_line.new.files.tree)
-    (end_of g.O.ByteSink c.args.out.now c.run_line.new.out g.E.ByteSink c.args.err.now c.run_line.new.err c.run_line.result))
+    (end_of g.O.ByteSink c.args.streams.now.out c.run_line.new.streams.out g.E.ByteSink c.args.streams.now.err c.run_line.new.streams.err c.run_line.result))
     (ap (map (λ (word : Bor (List ℕ)). word.now)) c.as_slice.ensures.value ∙ c.in-Ok.ensures.texts) c.run_line.ensures.ends)
 
 pub returns-in_default-clause-ends : goal.returns-in_default-clause-ends

@@ -16,8 +16,8 @@ loop-at-preserved g c =
     let names = map (λ (f : Bor (List ℕ)). f.now) c.args.folders.now in
     let lt : c.loop-at.at < length names = omega (arith, length-map c.args.folders.now (λ (f : Bor (List ℕ)). f.now), c.loop-at-test.true) in
     let none = up_false (g.T.Tree.files c.args.tree.now) (g.T.Tree.files c.loop-at.tree) _ (g.T.Tree.faults c.loop-at.tree) (g.T.Tree.faults c.has.new.tree) c.in-Ok-false.field-0 c.loop-at.invariant.0 c.in-Ok-false.field-0-test c.in-Ok-false.ensures.ok in (
-      c.in-Ok-false.ensures.files ∙ c.loop-at.invariant.0,
-      c.in-Ok-false.ensures.asked ∙ c.loop-at.invariant.1,
+      c.in-Ok-false.ensures.unchanged.0 ∙ c.loop-at.invariant.0,
+      c.in-Ok-false.ensures.unchanged.1 ∙ c.loop-at.invariant.1,
       missing_then _ _ _ c.loop-at.invariant.2 none.0,
       lacks_more (g.T.Tree.files c.args.tree.now) c.args.entry.now names c.loop-at.at _ lt (sym (get_or-map (λ (f : Bor (List ℕ)). f.now) c.args.folders.now c.loop-at.at _ [] c.loop-at-test.true)) none.1 c.loop-at.invariant.3,
     )

@@ -17,7 +17,7 @@ returns-in-Ok-first_with-2-clause-ok g c =
     (ap names c.as_slice.ensures.value ∙ c.in-Ok.ensures)
     (ap names c.as_slice-2.ensures.value ∙ c.in-Ok-counted.ensures ∙ ap (λ l. counted c.args.current.now l c.in-Ok-first_with.top) (sym (ap names c.as_slice.ensures.value)))
     c.in-Ok-first_with.ensures.ok
-    (subst (λ f. LooksFirst f (codes ".tfrules") (names c.as_slice-2.result.now) (g.T.Tree.faults c.first_with.new.tree) (g.T.Tree.faults c.first_with-2.new.tree) c.in-Ok-first_with-2.at) c.first_with.ensures.files c.in-Ok-first_with-2.ensures.ok)
+    (subst (λ f. LooksFirst f (codes ".tfrules") (names c.as_slice-2.result.now) (g.T.Tree.faults c.first_with.new.tree) (g.T.Tree.faults c.first_with-2.new.tree) c.in-Ok-first_with-2.at) c.first_with.ensures.unchanged.0 c.in-Ok-first_with-2.ensures.ok)
     (h ∙ ap (λ l. file_at (names l) c.in-Ok-first_with-2.at) (c.as_slice-in-Ok-first_with-2.ensures.value ∙ sym c.as_slice-2.ensures.value)))
 
 pub returns-clause-err : goal.returns-clause-err

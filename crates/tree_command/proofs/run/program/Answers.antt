@@ -17,11 +17,11 @@ returns-clause-ends g c =
     let others : List (List ℕ) = map (λ (word : Bor (List ℕ)). word.now) c.as_slice-2.result.now in
     subst
     (λ (names : List (List ℕ)). IsEndOf (g.P.Progress.shows c.args.progress.now) (texts_in (codes "tffmt-all") words) names (g.R.ByteSource.failed c.run_line.new.input) (g.R.ByteSource.left c.args.input.now) (state_of g.T.Tree c.args.tree.now) (state_of g.T.Tree c.run_line.new.tree)
-    (end_of g.O.ByteSink c.args.out.now c.run_line.new.out g.E.ByteSink c.args.err.now c.run_line.new.err c.run_line.result))
+    (end_of g.O.ByteSink c.args.streams.now.out c.run_line.new.streams.out g.E.ByteSink c.args.streams.now.err c.run_line.new.streams.err c.run_line.result))
     (ap (map (λ (word : Bor (List ℕ)). word.now)) c.as_slice-2.ensures.value ∙ c.in-Ok.ensures.others)
     (subst
     (λ (texts : List (List ℕ)). IsEndOf (g.P.Progress.shows c.args.progress.now) texts others (g.R.ByteSource.failed c.run_line.new.input) (g.R.ByteSource.left c.args.input.now) (state_of g.T.Tree c.args.tree.now) (state_of g.T.Tree c.run_line.new.tree)
-    (end_of g.O.ByteSink c.args.out.now c.run_line.new.out g.E.ByteSink c.args.err.now c.run_line.new.err c.run_line.result))
+    (end_of g.O.ByteSink c.args.streams.now.out c.run_line.new.streams.out g.E.ByteSink c.args.streams.now.err c.run_line.new.streams.err c.run_line.result))
     (ap (map (λ (word : Bor (List ℕ)). word.now)) c.as_slice.ensures.value ∙ c.in-Ok.ensures.texts) c.run_line.ensures.ends)
 
 pub returns-clause-unread : goal.returns-clause-unread

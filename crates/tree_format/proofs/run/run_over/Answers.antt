@@ -17,8 +17,8 @@ loop-found-init g c = (c.requires.out, c.requires.err, λ name. kept_same _ _ _ 
 pub loop-found-preserved : goal.loop-found-preserved
 loop-found-preserved g c =
     let first = g.T.Tree.files c.args.tree.now in let old = g.T.Tree.files c.loop-found.tree in let new = g.T.Tree.files c.look-outcome.new.tree in
-    let good : g.O.ByteSink.failed c.report.new.out ≡ false = left_good _ _ _ (g.E.ByteSink.failed c.report.new.err) c.report.ensures.failed c.is_err.ensures.value c.if-is_err.false in
-    let good' : g.E.ByteSink.failed c.report.new.err ≡ false = right_good _ _ (g.O.ByteSink.failed c.report.new.out) _ c.report.ensures.failed c.is_err.ensures.value c.if-is_err.false in
+    let good : g.O.ByteSink.failed c.report.new.streams.out ≡ false = left_good _ _ _ (g.E.ByteSink.failed c.report.new.streams.err) c.report.ensures.failed c.is_err.ensures.value c.if-is_err.false in
+    let good' : g.E.ByteSink.failed c.report.new.streams.err ≡ false = right_good _ _ (g.O.ByteSink.failed c.report.new.streams.out) _ c.report.ensures.failed c.is_err.ensures.value c.if-is_err.false in
     let name = c.found-item.result.name.items in (
       good,
       good',
@@ -34,8 +34,8 @@ loop-found-preserved g c =
           (subst (λ n. name ≢ n) (sym (c.loop-found.invariant.3 c.found-item.result.name.items)) (subst (λ (f : Found). name ≢ first.real f.name.items) (sym c.found-item.is) (All-get_or (λ (f : Found). name ≢ first.real f.name.items) c.args.all.now c.loop-found.found-index c.found-item.result c.loop-found-test.true other)))
           ∙ c.loop-found.invariant.5 name other,
       so_far_more _ c.args.mode (take c.loop-found.found-index c.args.all.now) _ c.found-item.result c.look-outcome.result _ _ _ _ _ _ _ _ _ _ _ _ _ _ _ (take_one c.args.all.now c.loop-found.found-index c.found-item.result c.loop-found-test.true c.found-item.is)
-          c.loop-found.invariant.6 c.add-tally.ensures c.look-outcome.ensures.sees good (subst (λ n. TookBy (g.O.ByteSink.failed c.report.new.out) (g.O.ByteSink.taken c.loop-found.out) (g.O.ByteSink.taken c.report.new.out) (report_of c.args.mode n c.look-outcome.result).out) c.as_slice.ensures.value c.report.ensures.out)
-          good' (subst (λ n. TookBy (g.E.ByteSink.failed c.report.new.err) (g.E.ByteSink.taken c.loop-found.err) (g.E.ByteSink.taken c.report.new.err) (report_of c.args.mode n c.look-outcome.result).err) c.as_slice.ensures.value c.report.ensures.err)
+          c.loop-found.invariant.6 c.add-tally.ensures c.look-outcome.ensures.sees good (subst (λ n. TookBy (g.O.ByteSink.failed c.report.new.streams.out) (g.O.ByteSink.taken c.loop-found.streams.out) (g.O.ByteSink.taken c.report.new.streams.out) (report_of c.args.mode n c.look-outcome.result).out) c.as_slice.ensures.value c.report.ensures.out)
+          good' (subst (λ n. TookBy (g.E.ByteSink.failed c.report.new.streams.err) (g.E.ByteSink.taken c.loop-found.streams.err) (g.E.ByteSink.taken c.report.new.streams.err) (report_of c.args.mode n c.look-outcome.result).err) c.as_slice.ensures.value c.report.ensures.err)
           (c.worse-status.ensures ∙ ap (worse c.loop-found.status) (c.status_of.ensures name)),
     )
 
@@ -53,9 +53,9 @@ returns-then-is_err-clause-ran g c =
     tallies_as _ _ _ _ _ _ _ _ c.shows_lines-shows.ensures
     (run_cut _ c.args.mode c.args.all.now (take c.loop-found.found-index c.args.all.now) (drop (c.loop-found.found-index + 1) c.args.all.now) c.found-item.result c.look-outcome.result _ _ _ _ _ _ _ _ _ _
     (split_here c.args.all.now c.loop-found.found-index c.found-item.result c.loop-found-test.true c.found-item.is)
-    c.loop-found.invariant.6 c.add-tally.ensures c.look-outcome.ensures.sees (one_bad _ _ (g.O.ByteSink.failed c.report.new.out) (g.E.ByteSink.failed c.report.new.err) c.report.ensures.failed c.is_err.ensures.value c.if-is_err.true)
-    (subst (λ n. TookBy (g.O.ByteSink.failed c.report.new.out) (g.O.ByteSink.taken c.loop-found.out) (g.O.ByteSink.taken c.report.new.out) (report_of c.args.mode n c.look-outcome.result).out) c.as_slice.ensures.value c.report.ensures.out)
-    (subst (λ n. TookBy (g.E.ByteSink.failed c.report.new.err) (g.E.ByteSink.taken c.loop-found.err) (g.E.ByteSink.taken c.report.new.err) (report_of c.args.mode n c.look-outcome.result).err) c.as_slice.ensures.value c.report.ensures.err))
+    c.loop-found.invariant.6 c.add-tally.ensures c.look-outcome.ensures.sees (one_bad _ _ (g.O.ByteSink.failed c.report.new.streams.out) (g.E.ByteSink.failed c.report.new.streams.err) c.report.ensures.failed c.is_err.ensures.value c.if-is_err.true)
+    (subst (λ n. TookBy (g.O.ByteSink.failed c.report.new.streams.out) (g.O.ByteSink.taken c.loop-found.streams.out) (g.O.ByteSink.taken c.report.new.streams.out) (report_of c.args.mode n c.look-outcome.result).out) c.as_slice.ensures.value c.report.ensures.out)
+    (subst (λ n. TookBy (g.E.ByteSink.failed c.report.new.streams.err) (g.E.ByteSink.taken c.loop-found.streams.err) (g.E.ByteSink.taken c.report.new.streams.err) (report_of c.args.mode n c.look-outcome.result).err) c.as_slice.ensures.value c.report.ensures.err))
 
 pub returns-clause-ran : goal.returns-clause-ran
 returns-clause-ran g c =

@@ -16,12 +16,12 @@ loop-number-preserved g c =
     let a = c.in-Ok.ensures.adds in
     let lt : c.loop-number.number < length (map string_bytes c.args.names.now) = omega (arith, length-map c.args.names.now string_bytes, c.loop-number-test.true) in
     let named : c.as_str-name.result.now ≡ get_or (map string_bytes c.args.names.now) c.loop-number.number [] = name_here c.args.names.now c.loop-number.number c.index-names-number.result c.as_str-name.result.now c.loop-number-test.true c.index-names-number.is c.as_str-name.ensures.value in (
-      c.in-Ok.ensures.files ∙ kept.0,
-      c.in-Ok.ensures.asked ∙ kept.1,
+      c.in-Ok.ensures.leaves.0.0 ∙ kept.0,
+      c.in-Ok.ensures.leaves.0.1 ∙ kept.1,
       a.0 ∙ kept.2,
       a.1.added.fits,
       reached_all_more _ (map string_bytes c.args.names.now) c.loop-number.number c.loop-number.size c.in-Ok.all c.as_str-name.result.now _ _ _ _ _ lt named (told_here _ _ c.as_str-name.result.now kept.0) kept.4 a.1,
-      c.in-Ok.ensures.back,
+      c.in-Ok.ensures.leaves.1,
     )
 
 pub returns-in-Err-clause-gathers : goal.returns-in-Err-clause-gathers
@@ -38,8 +38,5 @@ returns-clause-gathers g c =
     let all : length (map string_bytes c.args.names.now) ≤ c.loop-number.number = omega (arith, length-map c.args.names.now string_bytes, c.loop-number-test.false) in
     (kept.2, (c.loop-number.size, subst (λ names. ReachedAll (told_in (g.T.Tree.files c.args.files.now.tree)) names c.loop-number.size c.args.into.now.checks c.args.into.now.terminals c.loop-number.into) (take_all c.loop-number.number (map string_bytes c.args.names.now) all) kept.4))
 
-pub returns-in-Err-clause-files : goal.returns-in-Err-clause-files
-returns-in-Err-clause-files g c = c.in-Err.ensures.files ∙ c.loop-number.invariant.0
-
-pub returns-in-Err-clause-asked : goal.returns-in-Err-clause-asked
-returns-in-Err-clause-asked g c = c.in-Err.ensures.asked ∙ c.loop-number.invariant.1
+pub returns-in-Err-clause-leaves : goal.returns-in-Err-clause-leaves
+returns-in-Err-clause-leaves g c = ((c.in-Err.ensures.leaves.0.0 ∙ c.loop-number.invariant.0, c.in-Err.ensures.leaves.0.1 ∙ c.loop-number.invariant.1), c.in-Err.ensures.leaves.1)

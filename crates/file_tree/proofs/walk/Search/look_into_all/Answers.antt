@@ -8,8 +8,8 @@ loop-init g c = (refl, searches_none (g.T.Tree.files c.args.tree.now) (told c.ar
 
 pub loop-preserved : goal.loop-preserved
 loop-preserved g c = (
-  c.look_into.ensures.files ∙ c.loop.invariant.0,
+  c.look_into.ensures.unchanged.0 ∙ c.loop.invariant.0,
   searches_more (g.T.Tree.files c.args.tree.now) (g.T.Tree.files c.loop.tree) (told c.args.chooser.now) _ _ _ c.args.self.now c.loop.self _ c.look_into.new.self c.pop.new.self.items c.in-Some.folder c.loop.invariant.0
       c.loop.invariant.1 c.in-Some.ensures.items refl refl c.in_ok-look_into.ensures.looks,
-  c.look_into.ensures.asked ∙ c.loop.invariant.2,
+  c.look_into.ensures.unchanged.1 ∙ c.loop.invariant.2,
 )

@@ -5,5 +5,5 @@ use Rattle.file_tree.proofs.walk.Search.of.Goals as goal
 
 pub returns-clause-sees : goal.returns-clause-sees
 returns-clause-sees g c =
-    sees_all (g.T.Tree.files c.args.tree.now) (g.T.Tree.files c.over.new.tree) (told c.args.chooser.now) _ _ _ _ c.in_ok-walk.walk _ c.look_into_all.new.self c.over.ensures.files refl c.new.ensures.items c.in_ok-walk.ensures.walked
+    sees_all (g.T.Tree.files c.args.tree.now) (g.T.Tree.files c.over.new.tree) (told c.args.chooser.now) _ _ _ _ c.in_ok-walk.walk _ c.look_into_all.new.self c.over.ensures.unchanged.0 refl c.new.ensures.items c.in_ok-walk.ensures.walked
     c.in_ok-walk.ensures.real c.in_ok-look_into_all.ensures.searches c.in_ok-look_into_all.ensures.none

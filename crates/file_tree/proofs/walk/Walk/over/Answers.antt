@@ -5,8 +5,8 @@ use Rattle.file_tree.proofs.walk.Walk.over.Goals as goal
 
 pub loop-path-preserved : goal.loop-path-preserved
 loop-path-preserved g c = (
-  c.take_given.ensures.files ∙ c.loop-path.invariant.0,
+  c.take_given.ensures.unchanged.0 ∙ c.loop-path.invariant.0,
   walked_more _ _ _ _ _ _ _ _ c.loop-path.invariant.0 c.loop-path-test.true c.loop-path.invariant.1 c.in_ok-take_given.ensures.takes,
   real_taken _ _ _ _ _ _ _ _ _ _ _ c.loop-path.invariant.0 c.loop-path-test.true c.loop-path.invariant.2 c.in_ok-take_given.ensures.hears,
-  c.take_given.ensures.asked ∙ c.loop-path.invariant.3,
+  c.take_given.ensures.unchanged.1 ∙ c.loop-path.invariant.3,
 )

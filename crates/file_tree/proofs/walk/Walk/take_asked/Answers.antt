@@ -12,5 +12,5 @@ returns-in_ok-name-in-Err-clause-takes g c =
 
 pub returns-in_ok-name-in-Err-clause-hears : goal.returns-in_ok-name-in-Err-clause-hears
 returns-in_ok-name-in-Err-clause-hears g c =
-    real_fault c.add.result (g.T.Tree.files c.args.tree.now) (told c.args.chooser.now) c.args.path.now c.in_ok-name-in-Err.name.items c.in-Err.fault (reached c.args.self.now) (reached c.add.new.self) _ _
+    real_fault c.add.result (g.T.Tree.files c.args.tree.now) (told c.args.chooser.now) c.args.operand.path.now c.in_ok-name-in-Err.name.items c.in-Err.fault (reached c.args.self.now) (reached c.add.new.self) _ _
     c.add.ensures c.in-Err.ensures.faults
