@@ -7,3 +7,4 @@ pub mod NumberedLemmas
 pub mod PopLemmas
 pub mod ItemOrderLemmas
 pub mod TopBlockLemmas
+pub mod TableLemmas

@@ -286,6 +286,122 @@ row_of (directive k) m n c = directive_row m k c
 row_of (inside e) m n c = inside_row e m n c
 row_of (section_directive e k) m n c = section_directive_row e m k c
 
+-- The rows that others begin with: labels, an expression, what follows an operand (steps, an index, an operator, a
+-- choice), the end of a for-expression in an object, a directive.
+abbrev pub shared_row : Symbol → Newlines → ℕ → Class → Action
+shared_row labels m n (Ident w) = reads (labels at m ∷ [])
+shared_row labels m n QuoteOpen = reads (label_literal at m ∷ the EndQuote at m ∷ labels at m ∷ [])
+shared_row labels m n BraceOpen = reads (start at m ∷ [])
+shared_row expr m n Minus = reads (expr at m ∷ [])
+shared_row expr m n Not = reads (expr at m ∷ [])
+shared_row expr m n (Number d) = reads (after at m ∷ [])
+shared_row expr m n (Ident w) = reads (after_ident at m ∷ [])
+shared_row expr m n QuoteOpen = reads (parts at m ∷ the EndQuote at m ∷ after at m ∷ [])
+shared_row expr m n HeredocOpen = reads (parts at m ∷ the EndHeredoc at m ∷ after at m ∷ [])
+shared_row expr m n ParenOpen = reads (expr at Dropped ∷ the EndParen at Dropped ∷ after at m ∷ [])
+shared_row expr m n BracketOpen = reads (tuple at Dropped ∷ after at m ∷ [])
+shared_row expr m n BraceOpen = reads (object at Seen ∷ after at m ∷ [])
+shared_row after m n Dot = reads (step at m ∷ after at m ∷ [])
+shared_row after m n BracketOpen = reads (index at Dropped ∷ after at m ∷ [])
+shared_row after m n Minus = reads (expr at m ∷ [])
+shared_row after m n Star = reads (expr at m ∷ [])
+shared_row after m n Binary = reads (expr at m ∷ [])
+shared_row after m n Question = reads (expr at m ∷ the Separator at m ∷ expr at m ∷ [])
+shared_row after m n _ = nothing
+shared_row object_if m n (Ident If) = reads (expr at m ∷ the EndBrace at m ∷ [])
+shared_row object_if m n BraceClose = reads []
+shared_row (directive k) m n (Ident If) = opens k
+    (expr at m ∷ the EndSequence at m ∷ inside InIf at m ∷ [])
+shared_row (directive k) m n (Ident For) = opens k
+    (the Name at m ∷ names at m ∷ expr at m ∷ the EndSequence at m ∷ inside InFor at m ∷ [])
+shared_row _ _ _ _ = none
+
+-- THE TABLE: the row of a symbol with this mark, for a token of this number and class
+abbrev pub table_row : Symbol → Newlines → ℕ → Class → Action
+table_row (the e) m n c = if fits e c then reads [] else none
+-- Files, attributes and blocks. A block's body stands on lines of its own, or is one attribute on one line.
+table_row file m n Newline = reads (file at m ∷ [])
+table_row file m n (Ident w) = reads (rest at m ∷ file at m ∷ [])
+table_row rest m n Assign = reads (expr at Seen ∷ eol at m ∷ [])
+table_row rest m n c = shared_row labels m n c
+table_row label_literal m n Lit = reads []
+table_row label_literal m n QuoteClose = nothing
+table_row start m n Newline = reads (body at m ∷ the EndBrace at m ∷ eol at m ∷ [])
+table_row start m n (Ident w) = reads
+    (the Equals at m ∷ expr at Seen ∷ the EndBrace at m ∷ eol at m ∷ [])
+table_row start m n BraceClose = reads (eol at m ∷ [])
+table_row body m n Newline = reads (body at m ∷ [])
+table_row body m n (Ident w) = reads (rest at m ∷ body at m ∷ [])
+table_row body m n BraceClose = nothing
+table_row eol m n Newline = reads []
+-- Expressions. What follows a name is read by `after_ident`; a name with `::` goes on or is called.
+table_row after_ident m n ParenOpen = reads (args at Dropped ∷ after at m ∷ [])
+table_row after_ident m n ColonColon = reads (the Name at m ∷ path at m ∷ [])
+table_row after_ident m n c = shared_row after m n c
+table_row path m n ColonColon = reads (the Name at m ∷ path at m ∷ [])
+table_row path m n ParenOpen = reads (args at Dropped ∷ after at m ∷ [])
+table_row step m n (Ident w) = reads []
+table_row step m n (Number true) = reads []
+table_row step m n Star = reads []
+table_row index m n Star = reads (the EndBracket at m ∷ [])
+table_row index m n c = shared_row expr m n c then (the EndBracket at m ∷ [])
+-- Tuples and objects. A `for` first always begins a for-expression.
+table_row names m n Comma = reads (the Name at m ∷ the InWord at m ∷ [])
+table_row names m n (Ident In) = reads []
+table_row tuple m n (Ident For) = reads
+    (the Name at m ∷ names at m ∷ expr at m ∷ the Separator at m ∷ expr at m ∷ tuple_if at m ∷ [])
+table_row tuple m n BracketClose = reads []
+table_row tuple m n c = shared_row expr m n c then (tuple_next at m ∷ [])
+table_row tuple_next m n Comma = reads (tuple_item at m ∷ [])
+table_row tuple_next m n BracketClose = reads []
+table_row tuple_item m n BracketClose = reads []
+table_row tuple_item m n c = shared_row expr m n c then (tuple_next at m ∷ [])
+table_row tuple_if m n (Ident If) = reads (expr at m ∷ the EndBracket at m ∷ [])
+table_row tuple_if m n BracketClose = reads []
+table_row object m n Newline = reads (object at m ∷ [])
+table_row object m n (Ident For) = reads
+    (the Name at Dropped ∷ names at Dropped ∷ expr at Dropped ∷ the Separator at Dropped
+    ∷ expr at Dropped ∷ the FatArrow at Dropped ∷ expr at Dropped ∷ group at Dropped ∷ [])
+table_row object m n BraceClose = reads []
+table_row object m n c = shared_row expr m n c then
+    (separator at m ∷ expr at m ∷ object_next at m ∷ [])
+table_row separator m n Assign = reads []
+table_row separator m n Colon = reads []
+table_row object_next m n Comma = reads (object_item at m ∷ [])
+table_row object_next m n Newline = reads (object_item at m ∷ [])
+table_row object_next m n BraceClose = reads []
+table_row object_item m n Newline = reads (object_item at m ∷ [])
+table_row object_item m n BraceClose = reads []
+table_row object_item m n c = shared_row expr m n c then
+    (separator at m ∷ expr at m ∷ object_next at m ∷ [])
+table_row group m n Ellipsis = reads (object_if at m ∷ [])
+table_row group m n c = shared_row object_if m n c
+-- the arguments of a call
+table_row args m n ParenClose = reads []
+table_row args m n c = shared_row expr m n c then (arg_next at m ∷ [])
+table_row arg_next m n Comma = reads (args at m ∷ [])
+table_row arg_next m n Ellipsis = reads (the EndParen at m ∷ [])
+table_row arg_next m n ParenClose = reads []
+-- Templates. `parts` is a template outside directives, and `inside` one in a section of a directive.
+table_row parts m n Lit = reads (parts at m ∷ [])
+table_row parts m n InterpOpen = reads
+    (expr at Dropped ∷ the EndSequence at Dropped ∷ parts at m ∷ [])
+table_row parts m n ControlOpen = reads (directive n at Dropped ∷ parts at m ∷ [])
+table_row parts m n QuoteClose = nothing
+table_row parts m n HeredocClose = nothing
+table_row (inside e) m n Lit = reads (inside e at m ∷ [])
+table_row (inside e) m n InterpOpen = reads
+    (expr at Dropped ∷ the EndSequence at Dropped ∷ inside e at m ∷ [])
+table_row (inside e) m n ControlOpen = reads (section_directive e n at m ∷ [])
+table_row (section_directive InIf k) m n (Ident Else) = reads
+    (the EndSequence at m ∷ inside InElse at m ∷ [])
+table_row (section_directive InIf k) m n (Ident Endif) = closes (the EndSequence at m ∷ [])
+table_row (section_directive InElse k) m n (Ident Endif) = closes (the EndSequence at m ∷ [])
+table_row (section_directive InFor k) m n (Ident Endfor) = closes (the EndSequence at m ∷ [])
+table_row (section_directive e k) m n c = shared_row (directive k) m n c then (inside e at m ∷ [])
+-- any other symbol
+table_row s m n c = shared_row s m n c
+
 abbrev pub row : Symbol → Newlines → Lookahead → Action
 row s m t = row_of s m t.number t.class
 
