@@ -7,4 +7,3 @@ pub mod NumberedLemmas
 pub mod PopLemmas
 pub mod ItemOrderLemmas
 pub mod TopBlockLemmas
-pub mod TableLemmas
