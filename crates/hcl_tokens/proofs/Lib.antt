@@ -4,3 +4,4 @@ pub mod TokenEntryLemmas
 pub mod OneReadingLemmas
 pub mod NonemptyLemmas
 pub mod ExpressionKindLemmas
+pub mod KindLemmas

@@ -3,6 +3,7 @@
 use Rattle.std.specs.Prelude.{Bool, true, false}
 use Rattle.hcl_tokens.specs.declared.token.Kind.{Kind}
 use Rattle.hcl_tokens.specs.declared.token.Kind.TheVariants as kind
+use Rattle.hcl_tokens.specs.contracts.token.KindPartialEq.TheImpl as derived
 
 -- whether the second is the first
 abbrev pub is : Kind → Kind → Bool
@@ -49,3 +50,7 @@ is kind.ControlOpen kind.ControlOpen = true
 is kind.QuoteClose kind.QuoteClose = true
 is kind.HeredocClose kind.HeredocClose = true
 is _ _ = false
+
+-- as the derived `==` has it
+abbrev pub is_same : Kind → Kind → Bool
+is_same = (derived.ghosts).eq
