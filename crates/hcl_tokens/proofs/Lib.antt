@@ -4,4 +4,3 @@ pub mod TokenEntryLemmas
 pub mod OneReadingLemmas
 pub mod NonemptyLemmas
 pub mod ExpressionKindLemmas
-pub mod KindLemmas
