@@ -14,6 +14,7 @@ use Rattle.hcl_grammar.specs.declared.item.Item.TheVariants as item
 use Rattle.tf_facts.specs.Sources.{Source, source_of}
 use Rattle.tf_facts.specs.declared.declaration_kind.DeclarationKind.{DeclarationKind}
 use Rattle.tf_facts.specs.declared.declaration_kind.DeclarationKind.TheVariants as declares
+use Rattle.tf_facts.specs.contracts.declaration_kind.DeclarationKindPartialEq.TheImpl as derived
 
 -- the source of a module, and the place of its opening quote
 pub record SourceAt (P : Type 0) : Type 0 where
@@ -109,6 +110,10 @@ declarer word =
     else if bytes_eq word (codes "resource") then Some (record { kind = declares.Resource; labels = 2 })
     else if bytes_eq word (codes "data") then Some (record { kind = declares.Data; labels = 2 })
     else None
+
+-- whether the second is the first, by the equality that is derived for kinds
+abbrev pub declares_same : DeclarationKind → DeclarationKind → Bool
+declares_same = (derived.ghosts).eq
 
 abbrev pub is_module : DeclarationKind → Bool
 is_module declares.Module = true

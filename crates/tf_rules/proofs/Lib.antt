@@ -25,3 +25,4 @@ pub mod NameCostLemmas
 pub mod DeclaredTextLemmas
 pub mod ReferenceCostLemmas
 pub mod NameGrowthLemmas
+pub mod DeclaredKindLemmas
