@@ -112,12 +112,8 @@ declarer word =
     else None
 
 -- whether the second is the first, by the equality that is derived for kinds
-abbrev pub declares_same : DeclarationKind → DeclarationKind → Bool
-declares_same = (derived.ghosts).eq
-
-abbrev pub is_module : DeclarationKind → Bool
-is_module declares.Module = true
-is_module _ = false
+abbrev pub is_kind : DeclarationKind → DeclarationKind → Bool
+is_kind = (derived.ghosts).eq
 
 abbrev pub by_declarer : List Numbered → ℕ → List (List ℕ) → List Attribute → Option Declarer → List (Declaration ℕ)
 by_declarer ts token names attributes None = []
@@ -130,7 +126,7 @@ by_declarer ts token names attributes (Some d) =
       described = has (codes "description") attributes;
       typed = has (codes "type") attributes;
       versioned = has (codes "version") attributes;
-      source = if is_module d.kind then module_source ts attributes else None;
+      source = if is_kind declares.Module d.kind then module_source ts attributes else None;
     } ∷ []
     else []
 

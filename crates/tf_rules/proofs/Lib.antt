@@ -25,4 +25,3 @@ pub mod NameCostLemmas
 pub mod DeclaredTextLemmas
 pub mod ReferenceCostLemmas
 pub mod NameGrowthLemmas
-pub mod DeclaredKindLemmas
