@@ -1,5 +1,5 @@
 -- Whether a reference stands in the block of its own variable.
-use Rattle.std.proofs.Common.{◌≡◌, ◌∙◌, ap, sym, refl, ℕ, suc, zero, ◌+◌, ◌≤◌, ◌<◌, Bool, true, false, cond, max, List, [], ◌∷◌, ◌++◌, map, length, drop, arith, subst}
+use Rattle.std.proofs.Common.{MatchBool, ◌≡◌, ◌∙◌, ap, sym, refl, ℕ, suc, zero, ◌+◌, ◌≤◌, ◌<◌, Bool, true, false, cond, max, List, [], ◌∷◌, ◌++◌, map, length, drop, arith, subst}
 use Rattle.std.specs.Prelude.{◌&&◌, ◌||◌, nat_le, nat_lt, codes, Some, None, Option, slice_get, filter, ◌==◌}
 use Rattle.std.proofs.lemmas.Bool.{lt-ltb, le-ltb, lt-leb}
 use Rattle.std.specs.Str.{bytes_eq}
@@ -8,7 +8,7 @@ use Rattle.hcl_tokens.specs.Lexemes.{Lexeme}
 use Rattle.hcl_grammar.specs.Numbered.{Numbered, numbered}
 use Rattle.hcl_grammar.specs.Items.{is_closed, outline}
 use Rattle.hcl_grammar.specs.Labels.{text_of}
-use Rattle.hcl_grammar.specs.ItemOrder.{Either, TopsApart}
+use Rattle.hcl_grammar.specs.ItemOrder.{TopsApart}
 use Rattle.hcl_grammar.specs.declared.item.Item.{Item}
 use Rattle.hcl_grammar.specs.declared.item.Item.TheVariants as item
 use Rattle.hcl_grammar.proofs.TopBlockLemmas.{tops_apart}
@@ -187,7 +187,7 @@ items_own ts from to (item.Attribute level name first end ∷ is) h = items_own 
 items_own ts from to (item.Label l ∷ is) h = items_own ts from to is h
 items_own ts from to (item.Block level token end ∷ is) h = by (is_closed level) (λ n q. items_own ts n to is q) h
   where
-    by : (b : Bool) → ((n : ℕ) → TopsApart n is to → Apart n (own_of_items ts is)) → Either b ((from ≤ token) × TopsApart (max token end) is to) (TopsApart from is to)
+    by : (b : Bool) → ((n : ℕ) → TopsApart n is to → Apart n (own_of_items ts is)) → MatchBool b ((from ≤ token) × TopsApart (max token end) is to) (TopsApart from is to)
         → Apart from (map (λ d. record { name = last_of d.names; first = token; end = end }) (filter (λ d. is_kind declares.Variable d.kind) (cond b (of_block ts token (labels_in ts is) (attributes_in ts is)) [])) ++ own_of_items ts is)
     by true more r = in_front from token end (filter (λ e. is_kind declares.Variable e.kind) (of_block ts token (labels_in ts is) (attributes_in ts is))) (own_of_items ts is) (one_in_block ts token (labels_in ts is) (attributes_in ts is)) r.0 (more (max token end) r.1)
     by false more r = more from r
