@@ -1,5 +1,5 @@
 -- The blocks at the top follow one another.
-use Rattle.std.proofs.Common.{◌≡◌, ap, sym, subst, ℕ, suc, zero, ◌+◌, ◌≤◌, max, Bool, true, false, cond, not, List, [], ◌∷◌, ◌++◌, length, arith}
+use Rattle.std.proofs.Common.{MatchBool, ◌≡◌, ap, sym, subst, ℕ, suc, zero, ◌+◌, ◌≤◌, max, Bool, true, false, cond, not, List, [], ◌∷◌, ◌++◌, length, arith}
 use Rattle.std.specs.Prelude.{filter}
 use Rattle.std.specs.List.{flat_map}
 use Rattle.hcl_tokens.specs.Kinds.{is}
@@ -8,7 +8,7 @@ use Rattle.hcl_tokens.specs.Lexemes.{Lexeme}
 use Rattle.hcl_tokens.specs.declared.token.Kind.{Kind}
 use Rattle.hcl_grammar.specs.Numbered.{Numbered, numbered, without_comments, is_comment, end_of}
 use Rattle.hcl_grammar.specs.Items.{is_closed, pieces, block_end, body, block, item_of, items, label_at, labels, outline, closing_quote}
-use Rattle.hcl_grammar.specs.ItemOrder.{Either, TopsApart}
+use Rattle.hcl_grammar.specs.ItemOrder.{TopsApart}
 use Rattle.hcl_grammar.specs.declared.item.Item.{Item}
 use Rattle.hcl_grammar.specs.declared.item.Item.TheVariants as item
 use Rattle.hcl_grammar.proofs.ItemOrderLemmas.{Rises, rises_wide, rises_filter, rises_numbered, AllRise, pieces_rise, end_within}
@@ -19,7 +19,7 @@ tops_from from later to (item.Attribute level name first end ∷ is) h r = tops_
 tops_from from later to (item.Label l ∷ is) h r = tops_from from later to is h r
 tops_from from later to (item.Block level kind end ∷ is) h r = by (is_closed level) (λ q. tops_from from later to is h q) r
   where
-    by : (b : Bool) → (TopsApart later is to → TopsApart from is to) → Either b ((later ≤ kind) × TopsApart (max kind end) is to) (TopsApart later is to) → Either b ((from ≤ kind) × TopsApart (max kind end) is to) (TopsApart from is to)
+    by : (b : Bool) → (TopsApart later is to → TopsApart from is to) → MatchBool b ((later ≤ kind) × TopsApart (max kind end) is to) (TopsApart later is to) → MatchBool b ((from ≤ kind) × TopsApart (max kind end) is to) (TopsApart from is to)
     by true more r = (omega (arith, h, r.0), r.1)
     by false more r = more r
 
@@ -29,7 +29,7 @@ tops_both from mid to (item.Attribute level name first end ∷ is) js h k = tops
 tops_both from mid to (item.Label l ∷ is) js h k = tops_both from mid to is js h k
 tops_both from mid to (item.Block level kind end ∷ is) js h k = by (is_closed level) (λ n q. tops_both n mid to is js q k) h
   where
-    by : (b : Bool) → ((n : ℕ) → TopsApart n is mid → TopsApart n (is ++ js) to) → Either b ((from ≤ kind) × TopsApart (max kind end) is mid) (TopsApart from is mid) → Either b ((from ≤ kind) × TopsApart (max kind end) (is ++ js) to) (TopsApart from (is ++ js) to)
+    by : (b : Bool) → ((n : ℕ) → TopsApart n is mid → TopsApart n (is ++ js) to) → MatchBool b ((from ≤ kind) × TopsApart (max kind end) is mid) (TopsApart from is mid) → MatchBool b ((from ≤ kind) × TopsApart (max kind end) (is ++ js) to) (TopsApart from (is ++ js) to)
     by true more r = (r.0, more (max kind end) r.1)
     by false more r = more from r
 
@@ -68,7 +68,7 @@ module _ (inner : List Numbered → List Item) (deep : AllDeep inner) (level : �
     block_deep : (kind : Numbered) (rest : List Numbered) → Deep (block inner level kind rest)
     block_deep kind rest m =
         let more : TopsApart m (labels rest ++ inner (body rest)) m = deep_both (labels rest) (inner (body rest)) (deep_labels rest) (deep (body rest)) m in
-        subst (λ (b : Bool). Either b ((m ≤ kind.number) × TopsApart (max kind.number (block_end rest)) (labels rest ++ inner (body rest)) m) (TopsApart m (labels rest ++ inner (body rest)) m)) (sym below) more
+        subst (λ (b : Bool). MatchBool b ((m ≤ kind.number) × TopsApart (max kind.number (block_end rest)) (labels rest ++ inner (body rest)) m) (TopsApart m (labels rest ++ inner (body rest)) m)) (sym below) more
 
     item_deep : (piece : List Numbered) → Deep (item_of inner level piece)
     item_deep [] m = omega arith
@@ -96,7 +96,7 @@ module _ (inner : List Numbered → List Item) (deep : AllDeep inner) (level : �
       more : (n : ℕ) → n ≤ to → TopsApart n (labels rest ++ inner (body rest)) to
       more n k = deep_wide n to (labels rest ++ inner (body rest)) k (deep_both (labels rest) (inner (body rest)) (deep_labels rest) (deep (body rest)))
 
-      by : (b : Bool) → Either b ((from ≤ kind.number) × TopsApart (max kind.number (block_end rest)) (labels rest ++ inner (body rest)) to) (TopsApart from (labels rest ++ inner (body rest)) to)
+      by : (b : Bool) → MatchBool b ((from ≤ kind.number) × TopsApart (max kind.number (block_end rest)) (labels rest ++ inner (body rest)) to) (TopsApart from (labels rest ++ inner (body rest)) to)
       by true = (h, more (max kind.number (block_end rest)) (omega (arith, within, wide)))
       by false = more from (omega (arith, h, wide))
 

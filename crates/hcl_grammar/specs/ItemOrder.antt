@@ -1,5 +1,5 @@
 -- Items in the order of their tokens: what the laws say of an outline. Our own words.
-use Rattle.std.specs.Prelude.{◌≤◌, ◌<◌, ◌+◌, ℕ, max, Bool, true, false, List, [], ◌∷◌}
+use Rattle.std.specs.Prelude.{◌≤◌, ◌<◌, ◌+◌, ℕ, max, MatchBool, List, [], ◌∷◌}
 use Rattle.hcl_grammar.specs.Items.{is_closed}
 use Rattle.hcl_grammar.specs.declared.item.Item.{Item}
 use Rattle.hcl_grammar.specs.declared.item.Item.TheVariants as item
@@ -27,13 +27,9 @@ abbrev pub Climbs : ℕ → List Item → ℕ → Type 0
 Climbs from [] to = from ≤ to
 Climbs from (i ∷ is) to = Spans from i to × Climbs (past i) is to
 
-abbrev pub Either : Bool → Type 0 → Type 0 → Type 0
-Either true A B = A
-Either false A B = B
-
 -- each top-level block begins after the end of the one before, from a number on; all end before another
 abbrev pub TopsApart : ℕ → List Item → ℕ → Type 0
 TopsApart from [] to = from ≤ to
-TopsApart from (item.Block level kind end ∷ is) to = Either (is_closed level) ((from ≤ kind) × TopsApart (max kind end) is to) (TopsApart from is to)
-TopsApart from (item.Attribute level name first end ∷ is) to = TopsApart from is to
-TopsApart from (item.Label l ∷ is) to = TopsApart from is to
+TopsApart from (item.Block level kind end ∷ is) to = MatchBool (is_closed level)
+    ((from ≤ kind) × TopsApart (max kind end) is to) (TopsApart from is to)
+TopsApart from (_ ∷ is) to = TopsApart from is to

@@ -12,7 +12,7 @@ use Rattle.hcl_grammar.specs.Classes.{drops}
 use Rattle.hcl_syntax.specs.Inner.Cursors.{shown, first, after_first, Looks}
 use Rattle.hcl_syntax.proofs.LookaheadLemmas.{shown-shown}
 use Rattle.hcl_grammar.specs.declared.class.Word.{Word}
-use Rattle.hcl_grammar.specs.Grammar.{Symbol, Marked, ◌at◌, Action, ◌then◌, none, nothing, reads, opens, closes, row, ends, the, fits, expr, expr_row, args_row, arg_next, tuple_row, tuple_item_row, tuple_next, tuple_if, tuple_if_row, object, object_row, object_item, object_item_row, object_next, object_if, object_if_row, group, group_row, separator, names, index_row, names_row, terminal_row, rest, rest_row, labels_row, file_row, body_row, eol, file, body, directive, directive_row, inside, section_directive_row}
+use Rattle.hcl_grammar.specs.Grammar.{Symbol, Marked, ◌at◌, Action, ◌then◌, none, nothing, reads, opens, closes, row, ends, the, fits, expr, arg_next, tuple_next, tuple_if, object, object_item, object_next, object_if, group, separator, names, rest, eol, file, body, directive, inside, args, tuple, tuple_item, index, section_directive, labels, row_of}
 use Rattle.hcl_grammar.specs.Predictor.{max_directives, ending, Effect, on, stop, opening_directive, row_effect, effect, next, run}
 use Rattle.hcl_syntax.specs.declared.expected.Refused.{Refused}
 use Rattle.hcl_syntax.specs.Inner.Parsing.{said, turning, turning_row, outcome, Advances, bodies, Ends, waits}
@@ -146,7 +146,7 @@ vanishes _ = false
 pub expr-stays : (m : Newlines) (t : Lookahead) → vanishes (row expr m t) ≡ false
 expr-stays m t = expr-stays-at m t.class
   where
-    expr-stays-at : (m : Newlines) (k : Class) → vanishes (expr_row m k) ≡ false
+    expr-stays-at : (m : Newlines) (k : Class) → vanishes (row_of expr m 0 k) ≡ false
     expr-stays-at m Minus = refl
     expr-stays-at m _ = refl
 
@@ -156,7 +156,7 @@ the-stays e m t = elim (fits e t.class) as (λ b. vanishes (cond b (reads []) no
 pub directive-stays : (p : ℕ) (m : Newlines) (t : Lookahead) → vanishes (row (directive p) m t) ≡ false
 directive-stays p m t = directive-stays-at p m t.class
   where
-    directive-stays-at : (p : ℕ) (m : Newlines) (k : Class) → vanishes (directive_row m p k) ≡ false
+    directive-stays-at : (p : ℕ) (m : Newlines) (k : Class) → vanishes (row_of (directive p) m 0 k) ≡ false
     directive-stays-at p m (Ident If) = refl
     directive-stays-at p m (Ident For) = refl
     directive-stays-at p m _ = refl
@@ -197,28 +197,28 @@ pub alike : {A : Type 0} {a : A} {count : ℕ} {s s' : Symbol} {m : Newlines} {o
     ((t : Lookahead) → Some t ≡ first mid → row s m t ≡ row s' m t) → mid ≡ shown m old → Advances count (s at m ∷ []) old (Ok a) (s' at m ∷ []) mid
 alike {count = count} {s = s} {s' = s'} {m = m} {old = old} {mid = mid} e f shows = record { same = λ after. alike-at count s s' m after old mid e f shows }
 
--- A read terminal.
-pub args-end : (m : Newlines) (k : Class) → fits EndParen k ≡ true → args_row m k ≡ reads []
+-- A read terminal. Only rows of templates go by the number of a token, so the others are named at 0.
+pub args-end : (m : Newlines) (k : Class) → fits EndParen k ≡ true → row_of args m 0 k ≡ reads []
 args-end m ParenClose h = refl
 args-end m _ h = cc
 
-pub args-else : (m : Newlines) (k : Class) → fits EndParen k ≡ false → args_row m k ≡ (expr_row m k then (arg_next at m ∷ []))
+pub args-else : (m : Newlines) (k : Class) → fits EndParen k ≡ false → row_of args m 0 k ≡ (row_of expr m 0 k then (arg_next at m ∷ []))
 args-else m ParenClose h = cc
 args-else m _ h = refl
 
-pub tuple-end : (m : Newlines) (k : Class) → fits EndBracket k ≡ true → tuple_item_row m k ≡ reads []
+pub tuple-end : (m : Newlines) (k : Class) → fits EndBracket k ≡ true → row_of tuple_item m 0 k ≡ reads []
 tuple-end m BracketClose h = refl
 tuple-end m _ h = cc
 
-pub tuple-else : (m : Newlines) (k : Class) → fits EndBracket k ≡ false → tuple_item_row m k ≡ (expr_row m k then (tuple_next at m ∷ []))
+pub tuple-else : (m : Newlines) (k : Class) → fits EndBracket k ≡ false → row_of tuple_item m 0 k ≡ (row_of expr m 0 k then (tuple_next at m ∷ []))
 tuple-else m BracketClose h = cc
 tuple-else m _ h = refl
 
-pub index-star : (m : Newlines) (k : Class) → fits Asterisk k ≡ true → index_row m k ≡ reads (the EndBracket at m ∷ [])
+pub index-star : (m : Newlines) (k : Class) → fits Asterisk k ≡ true → row_of index m 0 k ≡ reads (the EndBracket at m ∷ [])
 index-star m Star h = refl
 index-star m _ h = cc
 
-pub index-else : (m : Newlines) (k : Class) → fits Asterisk k ≡ false → index_row m k ≡ (expr_row m k then (the EndBracket at m ∷ []))
+pub index-else : (m : Newlines) (k : Class) → fits Asterisk k ≡ false → row_of index m 0 k ≡ (row_of expr m 0 k then (the EndBracket at m ∷ []))
 index-else m Star h = cc
 index-else m _ h = refl
 
@@ -230,12 +230,12 @@ waits-down m (suc n) h = let e : suc n - 1 ≡ n = omega arith in ap (λ k. the 
 pub renamed : {A : Type 0} {count : ℕ} {xs ys zs : List Marked} {old new : List Lookahead} {r : Result A Refusal} → ys ≡ zs → Advances count xs old r ys new → Advances count xs old r zs new
 renamed {count = count} {xs = xs} {old = old} {new = new} {r = r} e h = subst (λ l. Advances count xs old r l new) e h
 
-pub names-in : (m : Newlines) (k : Class) → fits InWord k ≡ true → names_row m k ≡ reads []
+pub names-in : (m : Newlines) (k : Class) → fits InWord k ≡ true → row_of names m 0 k ≡ reads []
 names-in m (Ident In) h = refl
 names-in m Comma h = cc
 names-in m _ h = cc
 
-pub names-else : (m : Newlines) (k : Class) → fits InWord k ≡ false → names_row m k ≡ (terminal_row CommaSign k then (the Name at m ∷ the InWord at m ∷ []))
+pub names-else : (m : Newlines) (k : Class) → fits InWord k ≡ false → row_of names m 0 k ≡ (row_of (the CommaSign) m 0 k then (the Name at m ∷ the InWord at m ∷ []))
 names-else m (Ident In) h = cc
 names-else m Comma h = refl
 names-else m _ h = refl
@@ -278,21 +278,21 @@ pub end-kept-refusal : {A : Type 0} {count : ℕ} {xs : List Marked} {old new : 
 end-kept-refusal e h = record { same = λ after. h.same after ∙ ap (λ x. Some x) (sym e) }
 
 -- the row by the effect of the word
-by-turning : (e : Section) (m : Newlines) (p : ℕ) (k : Class) → section_directive_row e m p k ≡ turning_row (turning e k) e m p k
-by-turning InIf m p (Ident Else) = refl
-by-turning InIf m p (Ident Endif) = refl
-by-turning InElse m p (Ident Endif) = refl
-by-turning InFor m p (Ident Endfor) = refl
-by-turning e m p k = refl
+by-turning : (e : Section) (m : Newlines) (p n : ℕ) (k : Class) → row_of (section_directive e p) m n k ≡ turning_row (turning e k) e m p n k
+by-turning InIf m p n (Ident Else) = refl
+by-turning InIf m p n (Ident Endif) = refl
+by-turning InElse m p n (Ident Endif) = refl
+by-turning InFor m p n (Ident Endfor) = refl
+by-turning e m p n k = refl
 
-pub turning-onward : (e : Section) (m : Newlines) (p : ℕ) (k : Class) (w : Turning) → w ≡ turning e k → w ≡ Onward → section_directive_row e m p k ≡ reads (the EndSequence at m ∷ inside InElse at m ∷ [])
-turning-onward e m p k w h i = by-turning e m p k ∙ ap (λ x. turning_row x e m p k) (sym h ∙ i)
+pub turning-onward : (e : Section) (m : Newlines) (p n : ℕ) (k : Class) (w : Turning) → w ≡ turning e k → w ≡ Onward → row_of (section_directive e p) m n k ≡ reads (the EndSequence at m ∷ inside InElse at m ∷ [])
+turning-onward e m p n k w h i = by-turning e m p n k ∙ ap (λ x. turning_row x e m p n k) (sym h ∙ i)
 
-pub turning-closing : (e : Section) (m : Newlines) (p : ℕ) (k : Class) (w : Turning) → w ≡ turning e k → w ≡ Closing → section_directive_row e m p k ≡ closes (the EndSequence at m ∷ [])
-turning-closing e m p k w h i = by-turning e m p k ∙ ap (λ x. turning_row x e m p k) (sym h ∙ i)
+pub turning-closing : (e : Section) (m : Newlines) (p n : ℕ) (k : Class) (w : Turning) → w ≡ turning e k → w ≡ Closing → row_of (section_directive e p) m n k ≡ closes (the EndSequence at m ∷ [])
+turning-closing e m p n k w h i = by-turning e m p n k ∙ ap (λ x. turning_row x e m p n k) (sym h ∙ i)
 
-pub turning-inner : (e : Section) (m : Newlines) (p : ℕ) (k : Class) (w : Turning) → w ≡ turning e k → w ≡ Inner → section_directive_row e m p k ≡ (directive_row m p k then (inside e at m ∷ []))
-turning-inner e m p k w h i = by-turning e m p k ∙ ap (λ x. turning_row x e m p k) (sym h ∙ i)
+pub turning-inner : (e : Section) (m : Newlines) (p n : ℕ) (k : Class) (w : Turning) → w ≡ turning e k → w ≡ Inner → row_of (section_directive e p) m n k ≡ (row_of (directive p) m n k then (inside e at m ∷ []))
+turning-inner e m p n k w h i = by-turning e m p n k ∙ ap (λ x. turning_row x e m p n k) (sym h ∙ i)
 
 pub no-token : (o : Option Lookahead) (t : Lookahead) → None ≡ o → Some t ≡ o → ⊥
 no-token o t e f = cc
@@ -300,23 +300,23 @@ no-token o t e f = cc
 pub same-token : (o : Option Lookahead) (t u : Lookahead) → Some t ≡ o → Some u ≡ o → t ≡ u
 same-token o t u e f = cc
 
-pub rest-equals : (m : Newlines) (k : Class) → fits Equals k ≡ true → rest_row m k ≡ reads (expr at Seen ∷ eol at m ∷ [])
+pub rest-equals : (m : Newlines) (k : Class) → fits Equals k ≡ true → row_of rest m 0 k ≡ reads (expr at Seen ∷ eol at m ∷ [])
 rest-equals m Assign h = refl
 rest-equals m _ h = cc
 
-pub rest-else : (m : Newlines) (k : Class) → fits Equals k ≡ false → rest_row m k ≡ labels_row m k
+pub rest-else : (m : Newlines) (k : Class) → fits Equals k ≡ false → row_of rest m 0 k ≡ row_of labels m 0 k
 rest-else m Assign h = cc
 rest-else m _ h = refl
 
 pub bodies-newline : {A : Type 0} {a : A} (n : ℕ) {old left : List Lookahead} {t : Lookahead} → Looks Seen old t left → t.class ≡ Newline → Advances 0 (bodies n) old (Ok a) (bodies n) left
-bodies-newline zero l e = reading l (ap (file_row Seen) e) done
-bodies-newline (suc n) l e = beside (the EndBrace at Seen ∷ eol at Seen ∷ bodies n) (reading l (ap (body_row Seen) e) done)
+bodies-newline zero l e = reading l (ap (row_of file Seen 0) e) done
+bodies-newline (suc n) l e = beside (the EndBrace at Seen ∷ eol at Seen ∷ bodies n) (reading l (ap (row_of body Seen 0) e) done)
 
 pub bodies-item : {A : Type 0} {a : A} (n : ℕ) (w : Word) {old left : List Lookahead} {t : Lookahead} → Looks Seen old t left → t.class ≡ Ident w → Advances 0 (bodies n) old (Ok a) (rest at Seen ∷ bodies n) left
-bodies-item zero w l e = reading l (ap (file_row Seen) e) done
-bodies-item (suc n) w l e = beside (the EndBrace at Seen ∷ eol at Seen ∷ bodies n) (reading {xs = rest at Seen ∷ body at Seen ∷ []} l (ap (body_row Seen) e) done)
+bodies-item zero w l e = reading l (ap (row_of file Seen 0) e) done
+bodies-item (suc n) w l e = beside (the EndBrace at Seen ∷ eol at Seen ∷ bodies n) (reading {xs = rest at Seen ∷ body at Seen ∷ []} l (ap (row_of body Seen 0) e) done)
 
-pub bodies-refuse : {A : Type 0} (n : ℕ) {ys : List Marked} {old left new : List Lookahead} {t : Lookahead} → Looks Seen old t left → file_row Seen t.class ≡ none → body_row Seen t.class ≡ none → Advances {A = A} 0 (bodies n) old (Err (UnexpectedToken t.number)) ys new
+pub bodies-refuse : {A : Type 0} (n : ℕ) {ys : List Marked} {old left new : List Lookahead} {t : Lookahead} → Looks Seen old t left → row file Seen t ≡ none → row body Seen t ≡ none → Advances {A = A} 0 (bodies n) old (Err (UnexpectedToken t.number)) ys new
 bodies-refuse zero l e f = refusing l e
 bodies-refuse {A = A} (suc n) {new = new} l e f = failed (beside (the EndBrace at Seen ∷ eol at Seen ∷ bodies n) (refusing {A = A} {s = body} {ys = []} {new = new} l f))
 
@@ -325,8 +325,8 @@ bodies-close zero h l e = absurd (h refl)
 bodies-close {A = A} {a = a} (suc n) {old = old} {left = left} {t = t} h l e =
     let back : suc n - 1 ≡ n = omega arith in
     renamed (ap (λ k. eol at Seen ∷ bodies k) (sym back))
-    (onward (beside (the EndBrace at Seen ∷ eol at Seen ∷ bodies n) (vanishing {a = a} {new = shown Seen old} l (ap (body_row Seen) e) refl))
-    (beside (eol at Seen ∷ bodies n) (reading {xs = []} (again l) (ap (λ k. terminal_row EndBrace k) e) done)))
+    (onward (beside (the EndBrace at Seen ∷ eol at Seen ∷ bodies n) (vanishing {a = a} {new = shown Seen old} l (ap (row_of body Seen 0) e) refl))
+    (beside (eol at Seen ∷ bodies n) (reading {xs = []} (again l) (ap (row_of (the EndBrace) Seen 0) e) done)))
   where
     again : {old : List Lookahead} {t : Lookahead} {ts : List Lookahead} → Looks Seen old t ts → Looks Seen (shown Seen old) t ts
     again {old = old} l = record { is = sym (shown-shown Seen old) ∙ l.is; kept = l.kept }
@@ -351,7 +351,7 @@ pub whole : {A : Type 0} {a : A} {old new : List Lookahead} → Advances 0 (file
 whole {new = new} h e = h.same [] ∙ ap (λ l. run 0 [] l) (no-first new e) ∙ run-end 0 []
 
 pub refuse-close : {A : Type 0} (n : ℕ) {ys : List Marked} {old left new : List Lookahead} {t : Lookahead} → n ≡ 0 → Looks Seen old t left → t.class ≡ BraceClose → Advances {A = A} 0 (bodies n) old (Err (UnexpectedToken t.number)) ys new
-refuse-close zero h l e = refusing l (ap (file_row Seen) e)
+refuse-close zero h l e = refusing l (ap (row_of file Seen 0) e)
 refuse-close (suc n) h l e = cc
 
 pub whole-quits : {A B : Type 0} {f : Refusal} {w : Refused} {old new : List Lookahead} {ys : List Marked} (r : Result B Refused) → IsErrAnd r (λ e. e ≡ w) → Advances {A = A} 0 (file at Seen ∷ []) old (Err f) ys new → run 0 (file at Seen ∷ []) old ≡ outcome (said r f) None
@@ -362,38 +362,38 @@ pub bodies-up : (n : ℕ) → bodies (suc n) ≡ bodies (n + 1)
 bodies-up n = let e : suc n ≡ n + 1 = omega arith in ap (λ k. bodies k) e
 
 -- For-expressions, and their conditions.
-pub tuple-for : (m : Newlines) (c : Class) → fits ForWord c ≡ true → tuple_row m c ≡ reads (the Name at m ∷ names at m ∷ expr at m ∷ the Separator at m ∷ expr at m ∷ tuple_if at m ∷ [])
+pub tuple-for : (m : Newlines) (c : Class) → fits ForWord c ≡ true → row_of tuple m 0 c ≡ reads (the Name at m ∷ names at m ∷ expr at m ∷ the Separator at m ∷ expr at m ∷ tuple_if at m ∷ [])
 tuple-for m (Ident For) h = refl
 tuple-for m _ h = cc
 
-pub tuple-listed : (m : Newlines) (c : Class) → fits ForWord c ≡ false → tuple_row m c ≡ tuple_item_row m c
+pub tuple-listed : (m : Newlines) (c : Class) → fits ForWord c ≡ false → row_of tuple m 0 c ≡ row_of tuple_item m 0 c
 tuple-listed m (Ident For) h = cc
 tuple-listed m BracketClose h = refl
 tuple-listed m _ h = refl
 
-pub tuple-if : (m : Newlines) (c : Class) → fits IfWord c ≡ true → tuple_if_row m c ≡ reads (expr at m ∷ the EndBracket at m ∷ [])
+pub tuple-if : (m : Newlines) (c : Class) → fits IfWord c ≡ true → row_of tuple_if m 0 c ≡ reads (expr at m ∷ the EndBracket at m ∷ [])
 tuple-if m (Ident If) h = refl
 tuple-if m _ h = cc
 
-pub tuple-plain : (m : Newlines) (c : Class) → fits IfWord c ≡ false → tuple_if_row m c ≡ terminal_row EndBracket c
+pub tuple-plain : (m : Newlines) (c : Class) → fits IfWord c ≡ false → row_of tuple_if m 0 c ≡ row_of (the EndBracket) m 0 c
 tuple-plain m (Ident If) h = cc
 tuple-plain m BracketClose h = refl
 tuple-plain m _ h = refl
 
-pub object-if : (m : Newlines) (c : Class) → fits IfWord c ≡ true → object_if_row m c ≡ reads (expr at m ∷ the EndBrace at m ∷ [])
+pub object-if : (m : Newlines) (c : Class) → fits IfWord c ≡ true → row_of object_if m 0 c ≡ reads (expr at m ∷ the EndBrace at m ∷ [])
 object-if m (Ident If) h = refl
 object-if m _ h = cc
 
-pub object-plain : (m : Newlines) (c : Class) → fits IfWord c ≡ false → object_if_row m c ≡ terminal_row EndBrace c
+pub object-plain : (m : Newlines) (c : Class) → fits IfWord c ≡ false → row_of object_if m 0 c ≡ row_of (the EndBrace) m 0 c
 object-plain m (Ident If) h = cc
 object-plain m BraceClose h = refl
 object-plain m _ h = refl
 
-pub group-dots : (m : Newlines) (c : Class) → fits Ellipses c ≡ true → group_row m c ≡ reads (object_if at m ∷ [])
+pub group-dots : (m : Newlines) (c : Class) → fits Ellipses c ≡ true → row_of group m 0 c ≡ reads (object_if at m ∷ [])
 group-dots m Ellipsis h = refl
 group-dots m _ h = cc
 
-pub group-plain : (m : Newlines) (c : Class) → fits Ellipses c ≡ false → group_row m c ≡ object_if_row m c
+pub group-plain : (m : Newlines) (c : Class) → fits Ellipses c ≡ false → row_of group m 0 c ≡ row_of object_if m 0 c
 group-plain m Ellipsis h = cc
 group-plain m _ h = refl
 
@@ -404,14 +404,14 @@ PassesNewlines s = (t : Lookahead) → drops Dropped t.class ≡ true → row s 
 pub object-passes : PassesNewlines object
 object-passes t e = object-passes-at t.class e
   where
-    object-passes-at : (c : Class) → drops Dropped c ≡ true → object_row Seen c ≡ reads (object at Seen ∷ [])
+    object-passes-at : (c : Class) → drops Dropped c ≡ true → row_of object Seen 0 c ≡ reads (object at Seen ∷ [])
     object-passes-at Newline h = refl
     object-passes-at _ h = cc
 
 pub item-passes : PassesNewlines object_item
 item-passes t e = item-passes-at t.class e
   where
-    item-passes-at : (c : Class) → drops Dropped c ≡ true → object_item_row Seen c ≡ reads (object_item at Seen ∷ [])
+    item-passes-at : (c : Class) → drops Dropped c ≡ true → row_of object_item Seen 0 c ≡ reads (object_item at Seen ∷ [])
     item-passes-at Newline h = refl
     item-passes-at _ h = cc
 
@@ -436,21 +436,21 @@ seen-all (t ∷ ts) = refl
 looks-past : {old left : List Lookahead} {t : Lookahead} → Looks Dropped old t left → Looks Seen (shown Dropped old) t left
 looks-past {old = old} l = record { is = seen-all (shown Dropped old) ∙ l.is; kept = refl }
 
-pub object-for : (m : Newlines) (c : Class) → fits ForWord c ≡ true → object_row m c ≡ reads (the Name at Dropped ∷ names at Dropped ∷ expr at Dropped ∷ the Separator at Dropped ∷ expr at Dropped ∷ the FatArrow at Dropped ∷ expr at Dropped ∷ group at Dropped ∷ [])
+pub object-for : (m : Newlines) (c : Class) → fits ForWord c ≡ true → row_of object m 0 c ≡ reads (the Name at Dropped ∷ names at Dropped ∷ expr at Dropped ∷ the Separator at Dropped ∷ expr at Dropped ∷ the FatArrow at Dropped ∷ expr at Dropped ∷ group at Dropped ∷ [])
 object-for m (Ident For) h = refl
 object-for m _ h = cc
 
-pub object-listed : (m : Newlines) (c : Class) → fits ForWord c ≡ false → drops Dropped c ≡ false → object_row m c ≡ object_item_row m c
+pub object-listed : (m : Newlines) (c : Class) → fits ForWord c ≡ false → drops Dropped c ≡ false → row_of object m 0 c ≡ row_of object_item m 0 c
 object-listed m (Ident For) h k = cc
 object-listed m Newline h k = cc
 object-listed m BraceClose h k = refl
 object-listed m _ h k = refl
 
-pub item-end : (m : Newlines) (c : Class) → fits EndBrace c ≡ true → object_item_row m c ≡ reads []
+pub item-end : (m : Newlines) (c : Class) → fits EndBrace c ≡ true → row_of object_item m 0 c ≡ reads []
 item-end m BraceClose h = refl
 item-end m _ h = cc
 
-pub item-else : (m : Newlines) (c : Class) → fits EndBrace c ≡ false → drops Dropped c ≡ false → object_item_row m c ≡ (expr_row m c then (separator at m ∷ expr at m ∷ object_next at m ∷ []))
+pub item-else : (m : Newlines) (c : Class) → fits EndBrace c ≡ false → drops Dropped c ≡ false → row_of object_item m 0 c ≡ (row_of expr m 0 c then (separator at m ∷ expr at m ∷ object_next at m ∷ []))
 item-else m BraceClose h k = cc
 item-else m Newline h k = cc
 item-else m _ h k = refl

@@ -8,7 +8,7 @@ use Rattle.hcl_grammar.specs.declared.expected.Newlines.{Newlines}
 use Rattle.hcl_grammar.specs.declared.expected.Newlines.TheVariants.{Seen, Dropped}
 use Rattle.hcl_grammar.specs.Classes.{is_trivia, drops}
 use Rattle.hcl_grammar.specs.declared.expected.Terminal.TheVariants.{EndQuote}
-use Rattle.hcl_grammar.specs.Grammar.{◌at◌, the, nothing, expr, expr_row, after, after_row, after_ident, after_ident_row, parts, parts_row, step, step_row, terminal_row}
+use Rattle.hcl_grammar.specs.Grammar.{◌at◌, the, nothing, expr, after, after_ident, parts, step, row_of}
 use Rattle.hcl_syntax.specs.Inner.Cursors.{shown, Looks}
 use Rattle.hcl_syntax.specs.Inner.ShortOperands.{ends_expression, is_short_operand, is_opening_quote, is_dot, is_identifier, is_quoted, ExpressionEnds, AreSteps, IsQuoted, IsOperand}
 use Rattle.hcl_syntax.proofs.CursorStepLemmas.{reading, vanishing, onward, beside, done}
@@ -17,8 +17,8 @@ use Rattle.hcl_syntax.proofs.CursorStepLemmas.{reading, vanishing, onward, besid
 record Ends (m : Newlines) (k : Class) : Type 0 where
   pub kept : drops m k ≡ false
   pub seen : is_trivia k ≡ false
-  pub after_ident : after_ident_row m k ≡ nothing
-  pub after : after_row m k ≡ nothing
+  pub after_ident : row_of after_ident m 0 k ≡ nothing
+  pub after : row_of after m 0 k ≡ nothing
 
 ended : (m : Newlines) (k : Class) → ends_expression m k ≡ true → Ends m k
 ended Seen Newline h = record { kept = refl; seen = refl; after_ident = refl; after = refl }
@@ -117,8 +117,8 @@ module _ (d i : Lookahead) (l0 l1 l2 left : List Lookahead) (first : SeenFrom d 
       let dot : is_plain d.class ≡ true = ap is_plain e in
       let name : is_plain i.class ≡ true = ap is_plain f in
       record {
-        after_ident = λ m count ends. reading {s = after_ident} (plain_looks m d l0 l1 first dot) (ap (after_ident_row m) e) (onward {a = tt {0}} (beside (after at m ∷ []) (reading {s = step} (plain_looks m i l1 l2 second name) (ap step_row f) done)) (more.after m count ends));
-        after = λ m count ends. reading {s = after} (plain_looks m d l0 l1 first dot) (ap (after_row m) e) (onward {a = tt {0}} (beside (after at m ∷ []) (reading {s = step} (plain_looks m i l1 l2 second name) (ap step_row f) done)) (more.after m count ends));
+        after_ident = λ m count ends. reading {s = after_ident} (plain_looks m d l0 l1 first dot) (ap (row_of after_ident m 0) e) (onward {a = tt {0}} (beside (after at m ∷ []) (reading {s = step} (plain_looks m i l1 l2 second name) (ap (row_of step m 0) f) done)) (more.after m count ends));
+        after = λ m count ends. reading {s = after} (plain_looks m d l0 l1 first dot) (ap (row_of after m 0) e) (onward {a = tt {0}} (beside (after at m ∷ []) (reading {s = step} (plain_looks m i l1 l2 second name) (ap (row_of step m 0) f) done)) (more.after m count ends));
         shorter = omega (arith, more.shorter, ap length (plain_first d l0 l1 first dot), ap length (plain_first i l1 l2 second name));
       }
   step_by _ _ e f g h = absurd (cc)
@@ -133,13 +133,13 @@ module _ (t : Lookahead) (old left : List Lookahead) where
   short_by rest seen steps (Ident w) e h =
       let plain : is_plain t.class ≡ true = ap is_plain e in
       record {
-        reads = λ m count ends. reading {s = expr} (plain_looks m t old rest seen plain) (ap (expr_row m) e) (steps.after_ident m count ends);
+        reads = λ m count ends. reading {s = expr} (plain_looks m t old rest seen plain) (ap (row_of expr m 0) e) (steps.after_ident m count ends);
         shorter = omega (arith, steps.shorter, ap length (plain_first t old rest seen plain));
       }
   short_by rest seen steps (Number d) e h =
       let plain : is_plain t.class ≡ true = ap is_plain e in
       record {
-        reads = λ m count ends. reading {s = expr} (plain_looks m t old rest seen plain) (ap (expr_row m) e) (steps.after m count ends);
+        reads = λ m count ends. reading {s = expr} (plain_looks m t old rest seen plain) (ap (row_of expr m 0) e) (steps.after m count ends);
         shorter = omega (arith, steps.shorter, ap length (plain_first t old rest seen plain));
       }
   short_by rest seen steps _ e h = absurd (cc)
@@ -151,7 +151,7 @@ module _ (t : Lookahead) (old left : List Lookahead) where
   quoted_from rest seen quoted QuoteOpen e h =
       let plain : is_plain t.class ≡ true = ap is_plain e in
       record {
-        reads = λ m count ends. reading {s = expr} (plain_looks m t old rest seen plain) (ap (expr_row m) e) (quoted.parts m count ends);
+        reads = λ m count ends. reading {s = expr} (plain_looks m t old rest seen plain) (ap (row_of expr m 0) e) (quoted.parts m count ends);
         shorter = omega (arith, quoted.shorter, ap length (plain_first t old rest seen plain));
       }
   quoted_from rest seen quoted _ e h = absurd (cc)
@@ -167,8 +167,8 @@ module _ (t u : Lookahead) (old rest left : List Lookahead) (first : SeenFrom t 
       record {
         parts = λ m count ends.
             let closes : Looks m rest u left = plain_looks m u rest left second close in
-            onward {a = tt {0}} (beside (the EndQuote at m ∷ after at m ∷ []) (reading {s = parts} (plain_looks m t old rest first lit) (ap (parts_row m t.number) e) (vanishing {s = parts} closes (ap (parts_row m u.number) f) (plain_first u rest left second close ∙ sym closes.is))))
-            (onward {a = tt {0}} (beside (after at m ∷ []) (reading {s = the EndQuote} closes (ap (terminal_row EndQuote) f) done)) ((no_steps left).after m count ends));
+            onward {a = tt {0}} (beside (the EndQuote at m ∷ after at m ∷ []) (reading {s = parts} (plain_looks m t old rest first lit) (ap (row_of parts m t.number) e) (vanishing {s = parts} closes (ap (row_of parts m u.number) f) (plain_first u rest left second close ∙ sym closes.is))))
+            (onward {a = tt {0}} (beside (after at m ∷ []) (reading {s = the EndQuote} closes (ap (row_of (the EndQuote) m 0) f) done)) ((no_steps left).after m count ends));
         shorter = omega (arith, ap length (plain_first t old rest first lit), ap length (plain_first u rest left second close));
       }
   quoted_by _ _ e f h = absurd (cc)

@@ -9,14 +9,13 @@ use Rattle.hcl_grammar.specs.declared.class.Word.TheVariants.{For, In, If, Else,
 use Rattle.hcl_grammar.specs.declared.class.Lookahead.{Lookahead}
 use Rattle.hcl_grammar.specs.declared.expected.Newlines.{Newlines}
 use Rattle.hcl_grammar.specs.declared.expected.Newlines.TheVariants.{Seen, Dropped}
-use Rattle.hcl_grammar.specs.declared.expected.Section.{Section}
 use Rattle.hcl_grammar.specs.declared.expected.Section.TheVariants.{InIf, InElse, InFor}
 use Rattle.hcl_grammar.specs.declared.expected.Terminal.{Terminal}
 use Rattle.hcl_grammar.specs.declared.expected.Terminal.TheVariants.{EndBracket, EndBrace}
 use Rattle.hcl_grammar.specs.declared.refusal.Refusal.{Refusal}
 use Rattle.hcl_grammar.specs.declared.refusal.Refusal.TheVariants.{UnexpectedToken, UnexpectedEnd, TooDeep}
 use Rattle.hcl_grammar.specs.Classes.{drops}
-use Rattle.hcl_grammar.specs.Grammar.{Symbol, ends, the, file, rest, labels, label_literal, start, body, eol, expr, after_ident, path, after, step, index, tuple, tuple_next, tuple_item, tuple_if, names, object, separator, object_next, object_item, group, object_if, args, arg_next, parts, directive, inside, section_directive, Marked, ◌at◌, Action, none, nothing, reads, opens, closes, ◌then◌, row, row_of, fits, expr_row, after_ident_row, path_row, after_row, step_row, index_row, tuple_row, tuple_next_row, tuple_item_row, tuple_if_row, names_row, object_row, separator_row, object_next_row, object_item_row, group_row, object_if_row, args_row, arg_next_row, parts_row, directive_row, section_directive_row, inside_row}
+use Rattle.hcl_grammar.specs.Grammar.{Symbol, ends, the, file, rest, labels, label_literal, start, body, eol, expr, after_ident, path, after, step, index, tuple, tuple_next, tuple_item, tuple_if, names, object, separator, object_next, object_item, group, object_if, args, arg_next, parts, directive, inside, section_directive, Marked, ◌at◌, Action, none, nothing, reads, opens, closes, ◌then◌, row, shared_row, row_of, fits}
 use Rattle.hcl_grammar.specs.Predictor.{max_directives, on, stop, effect, row_effect, ending}
 use Rattle.hcl_grammar.proofs.OwedLemmas.{owes, owes_all, HaveNumbers, RowMoves}
 use Rattle.hcl_grammar.proofs.RowLemmas.{moves-row}
@@ -81,137 +80,29 @@ inner_then e (closes xs) ys h k = inner_both e xs ys h k
 
 -- ---- row by row
 
-inner_expr : (m : Newlines) (e : Bool) (c : Class) → Gate m e → RowInner e (expr_row m c)
-inner_expr m e Minus h = (h, tt)
-inner_expr m e Not h = (h, tt)
-inner_expr m e (Number d) h = (h, tt)
-inner_expr m e (Ident w) h = (h, tt)
-inner_expr m e QuoteOpen h = (refl, (open_gate m, (h, tt)))
-inner_expr m e HeredocOpen h = (refl, (open_gate m, (h, tt)))
-inner_expr m e ParenOpen h = (refl, (refl, (h, tt)))
-inner_expr m e BracketOpen h = (refl, (h, tt))
-inner_expr m e BraceOpen h = (tt, (h, tt))
-inner_expr m e _ h = tt
-
-inner_after : (m : Newlines) (e : Bool) (c : Class) → Gate m e → RowInner e (after_row m c)
-inner_after m e Dot h = (h, (h, tt))
-inner_after m e BracketOpen h = (refl, (h, tt))
-inner_after m e Minus h = (h, tt)
-inner_after m e Star h = (h, tt)
-inner_after m e Binary h = (h, tt)
-inner_after m e Question h = (h, (h, (h, tt)))
-inner_after m e _ h = tt
-
-inner_after_ident : (m : Newlines) (e : Bool) (c : Class) → Gate m e → RowInner e (after_ident_row m c)
-inner_after_ident m e ParenOpen h = (refl, (h, tt))
-inner_after_ident m e ColonColon h = (h, (h, tt))
-inner_after_ident m e c h = inner_after m e c h
-
-inner_path : (m : Newlines) (e : Bool) (c : Class) → Gate m e → RowInner e (path_row m c)
-inner_path m e ColonColon h = (h, (h, tt))
-inner_path m e ParenOpen h = (refl, (h, tt))
-inner_path m e _ h = tt
-
-inner_step : (e : Bool) (c : Class) → RowInner e (step_row c)
-inner_step e (Ident w) = tt
-inner_step e (Number true) = tt
-inner_step e Star = tt
-inner_step e _ = tt
-
-inner_index : (m : Newlines) (e : Bool) (c : Class) → RowInner e (index_row m c)
-inner_index m e Star = (open_gate m, tt)
-inner_index m e c = inner_then e (expr_row m c) (the EndBracket at m ∷ []) (inner_expr m true c (open_gate m)) (open_gate m, tt)
-
-inner_tuple : (m : Newlines) (e : Bool) (c : Class) → RowInner e (tuple_row m c)
-inner_tuple m e (Ident For) = (open_gate m, (open_gate m, (open_gate m, (open_gate m, (open_gate m, (open_gate m, tt))))))
-inner_tuple m e BracketClose = tt
-inner_tuple m e c = inner_then e (expr_row m c) (tuple_next at m ∷ []) (inner_expr m true c (open_gate m)) (open_gate m, tt)
-
-inner_tuple_next : (m : Newlines) (e : Bool) (c : Class) → RowInner e (tuple_next_row m c)
-inner_tuple_next m e Comma = (open_gate m, tt)
-inner_tuple_next m e BracketClose = tt
-inner_tuple_next m e _ = tt
-
-inner_tuple_item : (m : Newlines) (e : Bool) (c : Class) → RowInner e (tuple_item_row m c)
-inner_tuple_item m e BracketClose = tt
-inner_tuple_item m e c = inner_then e (expr_row m c) (tuple_next at m ∷ []) (inner_expr m true c (open_gate m)) (open_gate m, tt)
-
-inner_tuple_if : (m : Newlines) (e : Bool) (c : Class) → RowInner e (tuple_if_row m c)
-inner_tuple_if m e (Ident If) = (open_gate m, (open_gate m, tt))
-inner_tuple_if m e BracketClose = tt
-inner_tuple_if m e _ = tt
-
-inner_names : (m : Newlines) (e : Bool) (c : Class) → Gate m e → RowInner e (names_row m c)
-inner_names m e Comma h = (h, (h, tt))
-inner_names m e (Ident In) h = tt
-inner_names m e _ h = tt
-
-inner_object : (m : Newlines) (e : Bool) (c : Class) → RowInner e (object_row m c)
-inner_object m e Newline = (open_gate m, tt)
-inner_object m e (Ident For) = (refl, (refl, (refl, (refl, (refl, (refl, (refl, (refl, tt))))))))
-inner_object m e BraceClose = tt
-inner_object m e c = inner_then e (expr_row m c) (separator at m ∷ expr at m ∷ object_next at m ∷ []) (inner_expr m true c (open_gate m)) (open_gate m, (open_gate m, (open_gate m, tt)))
-
-inner_separator : (e : Bool) (c : Class) → RowInner e (separator_row c)
-inner_separator e Assign = tt
-inner_separator e Colon = tt
-inner_separator e _ = tt
-
-inner_object_next : (m : Newlines) (e : Bool) (c : Class) → RowInner e (object_next_row m c)
-inner_object_next m e Comma = (open_gate m, tt)
-inner_object_next m e Newline = (open_gate m, tt)
-inner_object_next m e BraceClose = tt
-inner_object_next m e _ = tt
-
-inner_object_item : (m : Newlines) (e : Bool) (c : Class) → RowInner e (object_item_row m c)
-inner_object_item m e Newline = (open_gate m, tt)
-inner_object_item m e BraceClose = tt
-inner_object_item m e c = inner_then e (expr_row m c) (separator at m ∷ expr at m ∷ object_next at m ∷ []) (inner_expr m true c (open_gate m)) (open_gate m, (open_gate m, (open_gate m, tt)))
-
-inner_object_if : (m : Newlines) (e : Bool) (c : Class) → RowInner e (object_if_row m c)
-inner_object_if m e (Ident If) = (open_gate m, (open_gate m, tt))
-inner_object_if m e BraceClose = tt
-inner_object_if m e _ = tt
-
-inner_group : (m : Newlines) (e : Bool) (c : Class) → RowInner e (group_row m c)
-inner_group m e Ellipsis = (open_gate m, tt)
-inner_group m e c = inner_object_if m e c
-
-inner_args : (m : Newlines) (e : Bool) (c : Class) → RowInner e (args_row m c)
-inner_args m e ParenClose = tt
-inner_args m e c = inner_then e (expr_row m c) (arg_next at m ∷ []) (inner_expr m true c (open_gate m)) (open_gate m, tt)
-
-inner_arg_next : (m : Newlines) (e : Bool) (c : Class) → RowInner e (arg_next_row m c)
-inner_arg_next m e Comma = (open_gate m, tt)
-inner_arg_next m e Ellipsis = (open_gate m, tt)
-inner_arg_next m e ParenClose = tt
-inner_arg_next m e _ = tt
-
-inner_parts : (m : Newlines) (n : ℕ) (e : Bool) (c : Class) → e ≡ true → RowInner e (parts_row m n c)
-inner_parts m n e Lit h = (h, tt)
-inner_parts m n e InterpOpen h = (refl, (refl, (h, tt)))
-inner_parts m n e ControlOpen h = (h, (h, tt))
-inner_parts m n e QuoteClose h = tt
-inner_parts m n e HeredocClose h = tt
-inner_parts m n e _ h = tt
-
-inner_directive : (m : Newlines) (n : ℕ) (e : Bool) (c : Class) → e ≡ true → RowInner e (directive_row m n c)
-inner_directive m n e (Ident If) h = (open_gate m, (open_gate m, (h, tt)))
-inner_directive m n e (Ident For) h = (open_gate m, (open_gate m, (open_gate m, (open_gate m, (h, tt)))))
-inner_directive m n e _ h = tt
-
-inner_section : (s : Section) (m : Newlines) (n : ℕ) (e : Bool) (c : Class) → e ≡ true → RowInner e (section_directive_row s m n c)
-inner_section InIf m n e (Ident Else) h = (open_gate m, (h, tt))
-inner_section InIf m n e (Ident Endif) h = (open_gate m, tt)
-inner_section InElse m n e (Ident Endif) h = (open_gate m, tt)
-inner_section InFor m n e (Ident Endfor) h = (open_gate m, tt)
-inner_section s m n e c h = inner_then e (directive_row m n c) (inside s at m ∷ []) (inner_directive m n e c h) (h, tt)
-
-inner_inside : (s : Section) (m : Newlines) (n : ℕ) (e : Bool) (c : Class) → e ≡ true → RowInner e (inside_row s m n c)
-inner_inside s m n e Lit h = (h, tt)
-inner_inside s m n e InterpOpen h = (refl, (refl, (h, tt)))
-inner_inside s m n e ControlOpen h = (h, tt)
-inner_inside s m n e _ h = tt
+-- the rows that others begin with
+inner_shared : (s : Symbol) (m : Newlines) (n : ℕ) (e : Bool) (c : Class) → IsInner s m e → RowInner e (shared_row s m n c)
+inner_shared labels m n e c h = absurd h
+inner_shared expr m n e Minus h = (h, tt)
+inner_shared expr m n e Not h = (h, tt)
+inner_shared expr m n e (Number d) h = (h, tt)
+inner_shared expr m n e (Ident w) h = (h, tt)
+inner_shared expr m n e QuoteOpen h = (refl, (open_gate m, (h, tt)))
+inner_shared expr m n e HeredocOpen h = (refl, (open_gate m, (h, tt)))
+inner_shared expr m n e ParenOpen h = (refl, (refl, (h, tt)))
+inner_shared expr m n e BracketOpen h = (refl, (h, tt))
+inner_shared expr m n e BraceOpen h = (tt, (h, tt))
+inner_shared after m n e Dot h = (h, (h, tt))
+inner_shared after m n e BracketOpen h = (refl, (h, tt))
+inner_shared after m n e Minus h = (h, tt)
+inner_shared after m n e Star h = (h, tt)
+inner_shared after m n e Binary h = (h, tt)
+inner_shared after m n e Question h = (h, (h, (h, tt)))
+inner_shared object_if m n e (Ident If) h = (open_gate m, (open_gate m, tt))
+inner_shared object_if m n e BraceClose h = tt
+inner_shared (directive k) m n e (Ident If) h = (open_gate m, (open_gate m, (h, tt)))
+inner_shared (directive k) m n e (Ident For) h = (open_gate m, (open_gate m, (open_gate m, (open_gate m, (h, tt)))))
+inner_shared s m n e c h = tt
 
 inner_terminal : (e b : Bool) → RowInner e (cond b (reads []) none)
 inner_terminal e true = tt
@@ -221,34 +112,64 @@ inner_row : (s : Symbol) (m : Newlines) (n : ℕ) (e : Bool) (c : Class) → IsI
 inner_row (the t) m n e c h = inner_terminal e (fits t c)
 inner_row file m n e c h = absurd h
 inner_row rest m n e c h = absurd h
-inner_row labels m n e c h = absurd h
 inner_row label_literal m n e c h = absurd h
 inner_row start m n e c h = absurd h
 inner_row body m n e c h = absurd h
 inner_row eol m n e c h = absurd h
-inner_row expr m n e c h = inner_expr m e c h
-inner_row after_ident m n e c h = inner_after_ident m e c h
-inner_row path m n e c h = inner_path m e c h
-inner_row after m n e c h = inner_after m e c h
-inner_row step m n e c h = inner_step e c
-inner_row index m n e c h = inner_index m e c
-inner_row tuple m n e c h = inner_tuple m e c
-inner_row tuple_next m n e c h = inner_tuple_next m e c
-inner_row tuple_item m n e c h = inner_tuple_item m e c
-inner_row tuple_if m n e c h = inner_tuple_if m e c
-inner_row names m n e c h = inner_names m e c h
-inner_row object m n e c h = inner_object m e c
-inner_row separator m n e c h = inner_separator e c
-inner_row object_next m n e c h = inner_object_next m e c
-inner_row object_item m n e c h = inner_object_item m e c
-inner_row group m n e c h = inner_group m e c
-inner_row object_if m n e c h = inner_object_if m e c
-inner_row args m n e c h = inner_args m e c
-inner_row arg_next m n e c h = inner_arg_next m e c
-inner_row parts m n e c h = inner_parts m n e c h
-inner_row (directive k) m n e c h = inner_directive m k e c h
-inner_row (inside s) m n e c h = inner_inside s m n e c h
-inner_row (section_directive s k) m n e c h = inner_section s m k e c h
+inner_row after_ident m n e ParenOpen h = (refl, (h, tt))
+inner_row after_ident m n e ColonColon h = (h, (h, tt))
+inner_row after_ident m n e c h = inner_shared after m n e c h
+inner_row path m n e ColonColon h = (h, (h, tt))
+inner_row path m n e ParenOpen h = (refl, (h, tt))
+inner_row step m n e (Ident w) h = tt
+inner_row step m n e (Number true) h = tt
+inner_row step m n e Star h = tt
+inner_row index m n e Star h = (open_gate m, tt)
+inner_row index m n e c h = inner_then e (shared_row expr m n c) (the EndBracket at m ∷ []) (inner_shared expr m n true c (open_gate m)) (open_gate m, tt)
+inner_row tuple m n e (Ident For) h = (open_gate m, (open_gate m, (open_gate m, (open_gate m, (open_gate m, (open_gate m, tt))))))
+inner_row tuple m n e BracketClose h = tt
+inner_row tuple m n e c h = inner_then e (shared_row expr m n c) (tuple_next at m ∷ []) (inner_shared expr m n true c (open_gate m)) (open_gate m, tt)
+inner_row tuple_next m n e Comma h = (open_gate m, tt)
+inner_row tuple_next m n e BracketClose h = tt
+inner_row tuple_item m n e BracketClose h = tt
+inner_row tuple_item m n e c h = inner_then e (shared_row expr m n c) (tuple_next at m ∷ []) (inner_shared expr m n true c (open_gate m)) (open_gate m, tt)
+inner_row tuple_if m n e (Ident If) h = (open_gate m, (open_gate m, tt))
+inner_row tuple_if m n e BracketClose h = tt
+inner_row names m n e Comma h = (h, (h, tt))
+inner_row names m n e (Ident In) h = tt
+inner_row object m n e Newline h = (open_gate m, tt)
+inner_row object m n e (Ident For) h = (refl, (refl, (refl, (refl, (refl, (refl, (refl, (refl, tt))))))))
+inner_row object m n e BraceClose h = tt
+inner_row object m n e c h = inner_then e (shared_row expr m n c) (separator at m ∷ expr at m ∷ object_next at m ∷ []) (inner_shared expr m n true c (open_gate m)) (open_gate m, (open_gate m, (open_gate m, tt)))
+inner_row separator m n e Assign h = tt
+inner_row separator m n e Colon h = tt
+inner_row object_next m n e Comma h = (open_gate m, tt)
+inner_row object_next m n e Newline h = (open_gate m, tt)
+inner_row object_next m n e BraceClose h = tt
+inner_row object_item m n e Newline h = (open_gate m, tt)
+inner_row object_item m n e BraceClose h = tt
+inner_row object_item m n e c h = inner_then e (shared_row expr m n c) (separator at m ∷ expr at m ∷ object_next at m ∷ []) (inner_shared expr m n true c (open_gate m)) (open_gate m, (open_gate m, (open_gate m, tt)))
+inner_row group m n e Ellipsis h = (open_gate m, tt)
+inner_row group m n e c h = inner_shared object_if m n e c h
+inner_row args m n e ParenClose h = tt
+inner_row args m n e c h = inner_then e (shared_row expr m n c) (arg_next at m ∷ []) (inner_shared expr m n true c (open_gate m)) (open_gate m, tt)
+inner_row arg_next m n e Comma h = (open_gate m, tt)
+inner_row arg_next m n e Ellipsis h = (open_gate m, tt)
+inner_row arg_next m n e ParenClose h = tt
+inner_row parts m n e Lit h = (h, tt)
+inner_row parts m n e InterpOpen h = (refl, (refl, (h, tt)))
+inner_row parts m n e ControlOpen h = (h, (h, tt))
+inner_row parts m n e QuoteClose h = tt
+inner_row parts m n e HeredocClose h = tt
+inner_row (section_directive InIf k) m n e (Ident Else) h = (open_gate m, (h, tt))
+inner_row (section_directive InIf k) m n e (Ident Endif) h = (open_gate m, tt)
+inner_row (section_directive InElse k) m n e (Ident Endif) h = (open_gate m, tt)
+inner_row (section_directive InFor k) m n e (Ident Endfor) h = (open_gate m, tt)
+inner_row (section_directive s k) m n e c h = inner_then e (shared_row (directive k) m n c) (inside s at m ∷ []) (inner_shared (directive k) m n e c h) (h, tt)
+inner_row (inside s) m n e Lit h = (h, tt)
+inner_row (inside s) m n e InterpOpen h = (refl, (refl, (h, tt)))
+inner_row (inside s) m n e ControlOpen h = (h, tt)
+inner_row s m n e c h = inner_shared s m n e c h
 
 -- ---- one token: these symbols lead to others, or they all go away and the token is for those below
 

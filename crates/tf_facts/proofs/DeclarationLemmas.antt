@@ -13,7 +13,8 @@ use Rattle.hcl_grammar.specs.declared.item.Item.{Item}
 use Rattle.hcl_grammar.specs.declared.item.Item.TheVariants as item
 use Rattle.hcl_grammar.proofs.NumberedLemmas.{drop_at}
 use Rattle.hcl_grammar.proofs.ItemOrderLemmas.{outline_climbs}
-use Rattle.tf_facts.specs.Declarations.{Attribute, Declaration, Declarer, SourceAt, PlainText, attribute, attributes_in, by_declarer, declarer, has, is_inside, is_module, module_source, of_item, of_items, of_local, plain_text, source_of_plain_text, source_of_attribute, with_attribute}
+use Rattle.tf_facts.specs.Declarations.{Attribute, Declaration, Declarer, SourceAt, PlainText, attribute, attributes_in, by_declarer, declarer, has, is_inside, is_kind, module_source, of_item, of_items, of_local, plain_text, source_of_plain_text, source_of_attribute, with_attribute}
+use Rattle.tf_facts.specs.declared.declaration_kind.DeclarationKind.TheVariants as declares
 use Rattle.tf_facts.specs.Sources.{Source, source_of}
 use Rattle.tf_facts.specs.Found.{declaration, texts_of, source}
 use Rattle.tf_facts.specs.Found as found
@@ -113,11 +114,11 @@ module _ (ts : List Numbered) (token : ℕ) (texts : List (List ℕ)) (attribute
   whole = by_declarer ts token texts attributes (declarer (text_of ts token))
 
   abbrev one : Declarer → Declaration ℕ
-  one d = made d.kind texts token (has (codes "description") attributes) (has (codes "type") attributes) (has (codes "version") attributes) (cond (is_module d.kind) (module_source ts attributes) None)
+  one d = made d.kind texts token (has (codes "description") attributes) (has (codes "type") attributes) (has (codes "version") attributes) (cond (is_kind declares.Module d.kind) (module_source ts attributes) None)
 
   pub declares_one : (d : Declarer) → Some d ≡ declarer word → (length texts == d.labels) ≡ true → (found : Declared) → found.kind ≡ d.kind → texts_of found.names ≡ texts → found.at ≡ token
       → found.is_described ≡ has (codes "description") attributes → found.is_typed ≡ has (codes "type") attributes → found.is_versioned ≡ has (codes "version") attributes
-      → (declaration found).source ≡ cond (is_module d.kind) (module_source ts attributes) None → declaration found ∷ [] ≡ whole
+      → (declaration found).source ≡ cond (is_kind declares.Module d.kind) (module_source ts attributes) None → declaration found ∷ [] ≡ whole
   declares_one d some fits found k n at a t v s =
       ap (λ x. made x (texts_of found.names) found.at found.is_described found.is_typed found.is_versioned (declaration found).source ∷ []) k
       ∙ ap (λ x. made d.kind x found.at found.is_described found.is_typed found.is_versioned (declaration found).source ∷ []) n

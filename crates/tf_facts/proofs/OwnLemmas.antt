@@ -1,5 +1,5 @@
 -- Whether a reference stands in the block of its own variable.
-use Rattle.std.proofs.Common.{◌≡◌, ◌∙◌, ap, sym, refl, ℕ, suc, zero, ◌+◌, ◌≤◌, ◌<◌, Bool, true, false, cond, max, List, [], ◌∷◌, ◌++◌, map, length, drop, arith, subst}
+use Rattle.std.proofs.Common.{MatchBool, ◌≡◌, ◌∙◌, ap, sym, refl, ℕ, suc, zero, ◌+◌, ◌≤◌, ◌<◌, Bool, true, false, cond, max, List, [], ◌∷◌, ◌++◌, map, length, drop, arith, subst}
 use Rattle.std.specs.Prelude.{◌&&◌, ◌||◌, nat_le, nat_lt, codes, Some, None, Option, slice_get, filter, ◌==◌}
 use Rattle.std.proofs.lemmas.Bool.{lt-ltb, le-ltb, lt-leb}
 use Rattle.std.specs.Str.{bytes_eq}
@@ -8,12 +8,13 @@ use Rattle.hcl_tokens.specs.Lexemes.{Lexeme}
 use Rattle.hcl_grammar.specs.Numbered.{Numbered, numbered}
 use Rattle.hcl_grammar.specs.Items.{is_closed, outline}
 use Rattle.hcl_grammar.specs.Labels.{text_of}
-use Rattle.hcl_grammar.specs.ItemOrder.{Either, TopsApart}
+use Rattle.hcl_grammar.specs.ItemOrder.{TopsApart}
 use Rattle.hcl_grammar.specs.declared.item.Item.{Item}
 use Rattle.hcl_grammar.specs.declared.item.Item.TheVariants as item
 use Rattle.hcl_grammar.proofs.TopBlockLemmas.{tops_apart}
-use Rattle.tf_facts.specs.Declarations.{Attribute, Declaration, Declarer, attributes_in, by_declarer, declarer, has, is_empty, is_module, labels_in, module_source, of_block, of_local}
-use Rattle.tf_facts.specs.References.{Own, is_own, is_variable, last_of, own_blocks, own_of_items, variable_reference, local_reference, data_reference}
+use Rattle.tf_facts.specs.Declarations.{Attribute, Declaration, Declarer, attributes_in, by_declarer, declarer, has, is_empty, is_kind, labels_in, module_source, of_block, of_local}
+use Rattle.tf_facts.specs.declared.declaration_kind.DeclarationKind.TheVariants as declares
+use Rattle.tf_facts.specs.References.{Own, is_own, last_of, own_blocks, own_of_items, variable_reference, local_reference, data_reference}
 use Rattle.tf_facts.specs.declared.own_block.OwnBlock.{OwnBlock}
 use Rattle.tf_facts.specs.declared.reference.Reference.{Reference}
 use Rattle.tf_facts.specs.declared.reference.Reference.TheVariants.{Variable, Local, Data}
@@ -139,13 +140,13 @@ AtMostOne [] = Unit {0}
 AtMostOne (d ∷ []) = Unit {0}
 AtMostOne (d ∷ e ∷ ds) = ⊥
 
-pub no_locals : (attributes : List Attribute) → filter (λ d. is_variable d.kind) (map of_local attributes) ≡ []
+pub no_locals : (attributes : List Attribute) → filter (λ d. is_kind declares.Variable d.kind) (map of_local attributes) ≡ []
 no_locals [] = refl
 no_locals (a ∷ attributes) = no_locals attributes
 
-one_declared : (ts : List Numbered) (token : ℕ) (names : List (List ℕ)) (attributes : List Attribute) (d : Option Declarer) → AtMostOne (filter (λ e. is_variable e.kind) (by_declarer ts token names attributes d))
+one_declared : (ts : List Numbered) (token : ℕ) (names : List (List ℕ)) (attributes : List Attribute) (d : Option Declarer) → AtMostOne (filter (λ e. is_kind declares.Variable e.kind) (by_declarer ts token names attributes d))
 one_declared ts token names attributes None = tt
-one_declared ts token names attributes (Some d) = by (length names == d.labels) (is_variable d.kind)
+one_declared ts token names attributes (Some d) = by (length names == d.labels) (is_kind declares.Variable d.kind)
   where
     one : Declaration ℕ
     one = record {
@@ -155,21 +156,21 @@ one_declared ts token names attributes (Some d) = by (length names == d.labels) 
       described = has (codes "description") attributes;
       typed = has (codes "type") attributes;
       versioned = has (codes "version") attributes;
-      source = cond (is_module d.kind) (module_source ts attributes) None;
+      source = cond (is_kind declares.Module d.kind) (module_source ts attributes) None;
     }
 
-    by : (a b : Bool) → AtMostOne (filter (λ e. is_variable e.kind) (cond a (one ∷ []) []))
+    by : (a b : Bool) → AtMostOne (filter (λ e. is_kind declares.Variable e.kind) (cond a (one ∷ []) []))
     by false b = tt
-    by true b = single (is_variable d.kind)
+    by true b = single (is_kind declares.Variable d.kind)
       where
         single : (c : Bool) → AtMostOne (cond c (one ∷ []) [])
         single true = tt
         single false = tt
 
-one_in_block : (ts : List Numbered) (token : ℕ) (names : List (List ℕ)) (attributes : List Attribute) → AtMostOne (filter (λ e. is_variable e.kind) (of_block ts token names attributes))
+one_in_block : (ts : List Numbered) (token : ℕ) (names : List (List ℕ)) (attributes : List Attribute) → AtMostOne (filter (λ e. is_kind declares.Variable e.kind) (of_block ts token names attributes))
 one_in_block ts token names attributes = by (bytes_eq (text_of ts token) (codes "locals")) (is_empty names)
   where
-    by : (a b : Bool) → AtMostOne (filter (λ e. is_variable e.kind) (cond a (cond b (map of_local attributes) []) (by_declarer ts token names attributes (declarer (text_of ts token)))))
+    by : (a b : Bool) → AtMostOne (filter (λ e. is_kind declares.Variable e.kind) (cond a (cond b (map of_local attributes) []) (by_declarer ts token names attributes (declarer (text_of ts token)))))
     by true true = subst (λ (ds : List (Declaration ℕ)). AtMostOne ds) (sym (no_locals attributes)) tt
     by true false = tt
     by false b = one_declared ts token names attributes (declarer (text_of ts token))
@@ -186,9 +187,9 @@ items_own ts from to (item.Attribute level name first end ∷ is) h = items_own 
 items_own ts from to (item.Label l ∷ is) h = items_own ts from to is h
 items_own ts from to (item.Block level token end ∷ is) h = by (is_closed level) (λ n q. items_own ts n to is q) h
   where
-    by : (b : Bool) → ((n : ℕ) → TopsApart n is to → Apart n (own_of_items ts is)) → Either b ((from ≤ token) × TopsApart (max token end) is to) (TopsApart from is to)
-        → Apart from (map (λ d. record { name = last_of d.names; first = token; end = end }) (filter (λ d. is_variable d.kind) (cond b (of_block ts token (labels_in ts is) (attributes_in ts is)) [])) ++ own_of_items ts is)
-    by true more r = in_front from token end (filter (λ e. is_variable e.kind) (of_block ts token (labels_in ts is) (attributes_in ts is))) (own_of_items ts is) (one_in_block ts token (labels_in ts is) (attributes_in ts is)) r.0 (more (max token end) r.1)
+    by : (b : Bool) → ((n : ℕ) → TopsApart n is to → Apart n (own_of_items ts is)) → MatchBool b ((from ≤ token) × TopsApart (max token end) is to) (TopsApart from is to)
+        → Apart from (map (λ d. record { name = last_of d.names; first = token; end = end }) (filter (λ d. is_kind declares.Variable d.kind) (cond b (of_block ts token (labels_in ts is) (attributes_in ts is)) [])) ++ own_of_items ts is)
+    by true more r = in_front from token end (filter (λ e. is_kind declares.Variable e.kind) (of_block ts token (labels_in ts is) (attributes_in ts is))) (own_of_items ts is) (one_in_block ts token (labels_in ts is) (attributes_in ts is)) r.0 (more (max token end) r.1)
     by false more r = more from r
 
 -- THE LAW

@@ -10,15 +10,15 @@ use Rattle.hcl_grammar.specs.Labels.{text_of}
 use Rattle.hcl_grammar.specs.declared.item.Item.{Item}
 use Rattle.hcl_grammar.specs.declared.item.Item.TheVariants as item
 use Rattle.hcl_grammar.proofs.NumberedLemmas.{drop_at}
-use Rattle.tf_facts.specs.Declarations.{Attribute, Declaration, Declarer, attributes_in, by_declarer, declarer, has, is_empty, labels_in, of_block, of_local}
-use Rattle.tf_facts.specs.References.{Own, is_variable, last_of, own_of_item, own_of_items}
+use Rattle.tf_facts.specs.Declarations.{is_kind, Attribute, Declaration, Declarer, attributes_in, by_declarer, declarer, has, is_empty, labels_in, of_block, of_local}
+use Rattle.tf_facts.specs.References.{Own, last_of, own_of_item, own_of_items}
 use Rattle.tf_facts.specs.OwnBlocks.{own_of}
 use Rattle.tf_facts.specs.declared.declaration_kind.DeclarationKind.TheVariants as declares
 use Rattle.tf_facts.specs.declared.own_block.OwnBlock.{OwnBlock}
 use Rattle.tf_facts.proofs.OwnLemmas.{no_locals}
 
 abbrev variables : List (Declaration ℕ) → List (Declaration ℕ)
-variables ds = filter (λ d. is_variable d.kind) ds
+variables ds = filter (λ d. is_kind declares.Variable d.kind) ds
 
 -- `locals` declares no variable
 variables_in : (ts : List Numbered) (token : ℕ) (texts : List (List ℕ)) (attributes : List Attribute)
@@ -63,7 +63,7 @@ module _ (ts : List Numbered) (token : ℕ) (texts : List (List ℕ)) (attribute
       ap (λ b. variables (by_declarer ts token texts attributes (cond b (Some (record { kind = declares.Variable; labels = 1 })) (other_declarer word)))) other
       ∙ by (bytes_eq word (codes "output")) (bytes_eq word (codes "module")) (bytes_eq word (codes "resource")) (bytes_eq word (codes "data"))
     where
-      one : (b : Bool) (d : Declaration ℕ) → is_variable d.kind ≡ false → variables (cond b (d ∷ []) []) ≡ []
+      one : (b : Bool) (d : Declaration ℕ) → is_kind declares.Variable d.kind ≡ false → variables (cond b (d ∷ []) []) ≡ []
       one true d e = ap (λ v. cond v (d ∷ []) []) e
       one false d e = refl
 

@@ -14,6 +14,7 @@ use Rattle.hcl_grammar.specs.declared.item.Item.TheVariants as item
 use Rattle.tf_facts.specs.Sources.{Source, source_of}
 use Rattle.tf_facts.specs.declared.declaration_kind.DeclarationKind.{DeclarationKind}
 use Rattle.tf_facts.specs.declared.declaration_kind.DeclarationKind.TheVariants as declares
+use Rattle.tf_facts.specs.contracts.declaration_kind.DeclarationKindPartialEq.TheImpl as derived
 
 -- the source of a module, and the place of its opening quote
 pub record SourceAt (P : Type 0) : Type 0 where
@@ -110,9 +111,9 @@ declarer word =
     else if bytes_eq word (codes "data") then Some (record { kind = declares.Data; labels = 2 })
     else None
 
-abbrev pub is_module : DeclarationKind → Bool
-is_module declares.Module = true
-is_module _ = false
+-- whether the second is the first, by the equality that is derived for kinds
+abbrev pub is_kind : DeclarationKind → DeclarationKind → Bool
+is_kind = (derived.ghosts).eq
 
 abbrev pub by_declarer : List Numbered → ℕ → List (List ℕ) → List Attribute → Option Declarer → List (Declaration ℕ)
 by_declarer ts token names attributes None = []
@@ -125,7 +126,7 @@ by_declarer ts token names attributes (Some d) =
       described = has (codes "description") attributes;
       typed = has (codes "type") attributes;
       versioned = has (codes "version") attributes;
-      source = if is_module d.kind then module_source ts attributes else None;
+      source = if is_kind declares.Module d.kind then module_source ts attributes else None;
     } ∷ []
     else []
 

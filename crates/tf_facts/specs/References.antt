@@ -10,8 +10,7 @@ use Rattle.hcl_grammar.specs.Numbered.{Numbered, significant}
 use Rattle.hcl_grammar.specs.Items.{items_of}
 use Rattle.hcl_grammar.specs.declared.item.Item.{Item}
 use Rattle.hcl_grammar.specs.declared.item.Item.TheVariants as item
-use Rattle.tf_facts.specs.Declarations.{of_item}
-use Rattle.tf_facts.specs.declared.declaration_kind.DeclarationKind.{DeclarationKind}
+use Rattle.tf_facts.specs.Declarations.{is_kind, of_item}
 use Rattle.tf_facts.specs.declared.declaration_kind.DeclarationKind.TheVariants as declares
 
 abbrev pub variable_reference : List ℕ → List ℕ
@@ -55,10 +54,6 @@ pub record Own : Type 0 where
   pub first : ℕ
   pub end : ℕ
 
-abbrev pub is_variable : DeclarationKind → Bool
-is_variable declares.Variable = true
-is_variable _ = false
-
 abbrev pub last_of : List (List ℕ) → List ℕ
 last_of [] = []
 last_of (x ∷ []) = x
@@ -67,7 +62,8 @@ last_of (x ∷ y ∷ xs) = last_of (y ∷ xs)
 -- the variable that an item declares, where `rest` follows it in the list of items
 abbrev pub own_of_item : List Numbered → Item → List Item → List Own
 own_of_item ts (item.Block level token end) rest =
-    map (λ d. record { name = last_of d.names; first = token; end = end }) (filter (λ d. is_variable d.kind) (of_item ts (item.Block level token end) rest))
+    map (λ d. record { name = last_of d.names; first = token; end = end })
+    (filter (λ d. is_kind declares.Variable d.kind) (of_item ts (item.Block level token end) rest))
 own_of_item ts _ rest = []
 
 abbrev pub own_of_items : List Numbered → List Item → List Own

@@ -6,7 +6,7 @@ ghost use Rattle.hcl_grammar.specs.Items.{outline};
 ghost use Rattle.hcl_grammar.specs.Labels.{text_of};
 ghost use Rattle.hcl_grammar.specs.Numbered.{numbered};
 ghost use Rattle.hcl_grammar.specs.declared.item.Item.{Item};
-ghost use Rattle.tf_facts.specs.Declarations.{Attribute, attribute, attributes_in, by_declarer, declarations, declarer, is_empty, is_module, labels_in, of_block, of_item, of_local, source_of_attribute, with_attribute};
+ghost use Rattle.tf_facts.specs.Declarations.{Attribute, attribute, attributes_in, by_declarer, declarations, declarer, is_empty, is_kind, labels_in, of_block, of_item, of_local, source_of_attribute, with_attribute};
 ghost use Rattle.tf_facts.specs.Found.{declaration, found_source};
 ghost use Rattle.tf_facts.specs.Inner.FoundViews.{declarer_of, listed};
 ghost use Rattle.tf_facts.specs.Inner.Labelled.{AreNames};
@@ -75,7 +75,7 @@ fn are_as_many(names: Names<'_>, labels: usize) -> bool
 }
 
 fn is_module(kind: DeclarationKind) -> bool
-    ensures { result ≡ is_module kind }
+    ensures { result ≡ is_kind DeclarationKind.Module kind }
 {
     matches!(kind, DeclarationKind::Module)
 }
@@ -108,7 +108,8 @@ fn source_in(
     requires { IfSome value (λ v. v.end ≤ length accepted.now.tokens) }
     ensures { (a : Option Attribute) → option_map value_of_attribute a ≡ value
         → option_map found_source result
-        ≡ (if is_module kind then source_of_attribute (numbered accepted.now.tokens) a else None) }
+        ≡ (if is_kind DeclarationKind.Module kind
+        then source_of_attribute (numbered accepted.now.tokens) a else None) }
 {
     if is_module(kind) {
         return module_source(accepted, value);

@@ -11,7 +11,8 @@ use Rattle.hcl_grammar.specs.Labels.{label_text, text_of}
 use Rattle.hcl_grammar.specs.Numbered.{Numbered}
 use Rattle.hcl_grammar.specs.declared.item.Item.{Item}
 use Rattle.hcl_grammar.specs.declared.item.Item.TheVariants as item
-use Rattle.tf_facts.specs.Declarations.{Attribute, Declaration, Declarer, PlainText, SourceAt, attributes_in, by_declarer, declarer, has, is_empty, is_module, labels_in, module_source, of_block, of_items, of_local, plain_text, source_of_plain_text, source_of_attribute, value_of, with_attribute}
+use Rattle.tf_facts.specs.Declarations.{Attribute, Declaration, Declarer, PlainText, SourceAt, attributes_in, by_declarer, declarer, has, is_empty, is_kind, labels_in, module_source, of_block, of_items, of_local, plain_text, source_of_plain_text, source_of_attribute, value_of, with_attribute}
+use Rattle.tf_facts.specs.declared.declaration_kind.DeclarationKind.TheVariants as declares
 use Rattle.tf_facts.specs.Sources.{Other, NotPinned, DefaultBranch, Registry, is_default_branch, is_git, is_mercurial, is_registry, pinned_to, revision, source_of}
 use Rattle.tf_rules.specs.Growth.{branch_of, bytes, source_texts, declared_texts}
 use Rattle.tf_rules.proofs.NameCostLemmas.{cost}
@@ -85,7 +86,7 @@ module _ (ts : List Numbered) where
 
   declarer_told : (token : ℕ) (names : List (List ℕ)) (attributes : List Attribute) (o : Option Declarer) → told (by_declarer ts token names attributes o) ≤ named attributes + bytes names
   declarer_told token names attributes None = omega arith
-  declarer_told token names attributes (Some d) = by (length names == d.labels) (is_module d.kind)
+  declarer_told token names attributes (Some d) = by (length names == d.labels) (is_kind declares.Module d.kind)
     where
       source : Bool → Option (SourceAt ℕ)
       source m = cond m (module_source ts attributes) None

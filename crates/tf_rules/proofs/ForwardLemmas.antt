@@ -18,7 +18,8 @@ use Rattle.hcl_grammar.specs.declared.item.Item.TheVariants as item
 use Rattle.hcl_grammar.proofs.ItemOrderLemmas.{Rises, outline_climbs, rises_filter, rises_numbered, rises_wide}
 use Rattle.hcl_grammar.proofs.NumberedLemmas.{numbered_at}
 use Rattle.tf_facts.specs.Comments.{Comment, comments, is_any}
-use Rattle.tf_facts.specs.Declarations.{Attribute, Declaration, Declarer, attributes_in, by_declarer, declarer, declarations, is_empty, is_module, labels_in, module_source, of_block, of_items, of_local, plain_text, source_of_plain_text, source_of_attribute, value_of, has, with_attribute}
+use Rattle.tf_facts.specs.Declarations.{Attribute, Declaration, Declarer, attributes_in, by_declarer, declarer, declarations, is_empty, is_kind, labels_in, module_source, of_block, of_items, of_local, plain_text, source_of_plain_text, source_of_attribute, value_of, has, with_attribute}
+use Rattle.tf_facts.specs.declared.declaration_kind.DeclarationKind.TheVariants as declares
 use Rattle.tf_facts.specs.Patterns.{legacy_indexes, numbers_where, wrapped_interpolations, is_index, is_wrapped}
 use Rattle.tf_facts.specs.Silencing.{has_slashes, silenced_rules}
 use Rattle.tf_rules.specs.Inner.Placing.{Forward, numbers_of, quotes}
@@ -123,7 +124,7 @@ module _ (tokens : List Lexeme) where
 
   declared_rise : (from to kind : ℕ) (is : List Item) (names : List (List ℕ)) (o : Option Declarer) → from ≤ kind → IsRising tokens (kind + 1) is to → Rise from (named (by_declarer ts kind names (attributes_in ts is) o ++ of_items ts is)) to
   declared_rise from to kind is names None h r = rise_from from (kind + 1) to (named (of_items ts is)) (omega (arith, h)) r.items
-  declared_rise from to kind is names (Some d) h r = by (length names == d.labels) (is_module d.kind)
+  declared_rise from to kind is names (Some d) h r = by (length names == d.labels) (is_kind declares.Module d.kind)
     where
       it : Bool → Declaration ℕ
       it m = record {

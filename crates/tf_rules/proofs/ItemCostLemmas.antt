@@ -14,7 +14,7 @@ use Rattle.hcl_grammar.specs.Items.{closing_quote, is_closed, items_of, label_at
 use Rattle.hcl_grammar.specs.Numbered.{Numbered, is_comment, without_comments}
 use Rattle.hcl_grammar.specs.declared.item.Item.{Item}
 use Rattle.hcl_grammar.specs.declared.item.Item.TheVariants as item
-use Rattle.tf_facts.specs.Declarations.{Attribute, Declaration, Declarer, SourceAt, attributes_in, by_declarer, declarations, declarer, has, is_empty, is_module, labels_in, module_source, of_block, of_items, of_local, with_attribute}
+use Rattle.tf_facts.specs.Declarations.{Attribute, Declaration, Declarer, SourceAt, attributes_in, by_declarer, declarations, declarer, has, is_empty, is_kind, labels_in, module_source, of_block, of_items, of_local, with_attribute}
 use Rattle.tf_rules.specs.Growth.{places_of, source_places}
 use Rattle.tf_facts.specs.declared.declaration_kind.DeclarationKind.TheVariants as declares
 use Rattle.tf_rules.proofs.ItemWeightLemmas.{IsCounted, bit, items_weigh, weight, weight_filter}
@@ -108,7 +108,7 @@ module _ (ts : List Numbered) where
   declared_few : (token : ℕ) (names : List (List ℕ)) (attributes : List Attribute) (o : Option Declarer) → ((d : Declarer) → o ≡ Some d → 1 ≤ d.labels)
       → places (by_declarer ts token names attributes o) ≤ length attributes + length names
   declared_few token names attributes None h = omega arith
-  declared_few token names attributes (Some d) h = by (length names == d.labels) refl (is_module d.kind)
+  declared_few token names attributes (Some d) h = by (length names == d.labels) refl (is_kind declares.Module d.kind)
     where
       it : Bool → Declaration ℕ
       it m = record {

@@ -5,7 +5,7 @@ use Rattle.std.specs.List.{list_any, flat_map}
 use Rattle.std.specs.Str.{bytes_eq}
 use Rattle.tf_rules.specs.Naming.{matches_naming, naming_text}
 use Rattle.tf_facts.specs.Sources.{Source, Other, NotPinned, DefaultBranch, Registry}
-use Rattle.tf_facts.specs.Declarations.{Declaration, SourceAt}
+use Rattle.tf_facts.specs.Declarations.{Declaration, SourceAt, is_kind}
 use Rattle.tf_facts.specs.References.{last_of, variable_reference, local_reference, data_reference}
 use Rattle.tf_facts.specs.Comments.{Comment}
 use Rattle.tf_facts.specs.Facts.{Facts}
@@ -43,15 +43,6 @@ abbrev pub about : {P : Type 0} → Declaration P → List ℕ → List ℕ
 about d rest = kind_text d.kind ++ quoting (last_of d.names) rest
 
 -- ---- tests
-
-abbrev pub is_kind : DeclarationKind → DeclarationKind → Bool
-is_kind declares.Variable declares.Variable = true
-is_kind declares.Output declares.Output = true
-is_kind declares.Module declares.Module = true
-is_kind declares.Resource declares.Resource = true
-is_kind declares.Data declares.Data = true
-is_kind declares.Local declares.Local = true
-is_kind _ _ = false
 
 -- the references that use a declaration: none for what cannot be unused
 abbrev pub uses_of : DeclarationKind → List (List ℕ) → Option (List ℕ)

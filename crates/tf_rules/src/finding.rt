@@ -4,10 +4,11 @@ ghost use Rattle.std.specs.Prelude.{◌≡◌, ◌++◌, ◌∷◌, ◌&&◌, []
 ghost use Rattle.std.specs.List.{list_any};
 ghost use Rattle.std.specs.Str.{bytes_eq};
 ghost use Rattle.tf_facts.specs.References.{data_reference, last_of};
-ghost use Rattle.tf_rules.specs.Findings.{finding, is_kind, from_registry, is_unused, kind_text, says_if, unpinned_findings, unpinned_findings_by, uses_of};
+ghost use Rattle.tf_rules.specs.Findings.{finding, from_registry, is_unused, kind_text, says_if, unpinned_findings, unpinned_findings_by, uses_of};
 ghost use Rattle.tf_rules.specs.Kept.{issue_at};
 ghost use Rattle.tf_rules.specs.Inner.Entries.{issues_of, issues_declared, issues_if_asked, opened, text_of};
 ghost use Rattle.tf_rules.specs.Inner.KeptViews.{kept_declaration, kept_names, kept_source, place_of};
+ghost use Rattle.tf_facts.specs.Declarations.{is_kind};
 ghost use Rattle.tf_facts.specs.Found.{source};
 ghost use Rattle.std.specs.Option.{option_map};
 

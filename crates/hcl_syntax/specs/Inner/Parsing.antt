@@ -19,7 +19,7 @@ use Rattle.hcl_syntax.specs.declared.expected.Follow.TheVariants.{Operator, Choi
 use Rattle.hcl_grammar.specs.declared.refusal.Refusal.{Refusal}
 use Rattle.hcl_grammar.specs.declared.refusal.Refusal.TheVariants.{UnexpectedToken, UnexpectedEnd, TooDeep}
 use Rattle.hcl_syntax.specs.Inner.Cursors.{shown, first, Looks}
-use Rattle.hcl_grammar.specs.Grammar.{Marked, Action, ◌at◌, ◌then◌, reads, closes, inside, directive_row, the, file, body, eol, expr, fits}
+use Rattle.hcl_grammar.specs.Grammar.{Marked, Action, ◌at◌, ◌then◌, reads, closes, inside, directive, row_of, the, file, body, eol, expr, fits}
 use Rattle.hcl_grammar.specs.Predictor.{run}
 
 -- the refusal, or otherwise the answer for the rest
@@ -111,8 +111,8 @@ turning InElse (Ident Endif) = Closing
 turning InFor (Ident Endfor) = Closing
 turning _ _ = Inner
 
--- the row of a directive in a section, by the effect of its word
-abbrev pub turning_row : Turning → Section → Newlines → ℕ → Class → Action
-turning_row Onward e m n c = reads (the EndSequence at m ∷ inside InElse at m ∷ [])
-turning_row Closing e m n c = closes (the EndSequence at m ∷ [])
-turning_row Inner e m n c = directive_row m n c then (inside e at m ∷ [])
+-- the row of a directive in a section, by the effect of its word; `p` is the number of its `%{`
+abbrev pub turning_row : Turning → Section → Newlines → ℕ → ℕ → Class → Action
+turning_row Onward e m p n c = reads (the EndSequence at m ∷ inside InElse at m ∷ [])
+turning_row Closing e m p n c = closes (the EndSequence at m ∷ [])
+turning_row Inner e m p n c = row_of (directive p) m n c then (inside e at m ∷ [])

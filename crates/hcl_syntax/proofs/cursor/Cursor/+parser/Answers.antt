@@ -281,23 +281,23 @@ pub section-returns-in_default-class : goal.section-returns-in_default-class
 section-returns-in_default-class n c = record { ends = end-kept-refusal c.refused-in_default-class.ensures.refusal (end-fails {A = Unit {0}} {ys = []} {mid = c.look.new.self.left} (onward c.loop-token.invariant.leads (refusing (looks _ _ _ _ _ c.look.ensures.left c.in-Some.ensures.found refl) (search rules)))); shorter = tt }
 
 pub section-returns-in_err-expect-in-Onward-clause-ends : goal.section-returns-in_err-expect-in-Onward-clause-ends
-section-returns-in_err-expect-in-Onward-clause-ends n c = end-quits _ c.from_residual-in_err-expect-in-Onward.ensures.1 (onward c.loop-token.invariant.leads (reading {xs = section_directive c.loop-token.section c.in-Some.token.number at Dropped ∷ []} (looks _ _ _ _ _ c.look.ensures.left c.in-Some.ensures.found c.bump-in-ControlOpen.ensures.left) (search rules) (reading (looks _ _ _ _ _ c.look-in-ControlOpen.ensures.left c.in-Some-look.ensures.found c.bump-in-Onward.ensures.left) (turning-onward c.loop-token.section Dropped c.in-Some.token.number _ _ c.turning.ensures c.in-Onward.is) (beside (inside InElse at Dropped ∷ []) (c.in_err-expect-in-Onward.ensures.parses _)))))
+section-returns-in_err-expect-in-Onward-clause-ends n c = end-quits _ c.from_residual-in_err-expect-in-Onward.ensures.1 (onward c.loop-token.invariant.leads (reading {xs = section_directive c.loop-token.section c.in-Some.token.number at Dropped ∷ []} (looks _ _ _ _ _ c.look.ensures.left c.in-Some.ensures.found c.bump-in-ControlOpen.ensures.left) (search rules) (reading (looks _ _ _ _ _ c.look-in-ControlOpen.ensures.left c.in-Some-look.ensures.found c.bump-in-Onward.ensures.left) (turning-onward c.loop-token.section Dropped c.in-Some.token.number _ _ _ c.turning.ensures c.in-Onward.is) (beside (inside InElse at Dropped ∷ []) (c.in_err-expect-in-Onward.ensures.parses _)))))
 
 pub section-loop-token-preserved-in-Onward : goal.section-loop-token-preserved-in-Onward
 section-loop-token-preserved-in-Onward n c = record {
-  leads = onward c.loop-token.invariant.leads (reading {xs = section_directive c.loop-token.section c.in-Some.token.number at Dropped ∷ []} (looks _ _ _ _ _ c.look.ensures.left c.in-Some.ensures.found c.bump-in-ControlOpen.ensures.left) (search rules) (reading (looks _ _ _ _ _ c.look-in-ControlOpen.ensures.left c.in-Some-look.ensures.found c.bump-in-Onward.ensures.left) (turning-onward c.loop-token.section Dropped c.in-Some.token.number _ _ c.turning.ensures c.in-Onward.is) (beside (inside InElse at Dropped ∷ []) (c.in_ok-expect-in-Onward.ensures.parses _))));
+  leads = onward c.loop-token.invariant.leads (reading {xs = section_directive c.loop-token.section c.in-Some.token.number at Dropped ∷ []} (looks _ _ _ _ _ c.look.ensures.left c.in-Some.ensures.found c.bump-in-ControlOpen.ensures.left) (search rules) (reading (looks _ _ _ _ _ c.look-in-ControlOpen.ensures.left c.in-Some-look.ensures.found c.bump-in-Onward.ensures.left) (turning-onward c.loop-token.section Dropped c.in-Some.token.number _ _ _ c.turning.ensures c.in-Onward.is) (beside (inside InElse at Dropped ∷ []) (c.in_ok-expect-in-Onward.ensures.parses _))));
   shorter = omega (arith, c.in_ok-expect-in-Onward.ensures.shorter);
 }
 
 pub section-returns-in-Closing-clause-ends : goal.section-returns-in-Closing-clause-ends
-section-returns-in-Closing-clause-ends n c = end-onward (onward c.loop-token.invariant.leads (reading {xs = section_directive c.loop-token.section c.in-Some.token.number at Dropped ∷ []} (looks _ _ _ _ _ c.look.ensures.left c.in-Some.ensures.found c.bump-in-ControlOpen.ensures.left) (search rules) (done {a = tt {0}}))) (closing (looks _ _ _ _ _ c.look-in-ControlOpen.ensures.left c.in-Some-look.ensures.found c.bump-in-Closing.ensures.left) (turning-closing c.loop-token.section Dropped c.in-Some.token.number _ _ c.turning.ensures c.in-Closing.is) (c.expect-in-Closing.ensures.parses _))
+section-returns-in-Closing-clause-ends n c = end-onward (onward c.loop-token.invariant.leads (reading {xs = section_directive c.loop-token.section c.in-Some.token.number at Dropped ∷ []} (looks _ _ _ _ _ c.look.ensures.left c.in-Some.ensures.found c.bump-in-ControlOpen.ensures.left) (search rules) (done {a = tt {0}}))) (closing (looks _ _ _ _ _ c.look-in-ControlOpen.ensures.left c.in-Some-look.ensures.found c.bump-in-Closing.ensures.left) (turning-closing c.loop-token.section Dropped c.in-Some.token.number _ _ _ c.turning.ensures c.in-Closing.is) (c.expect-in-Closing.ensures.parses _))
 
 pub section-returns-in_err-directive-in-Inner-clause-ends : goal.section-returns-in_err-directive-in-Inner-clause-ends
-section-returns-in_err-directive-in-Inner-clause-ends n c = end-quits _ c.from_residual-in_err-directive-in-Inner.ensures.1 (onward c.loop-token.invariant.leads (reading {xs = section_directive c.loop-token.section c.in-Some.token.number at Dropped ∷ []} (looks _ _ _ _ _ c.look.ensures.left c.in-Some.ensures.found c.bump-in-ControlOpen.ensures.left) (search rules) (begins {s' = directive c.in-Some.token.number} refl refl (directive-stays c.in-Some.token.number Dropped) (λ t e. turning-inner c.loop-token.section Dropped c.in-Some.token.number t.class _ (c.turning.ensures ∙ ap (λ x. turning c.loop-token.section x.class) (same-token _ _ _ c.in-Some-look.ensures.found e)) c.in-Inner.is) c.look-in-ControlOpen.ensures.left (beside (inside c.loop-token.section at Dropped ∷ []) c.in_err-directive-in-Inner.ensures.parses))))
+section-returns-in_err-directive-in-Inner-clause-ends n c = end-quits _ c.from_residual-in_err-directive-in-Inner.ensures.1 (onward c.loop-token.invariant.leads (reading {xs = section_directive c.loop-token.section c.in-Some.token.number at Dropped ∷ []} (looks _ _ _ _ _ c.look.ensures.left c.in-Some.ensures.found c.bump-in-ControlOpen.ensures.left) (search rules) (begins {s' = directive c.in-Some.token.number} refl refl (directive-stays c.in-Some.token.number Dropped) (λ t e. turning-inner c.loop-token.section Dropped c.in-Some.token.number _ t.class _ (c.turning.ensures ∙ ap (λ x. turning c.loop-token.section x.class) (same-token _ _ _ c.in-Some-look.ensures.found e)) c.in-Inner.is) c.look-in-ControlOpen.ensures.left (beside (inside c.loop-token.section at Dropped ∷ []) c.in_err-directive-in-Inner.ensures.parses))))
 
 pub section-loop-token-preserved : goal.section-loop-token-preserved
 section-loop-token-preserved n c = record {
-  leads = onward c.loop-token.invariant.leads (reading {xs = section_directive c.loop-token.section c.in-Some.token.number at Dropped ∷ []} (looks _ _ _ _ _ c.look.ensures.left c.in-Some.ensures.found c.bump-in-ControlOpen.ensures.left) (search rules) (begins {s' = directive c.in-Some.token.number} refl refl (directive-stays c.in-Some.token.number Dropped) (λ t e. turning-inner c.loop-token.section Dropped c.in-Some.token.number t.class _ (c.turning.ensures ∙ ap (λ x. turning c.loop-token.section x.class) (same-token _ _ _ c.in-Some-look.ensures.found e)) c.in-Inner.is) c.look-in-ControlOpen.ensures.left (beside (inside c.loop-token.section at Dropped ∷ []) c.in_ok-directive-in-Inner.ensures.parses)));
+  leads = onward c.loop-token.invariant.leads (reading {xs = section_directive c.loop-token.section c.in-Some.token.number at Dropped ∷ []} (looks _ _ _ _ _ c.look.ensures.left c.in-Some.ensures.found c.bump-in-ControlOpen.ensures.left) (search rules) (begins {s' = directive c.in-Some.token.number} refl refl (directive-stays c.in-Some.token.number Dropped) (λ t e. turning-inner c.loop-token.section Dropped c.in-Some.token.number _ t.class _ (c.turning.ensures ∙ ap (λ x. turning c.loop-token.section x.class) (same-token _ _ _ c.in-Some-look.ensures.found e)) c.in-Inner.is) c.look-in-ControlOpen.ensures.left (beside (inside c.loop-token.section at Dropped ∷ []) c.in_ok-directive-in-Inner.ensures.parses)));
   shorter = omega (arith, c.in_ok-directive-in-Inner.ensures.shorter);
 }
 
