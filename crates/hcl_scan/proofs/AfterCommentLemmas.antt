@@ -11,7 +11,7 @@ use Rattle.hcl_tokens.specs.declared.token.Kind.{Kind}
 use Rattle.hcl_tokens.specs.declared.token.Kind.TheVariants.{LineComment}
 use Rattle.hcl_tokens.proofs.BooleanLemmas.{and_true, or_true}
 use Rattle.hcl_scan.proofs.WayLemmas.{ways}
-use Rattle.hcl_scan.proofs.LeadLemmas.{some}
+use Rattle.hcl_scan.proofs.PrefixLemmas.{some}
 use Rattle.hcl_tokens.proofs.ExpressionKindLemmas.{in_expressions}
 use Rattle.hcl_scan.proofs.KindPlaceLemmas.{Side, expression, template, side}
 use Rattle.hcl_scan.proofs.TemplateLemmas.{lit, interp, control, quote}

@@ -10,14 +10,14 @@ use Rattle.hcl_tokens.specs.Lexemes.{Lexeme}
 use Rattle.hcl_tokens.specs.Spelling.{IsIdent, IsExpressionText, are_ident, starts_ident, continues_ident}
 use Rattle.hcl_tokens.specs.Scans.{Scans, begin}
 use Rattle.hcl_source.specs.Load.{has_byte_order_mark}
-use Rattle.hcl_scan.specs.Inner.Leads.{lead_of, lead_bytes}
-use Rattle.hcl_scan.specs.declared.front.Lead.TheVariants.{Letter}
+use Rattle.hcl_scan.specs.Inner.Prefixes.{prefix_of, prefix_bytes}
+use Rattle.hcl_scan.specs.declared.front.Prefix.TheVariants.{Letter}
 use Rattle.hcl_tokens.specs.declared.token.Kind.{Kind}
 use Rattle.hcl_tokens.specs.declared.token.Kind.TheVariants.{Ident}
 use Rattle.hcl_tokens.proofs.BooleanLemmas.{and_true}
 use Rattle.hcl_scan.proofs.LongestFrontLemmas.{begins}
 use Rattle.hcl_scan.proofs.WayLemmas.{ways}
-use Rattle.hcl_scan.proofs.LeadLemmas.{leads, some, letter_kind}
+use Rattle.hcl_scan.proofs.PrefixLemmas.{leads, some, letter_kind}
 use Rattle.hcl_scan.proofs.InExpressionLemmas.{ReadPlain, read_plain}
 
 no_start : starts_ident 0xFEFF ≡ false
@@ -52,6 +52,6 @@ unmarked text t ts more scans = by (has_byte_order_mark (t.text ++ more)) refl
         let e = begins (t.text ++ more) (0xEF ∷ 0xBB ∷ 0xBF ∷ []) h in
         let w = ways [] false t.kind t.text x.rest x.is in
         let first : get_or t.text 0 0 ≡ 0xEF = sym (get_or_append_left t.text more 0 0 (some [] false t.kind t.text x.rest w)) ∙ ap (λ l. get_or l 0 0) e in
-        let lead : lead_of t.text ≡ Letter = ap (λ b. lead_bytes b (get_or t.text 1 0)) first in
-        let k : t.kind ≡ Ident = letter_kind t.kind (sym (leads [] false t.kind t.text x.rest w) ∙ lead) in
+        let prefix : prefix_of t.text ≡ Letter = ap (λ b. prefix_bytes b (get_or t.text 1 0)) first in
+        let k : t.kind ≡ Ident = letter_kind t.kind (sym (leads [] false t.kind t.text x.rest w) ∙ prefix) in
         absurd (no_ident t.text more (subst (λ (z : Kind). IsExpressionText [] false z t.text x.rest) k x.is) e)

@@ -5,30 +5,30 @@ use Rattle.std.specs.List.{list_any}
 use Rattle.hcl_tokens.specs.Lexemes.{Opener}
 use Rattle.hcl_tokens.specs.Spelling.{IsNewline, IsLineComment, IsInlineComment, IsExpressionText, starts}
 use Rattle.hcl_scan.specs.Inner.Found.{EndsComment}
-use Rattle.hcl_scan.specs.Inner.Leads.{lead_of}
+use Rattle.hcl_scan.specs.Inner.Prefixes.{prefix_of}
 use Rattle.hcl_tokens.specs.Neighbours.{grows, ends_comment}
-use Rattle.hcl_scan.specs.declared.front.Lead.TheVariants.{LineEnd, HashOrSlashes, SlashStar, OneSlash}
+use Rattle.hcl_scan.specs.declared.front.Prefix.TheVariants.{LineEnd, HashOrSlashes, SlashStar, OneSlash}
 use Rattle.hcl_tokens.specs.declared.token.Kind.{Kind}
 use Rattle.hcl_tokens.specs.declared.token.Kind.TheVariants.{Newline, LineComment, InlineComment, Slash}
 use Rattle.hcl_tokens.proofs.BooleanLemmas.{or_true, or_cases}
 use Rattle.hcl_scan.proofs.CommentTextLemmas.{starts_split, end_cut, ends_in, ends_less, star_moved}
-use Rattle.hcl_scan.proofs.LeadLemmas.{line_kind, hash_kind, star_kind, slash_kind}
+use Rattle.hcl_scan.proofs.PrefixLemmas.{line_kind, hash_kind, star_kind, slash_kind}
 use Rattle.hcl_scan.proofs.LongerTextLemmas.{Alone, Longer, longer_is, lead_kind, first_same}
 
 -- ---- a newline
 pub newline_alone : (opens : List Opener) (dot : Bool) (text other : List ℕ) → IsNewline text → Alone opens dot text other
 newline_alone opens dot text other is kind longer left e lt h = by is (subst (λ (k : Kind). IsExpressionText opens dot k longer left) kind_is h)
   where
-    lead : IsNewline text → lead_of (text ++ other) ≡ LineEnd
-    lead (inl f) = ap (λ l. lead_of (l ++ other)) f
-    lead (inr f) = ap (λ l. lead_of (l ++ other)) f
+    prefix : IsNewline text → prefix_of (text ++ other) ≡ LineEnd
+    prefix (inl f) = ap (λ l. prefix_of (l ++ other)) f
+    prefix (inr f) = ap (λ l. prefix_of (l ++ other)) f
 
     long : IsNewline text → 1 < length longer
     long (inl f) = omega (arith, ap length f, lt)
     long (inr f) = omega (arith, ap length f, lt)
 
     kind_is : kind ≡ Newline
-    kind_is = line_kind kind (lead_kind opens dot kind longer left (text ++ other) e (long is) h ∙ lead is)
+    kind_is = line_kind kind (lead_kind opens dot kind longer left (text ++ other) e (long is) h ∙ prefix is)
 
     by : IsNewline text → IsNewline longer → ⊥
     by (inl f) (inl g) = omega (arith, ap length f, ap length g, lt)
@@ -41,10 +41,10 @@ any_after : (text : List ℕ) (b : ℕ) (bs : List ℕ) → (b == 10) ≡ true �
 any_after [] b bs h = ap (λ v. v || list_any (λ c. c == 10) bs) h
 any_after (c ∷ text) b bs h = ap (λ v. (c == 10) || v) (any_after text b bs h) ∙ or_true (c == 10)
 
-comment_lead : (text other : List ℕ) → IsLineComment text → lead_of (text ++ other) ≡ HashOrSlashes
+comment_lead : (text other : List ℕ) → IsLineComment text → prefix_of (text ++ other) ≡ HashOrSlashes
 comment_lead text other is = ⊎_elim
-    (λ a. ap (λ l. lead_of (l ++ other)) (starts_split text (35 ∷ []) a).1)
-    (λ b. ap (λ l. lead_of (l ++ other)) (starts_split text (47 ∷ 47 ∷ []) b).1)
+    (λ a. ap (λ l. prefix_of (l ++ other)) (starts_split text (35 ∷ []) a).1)
+    (λ b. ap (λ l. prefix_of (l ++ other)) (starts_split text (47 ∷ 47 ∷ []) b).1)
     (or_cases (starts text (35 ∷ [])) (starts text (47 ∷ 47 ∷ [])) is.0)
 
 pub line_alone : (opens : List Opener) (dot : Bool) (text other : List ℕ) → 0 < length text → IsLineComment text → ends_comment other ≡ true → Alone opens dot text other
@@ -77,7 +77,7 @@ inline_alone opens dot text other is kind longer left e lt h = is'.2 held
     long = omega (arith, ap length is.1, length-append is.0 (42 ∷ 47 ∷ []))
 
     kind_is : kind ≡ InlineComment
-    kind_is = star_kind kind (lead_kind opens dot kind longer left (text ++ other) e (omega (arith, long, lt)) h ∙ ap (λ l. lead_of (l ++ other)) is.1)
+    kind_is = star_kind kind (lead_kind opens dot kind longer left (text ++ other) e (omega (arith, long, lt)) h ∙ ap (λ l. prefix_of (l ++ other)) is.1)
 
     is' : IsInlineComment longer
     is' = subst (λ (k : Kind). IsExpressionText opens dot k longer left) kind_is h
@@ -104,7 +104,7 @@ inline_alone opens dot text other is kind longer left e lt h = is'.2 held
     held = (take n (inner ++ (42 ∷ [])), drop (suc (suc n)) (inner ++ (42 ∷ [])), end_cut (inner ++ (42 ∷ [])) n here ∙ sym (append_assoc (take n (inner ++ (42 ∷ []))) (42 ∷ 47 ∷ []) (drop (suc (suc n)) (inner ++ (42 ∷ [])))))
 
 -- ---- a slash
-slash_leads : (other : List ℕ) → grows Slash (get_or other 0 0) ≡ false → lead_of (47 ∷ other) ≡ OneSlash
+slash_leads : (other : List ℕ) → grows Slash (get_or other 0 0) ≡ false → prefix_of (47 ∷ other) ≡ OneSlash
 slash_leads other h = by (get_or other 0 0 == 47) (get_or other 0 0 == 42) h
   where
     by : (v w : Bool) → (v || w) ≡ false → cond v HashOrSlashes (cond w SlashStar OneSlash) ≡ OneSlash
@@ -114,6 +114,6 @@ slash_leads other h = by (get_or other 0 0 == 47) (get_or other 0 0 == 42) h
 
 pub slash_alone : (opens : List Opener) (dot : Bool) (text other : List ℕ) → text ≡ 47 ∷ [] → grows Slash (get_or other 0 0) ≡ false → Alone opens dot text other
 slash_alone opens dot text other is stop kind longer left e lt h =
-    let kind_is : kind ≡ Slash = slash_kind kind (lead_kind opens dot kind longer left (text ++ other) e (omega (arith, ap length is, lt)) h ∙ ap (λ l. lead_of (l ++ other)) is ∙ slash_leads other stop) in
+    let kind_is : kind ≡ Slash = slash_kind kind (lead_kind opens dot kind longer left (text ++ other) e (omega (arith, ap length is, lt)) h ∙ ap (λ l. prefix_of (l ++ other)) is ∙ slash_leads other stop) in
     let is' = subst (λ (k : Kind). IsExpressionText opens dot k longer left) kind_is h in
     omega (arith, ap length is, ap length is'.0, lt)

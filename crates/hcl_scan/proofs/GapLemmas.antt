@@ -6,15 +6,15 @@ use Rattle.std.proofs.lemmas.Bool.Decides.{nat_tests}
 use Rattle.hcl_tokens.specs.Lexemes.{Lexeme, Opener, in_heredoc}
 use Rattle.hcl_tokens.specs.Spelling.{IsNewline, IsTextIn, IsExpressionText, is_blank, starts, context, Context, Template, Expression}
 use Rattle.hcl_tokens.specs.Scans.{State, gap_in, gap_len, has_gaps_in, skip_blanks, at_line_end, Reads, Closes, Run, IsComplete}
-use Rattle.hcl_scan.specs.Inner.Leads.{lead_of}
+use Rattle.hcl_scan.specs.Inner.Prefixes.{prefix_of}
 use Rattle.hcl_tokens.specs.Regapped.{without_gaps, text_with_gaps, is_template, touches, gap_fits}
-use Rattle.hcl_scan.specs.declared.front.Lead.TheVariants.{LineEnd}
+use Rattle.hcl_scan.specs.declared.front.Prefix.TheVariants.{LineEnd}
 use Rattle.hcl_tokens.specs.declared.token.Kind.{Kind}
 use Rattle.hcl_tokens.specs.declared.token.Kind.TheVariants.{LineComment}
 use Rattle.hcl_scan.proofs.WayLemmas.{ways}
 use Rattle.hcl_scan.proofs.TemplateLemmas.{way_template}
 use Rattle.hcl_scan.proofs.TemplateLemmas as templates
-use Rattle.hcl_scan.proofs.LeadLemmas.{leads, some, blank_leads, newline_leads, space_kind, line_kind}
+use Rattle.hcl_scan.proofs.PrefixLemmas.{leads, some, blank_leads, newline_leads, space_kind, line_kind}
 use Rattle.hcl_scan.proofs.OtherStepLemmas.{zero_gap}
 
 -- outside heredocs no token begins with a blank
@@ -58,7 +58,7 @@ pub gaps : (s : State) (t : Lexeme) (next : State) (dot : Bool) (before : Kind) 
 gaps s t next dot before gap more r plain fit = gaps_in (context s.opens) s.opens s.after_dot dot before gap t r.rest more r.longest.spelled plain fit
 
 -- a text that begins with a newline is a newline
-ends_lead : (text rest : List ℕ) → 0 < length text → at_line_end (text ++ rest) ≡ true → lead_of text ≡ LineEnd
+ends_lead : (text rest : List ℕ) → 0 < length text → at_line_end (text ++ rest) ≡ true → prefix_of text ≡ LineEnd
 ends_lead [] rest some h = absurd (omega arith)
 ends_lead (b ∷ text) rest some h = newline_leads b (get_or (b ∷ text) 1 0) (by (starts (text ++ rest) []) (starts (text ++ rest) (10 ∷ [])) h)
   where

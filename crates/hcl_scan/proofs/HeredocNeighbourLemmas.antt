@@ -5,14 +5,14 @@ use Rattle.std.specs.List.{list_all, prefix_len}
 use Rattle.std.proofs.lemmas.Bool.Decides.{nat_tests}
 use Rattle.hcl_tokens.specs.Lexemes.{Opener}
 use Rattle.hcl_tokens.specs.Spelling.{IsNewline, IsHeredocOpen, IsExpressionText}
-use Rattle.hcl_scan.specs.Inner.Leads.{lead_of}
-use Rattle.hcl_scan.specs.declared.front.Lead.TheVariants.{Closer}
+use Rattle.hcl_scan.specs.Inner.Prefixes.{prefix_of}
+use Rattle.hcl_scan.specs.declared.front.Prefix.TheVariants.{Closer}
 use Rattle.hcl_tokens.specs.declared.token.Kind.{Kind}
 use Rattle.hcl_tokens.specs.declared.token.Kind.TheVariants.{HeredocOpen, SeqClose, BraceClose}
 use Rattle.hcl_tokens.proofs.BooleanLemmas.{and_true}
 use Rattle.hcl_scan.proofs.CommentTextLemmas.{goes_on}
 use Rattle.hcl_scan.proofs.WordLemmas.{ident_word, is_word, all_to, all_append}
-use Rattle.hcl_scan.proofs.LeadLemmas.{less_kind, closer_kinds}
+use Rattle.hcl_scan.proofs.PrefixLemmas.{less_kind, closer_kinds}
 use Rattle.hcl_scan.proofs.LongerTextLemmas.{Alone, lead_kind, first_same}
 
 -- ---- the opener of a heredoc: it ends at the first LF
@@ -48,7 +48,7 @@ pub heredoc_alone : (opens : List Opener) (dot : Bool) (text other : List ℕ) �
 heredoc_alone opens dot text other is kind longer left e lt h =
     let own = opener_len text other is in
     let long : 0 < length text = omega (arith, own) in
-    let kind_is : kind ≡ HeredocOpen = less_kind kind (lead_kind opens dot kind longer left (text ++ other) e (omega (arith, long, lt)) h ∙ ap (λ l. lead_of (l ++ other)) is.6) in
+    let kind_is : kind ≡ HeredocOpen = less_kind kind (lead_kind opens dot kind longer left (text ++ other) e (omega (arith, long, lt)) h ∙ ap (λ l. prefix_of (l ++ other)) is.6) in
     let is' : IsHeredocOpen longer = subst (λ (k : Kind). IsExpressionText opens dot k longer left) kind_is h in
     omega (arith, own, opener_len longer left is', ap (prefix_len goes_on) e, lt)
 
@@ -58,15 +58,15 @@ closer_text opens dot kind longer left (inl k) h = (subst (λ (z : Kind). IsExpr
 closer_text opens dot kind longer left (inr k) h = inl (subst (λ (z : Kind). IsExpressionText opens dot z longer left) k h).1
 
 pub closer_alone : (opens : List Opener) (dot : Bool) (text other : List ℕ) → (text ≡ 125 ∷ []) ⊎ (text ≡ 126 ∷ 125 ∷ []) → Alone opens dot text other
-closer_alone opens dot text other is kind longer left e lt h = by is (closer_text opens dot kind longer left (closer_kinds kind (lead_kind opens dot kind longer left (text ++ other) e (long is) h ∙ lead is)) h)
+closer_alone opens dot text other is kind longer left e lt h = by is (closer_text opens dot kind longer left (closer_kinds kind (lead_kind opens dot kind longer left (text ++ other) e (long is) h ∙ prefix is)) h)
   where
     long : (text ≡ 125 ∷ []) ⊎ (text ≡ 126 ∷ 125 ∷ []) → 1 < length longer
     long (inl f) = omega (arith, ap length f, lt)
     long (inr f) = omega (arith, ap length f, lt)
 
-    lead : (text ≡ 125 ∷ []) ⊎ (text ≡ 126 ∷ 125 ∷ []) → lead_of (text ++ other) ≡ Closer
-    lead (inl f) = ap (λ l. lead_of (l ++ other)) f
-    lead (inr f) = ap (λ l. lead_of (l ++ other)) f
+    prefix : (text ≡ 125 ∷ []) ⊎ (text ≡ 126 ∷ 125 ∷ []) → prefix_of (text ++ other) ≡ Closer
+    prefix (inl f) = ap (λ l. prefix_of (l ++ other)) f
+    prefix (inr f) = ap (λ l. prefix_of (l ++ other)) f
 
     by : (text ≡ 125 ∷ []) ⊎ (text ≡ 126 ∷ 125 ∷ []) → (longer ≡ 125 ∷ []) ⊎ (longer ≡ 126 ∷ 125 ∷ []) → ⊥
     by (inl f) (inl g) = omega (arith, ap length f, ap length g, lt)

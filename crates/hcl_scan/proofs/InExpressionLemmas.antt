@@ -9,16 +9,16 @@ use Rattle.hcl_tokens.specs.Lexemes.{Lexeme, Opener, in_heredoc, open_after}
 use Rattle.hcl_tokens.specs.Spelling.{punctuation, IsPunctuation, IsExpressionText, context, Expression}
 use Rattle.hcl_tokens.specs.Kinds.{is}
 use Rattle.hcl_tokens.specs.Scans.{State, ahead, Reads, Closes, Next, Run}
-use Rattle.hcl_scan.specs.Inner.Leads.{lead_of, lead_bytes}
+use Rattle.hcl_scan.specs.Inner.Prefixes.{prefix_of, prefix_bytes}
 use Rattle.hcl_tokens.specs.Neighbours.{grows, joins, joins_text, stays}
 use Rattle.hcl_tokens.specs.Regapped.{without_gaps, text_with_gaps, is_template, touches, AllFit}
-use Rattle.hcl_scan.specs.declared.front.Lead.TheVariants.{Sign as SignLead}
+use Rattle.hcl_scan.specs.declared.front.Prefix.TheVariants.{Sign as SignLead}
 use Rattle.hcl_tokens.specs.declared.token.Kind.{Kind}
 use Rattle.hcl_tokens.specs.declared.token.Kind.TheVariants.{LineComment, Ident, Number, Dot, Colon, Not, Assign, Less, Greater, Slash, Lit, InterpOpen, ControlOpen, QuoteClose, HeredocClose}
 use Rattle.hcl_tokens.proofs.BooleanLemmas.{and_true, not_true}
 use Rattle.hcl_scan.proofs.ContextLemmas.{not_both}
 use Rattle.hcl_scan.proofs.WayLemmas.{Ways, ways, mark_passes}
-use Rattle.hcl_scan.proofs.LeadLemmas.{leads, some, sign_mark}
+use Rattle.hcl_scan.proofs.PrefixLemmas.{leads, some, sign_mark}
 use Rattle.hcl_tokens.proofs.ExpressionKindLemmas.{in_expressions}
 use Rattle.hcl_scan.proofs.KindPlaceLemmas.{Side, expression, template, side}
 use Rattle.hcl_scan.proofs.TemplateLemmas.{lit, interp, control, quote}
@@ -129,8 +129,8 @@ no_fraction opens dot kind text rest other this no_dot = by (get_or (text ++ oth
     by false e = refl
     by true e =
         let b : get_or text 0 0 ≡ 46 = sym first ∙ is_point (get_or (text ++ other) 0 0) e in
-        let lead : lead_of text ≡ SignLead = ap (λ b. lead_bytes b (get_or text 1 0)) b in
-        let m = sign_mark opens dot kind text rest (sym (leads opens dot kind text rest w) ∙ lead) w in
+        let prefix : prefix_of text ≡ SignLead = ap (λ b. prefix_bytes b (get_or text 1 0)) b in
+        let m = sign_mark opens dot kind text rest (sym (leads opens dot kind text rest w) ∙ prefix) w in
         let t = two (length text) (get_or text 1 0) (is Dot kind) (get_or text 0 0 == 46) no_dot (ap (λ c. c == 46) b) (points text kind m) in
         ap is_ascii_digit (get_or_append_left text other 0 1 t.0) ∙ t.1
       where

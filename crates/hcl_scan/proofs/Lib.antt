@@ -23,7 +23,7 @@ pub mod NumeralLemmas
 pub mod CommentTextLemmas
 pub mod IdentLemmas
 pub mod HeredocOpenerLemmas
-pub mod LeadLemmas
+pub mod PrefixLemmas
 pub mod TextCutLemmas
 pub mod ExpressionTextLemmas
 pub mod FrontLemmas

@@ -3,18 +3,18 @@ use Rattle.std.proofs.Common.{◌≡◌, ℕ, ◌<◌, Bool, true, List, [], ◌
 use Rattle.std.specs.List.{list_all}
 use Rattle.hcl_tokens.specs.Lexemes.{Opener}
 use Rattle.hcl_tokens.specs.Spelling.{IsExpressionText}
-use Rattle.hcl_scan.specs.Inner.Leads.{lead_of}
+use Rattle.hcl_scan.specs.Inner.Prefixes.{prefix_of}
 use Rattle.hcl_tokens.specs.declared.token.Kind.{Kind}
 use Rattle.hcl_tokens.proofs.BooleanLemmas.{and_true}
 use Rattle.hcl_scan.proofs.WayLemmas.{ways}
-use Rattle.hcl_scan.proofs.LeadLemmas.{kind_lead, leads, front_lead}
+use Rattle.hcl_scan.proofs.PrefixLemmas.{kind_lead, leads, front_lead}
 
 -- there is no longer text of an expression there
 abbrev pub Alone : List Opener → Bool → List ℕ → List ℕ → Type 0
 Alone opens dot text other = (kind : Kind) (longer left : List ℕ) → longer ++ left ≡ text ++ other → length text < length longer → ¬ IsExpressionText opens dot kind longer left
 
 -- a longer text begins with the text and continues with the text after it
-pub lead_kind : (opens : List Opener) (dot : Bool) (kind : Kind) (longer left seen : List ℕ) → longer ++ left ≡ seen → 1 < length longer → IsExpressionText opens dot kind longer left → kind_lead kind ≡ lead_of seen
+pub lead_kind : (opens : List Opener) (dot : Bool) (kind : Kind) (longer left seen : List ℕ) → longer ++ left ≡ seen → 1 < length longer → IsExpressionText opens dot kind longer left → kind_lead kind ≡ prefix_of seen
 lead_kind opens dot kind longer left seen e lt is = sym (leads opens dot kind longer left (ways opens dot kind longer left is)) ∙ front_lead longer left seen e lt
 
 pub first_same : (text other longer left : List ℕ) (b c : ℕ) (more more' : List ℕ) → longer ++ left ≡ text ++ other → text ≡ b ∷ more → longer ≡ c ∷ more' → c ≡ b

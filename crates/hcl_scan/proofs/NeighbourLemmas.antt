@@ -19,7 +19,7 @@ use Rattle.hcl_scan.proofs.TextStartLemmas.{starts_is}
 use Rattle.std.proofs.Math.Seq.{take-append_seam, drop-append_seam}
 use Rattle.hcl_scan.specs.Inner.Found.{Finds}
 use Rattle.hcl_scan.proofs.ContextLemmas.{heredoc_on_top}
-use Rattle.hcl_scan.proofs.LeadLemmas.{some}
+use Rattle.hcl_scan.proofs.PrefixLemmas.{some}
 use Rattle.hcl_scan.proofs.WordLemmas.{stops_number}
 use Rattle.hcl_scan.proofs.LongerTextLemmas.{Alone}
 use Rattle.hcl_scan.proofs.WordNeighbourLemmas.{ident_alone, number_alone, digits_alone, stops_ident, stops_digits}

@@ -3,13 +3,13 @@ use Rattle.std.proofs.Common.{◌≡◌, ℕ, ◌<◌, ◌||◌, ◌==◌, Bool,
 use Rattle.hcl_tokens.specs.Lexemes.{Lexeme, Opener, Quote, Heredoc, Sequence, Brace, Bracket, Paren, in_heredoc, open_after, pop_if, below_groups, same_opener}
 use Rattle.hcl_tokens.specs.Spelling.{IsExpressionText, context, Template, Expression}
 use Rattle.hcl_tokens.specs.Scans.{State, ahead, begin, IsLongest, Leaves, Reads, Closes, Next, Run, Scans}
-use Rattle.hcl_scan.specs.Inner.Leads.{lead_of}
-use Rattle.hcl_scan.specs.declared.front.Lead.TheVariants.{LineEnd}
+use Rattle.hcl_scan.specs.Inner.Prefixes.{prefix_of}
+use Rattle.hcl_scan.specs.declared.front.Prefix.TheVariants.{LineEnd}
 use Rattle.hcl_tokens.specs.declared.token.Kind.{Kind}
 use Rattle.hcl_tokens.specs.declared.token.Kind.TheVariants.{Newline, LineComment, HeredocOpen, QuoteOpen, ParenOpen, BracketOpen, BraceOpen, ParenClose, BracketClose, SeqClose, BraceClose, Lit, InterpOpen, ControlOpen, QuoteClose, HeredocClose}
 use Rattle.hcl_tokens.proofs.BooleanLemmas.{and_true}
 use Rattle.hcl_scan.proofs.WayLemmas.{ways}
-use Rattle.hcl_scan.proofs.LeadLemmas.{leads, some, newline_leads, line_kind}
+use Rattle.hcl_scan.proofs.PrefixLemmas.{leads, some, newline_leads, line_kind}
 use Rattle.hcl_tokens.proofs.ExpressionKindLemmas.{in_expressions}
 use Rattle.hcl_scan.proofs.KindPlaceLemmas.{Side, expression, template, side}
 use Rattle.hcl_scan.proofs.TemplateLemmas.{Way, lit, interp, control, quote, way_template}
@@ -91,7 +91,7 @@ record Stood (before : Kind) (s : State) : Type 0 where
   comment : in_heredoc s.opens ≡ false → before ≡ LineComment → (context s.opens ≡ Expression) × (ends_comment s.seen ≡ true)
   template : in_heredoc s.opens ≡ false → (quoted : Bool) → context s.opens ≡ Template quoted → opens_template before ≡ true
 
-lf_lead : (text rest : List ℕ) → 0 < length text → ends_comment (text ++ rest) ≡ true → lead_of text ≡ LineEnd
+lf_lead : (text rest : List ℕ) → 0 < length text → ends_comment (text ++ rest) ≡ true → prefix_of text ≡ LineEnd
 lf_lead [] rest long h = absurd (omega arith)
 lf_lead (b ∷ text) rest long h = newline_leads b (get_or (b ∷ text) 1 0) (λ i. h i || (b == 13))
 

@@ -4,14 +4,14 @@ use Rattle.std.specs.List.{list_all}
 use Rattle.std.specs.Char.{is_ascii_digit}
 use Rattle.hcl_tokens.specs.Lexemes.{Opener}
 use Rattle.hcl_tokens.specs.Spelling.{IsDigits, IsIdent, IsNumber, IsExpressionText}
-use Rattle.hcl_scan.specs.Inner.Leads.{lead_of}
+use Rattle.hcl_scan.specs.Inner.Prefixes.{prefix_of}
 use Rattle.hcl_tokens.specs.Neighbours.{grows}
-use Rattle.hcl_scan.specs.declared.front.Lead.TheVariants.{Letter, Digit}
+use Rattle.hcl_scan.specs.declared.front.Prefix.TheVariants.{Letter, Digit}
 use Rattle.hcl_tokens.specs.declared.token.Kind.{Kind}
 use Rattle.hcl_tokens.specs.declared.token.Kind.TheVariants.{Ident, Number}
 use Rattle.hcl_tokens.proofs.BooleanLemmas.{and_true}
 use Rattle.hcl_scan.proofs.WordLemmas.{IsWord, ident_word, is_word, number_ends, no_longer_number, stops_number, Whole, ends_number}
-use Rattle.hcl_scan.proofs.LeadLemmas.{letter_leads, digits_lead, letter_kind, digit_kind}
+use Rattle.hcl_scan.proofs.PrefixLemmas.{letter_leads, digits_lead, letter_kind, digit_kind}
 use Rattle.hcl_scan.proofs.LongerTextLemmas.{Alone, Longer, longer_is, lead_kind, all_after}
 
 abbrev pub stops_digits : List ℕ → Bool
@@ -37,8 +37,8 @@ ident_alone opens dot text rest is stop kind longer left e lt h =
     w : IsWord text
     w = ident_word text is
 
-    letter : lead_of (text ++ rest) ≡ Letter
-    letter = ap (λ l. lead_of (l ++ rest)) w.whole ∙ letter_leads w.first (get_or (w.first ∷ (w.more ++ rest)) 1 0) w.begins
+    letter : prefix_of (text ++ rest) ≡ Letter
+    letter = ap (λ l. prefix_of (l ++ rest)) w.whole ∙ letter_leads w.first (get_or (w.first ∷ (w.more ++ rest)) 1 0) w.begins
 
     kind_is : kind ≡ Ident
     kind_is = letter_kind kind (lead_kind opens dot kind longer left (text ++ rest) e (omega (arith, ap length w.whole, lt)) h ∙ letter)
@@ -54,8 +54,8 @@ number_alone opens text rest is stop kind longer left e lt h =
     split : text ≡ is.0 ++ (is.1 ++ is.2)
     split = is.6 ∙ append_assoc is.0 is.1 is.2
 
-    digit : lead_of (text ++ rest) ≡ Digit
-    digit = ap (λ l. lead_of (l ++ rest)) split ∙ ap lead_of (append_assoc is.0 (is.1 ++ is.2) rest) ∙ digits_lead is.0 ((is.1 ++ is.2) ++ rest) is.3
+    digit : prefix_of (text ++ rest) ≡ Digit
+    digit = ap (λ l. prefix_of (l ++ rest)) split ∙ ap prefix_of (append_assoc is.0 (is.1 ++ is.2) rest) ∙ digits_lead is.0 ((is.1 ++ is.2) ++ rest) is.3
 
     kind_is : kind ≡ Number
     kind_is = digit_kind kind (lead_kind opens false kind longer left (text ++ rest) e (omega (arith, ap length split, length-append is.0 (is.1 ++ is.2), is.3.0, lt)) h ∙ digit)

@@ -2,7 +2,7 @@
 pub mod Found
 pub mod Fronts
 pub mod Lanes
-pub mod Leads
+pub mod Prefixes
 pub mod MarkerPlaces
 pub mod Openings
 pub mod Punctuation

@@ -5,14 +5,14 @@ ghost use Rattle.std.specs.Str.{IsCharBoundary};
 ghost use Rattle.hcl_tokens.specs.Spelling.{IsNewline};
 ghost use Rattle.hcl_scan.specs.Inner.Found.{FindsAt, HasNoneAt, IsLongestFront, HasNoFront, BlankText, NumberText, CloserText, closer_kind};
 ghost use Rattle.hcl_scan.specs.Inner.Fronts.{IsFront};
-ghost use Rattle.hcl_scan.specs.Inner.Leads.{lead_of};
+ghost use Rattle.hcl_scan.specs.Inner.Prefixes.{prefix_of};
 ghost use Rattle.hcl_scan.specs.declared.front.Front.TheVariants.{Led};
-ghost use Rattle.hcl_scan.specs.declared.front.Lead.TheVariants.{LessLess};
+ghost use Rattle.hcl_scan.specs.declared.front.Prefix.TheVariants.{LessLess};
 ghost use Rattle.hcl_tokens.specs.declared.token.Kind.TheVariants.{Newline};
 
 use crate::comment::inline_comment_len;
 use crate::found::Found;
-use crate::front::{Front, Lead, front_of};
+use crate::front::{Front, Prefix, front_of};
 use crate::ident::{begun_ident, heredoc_open_len};
 use crate::number::{digits_len, number_len};
 use crate::text::{blanks_len, line_len, newline_len};
@@ -105,7 +105,7 @@ fn closer_len(seen: &[u8], closes_sequence: bool) -> Option<usize>
 
 /// A heredoc's opener, or the first `<` of two.
 fn opener_or_less(seen: &str) -> Found
-    requires { lead_of seen.now ≡ LessLess }
+    requires { prefix_of seen.now ≡ LessLess }
     ensures found { (after_dot inside closes : Bool)
         → FindsAt after_dot inside closes seen.now result.kind result.len }
     ensures boundary { IsCharBoundary seen.now result.len }
@@ -123,8 +123,8 @@ fn opener_or_less(seen: &str) -> Found
 }
 
 /// The longest token at the front of the visible text, if its first bytes are no mark.
-fn led(seen: &str, lead: Lead, around: Surroundings) -> Option<Found>
-    requires { IsFront seen.now (Led lead) }
+fn token_by_prefix(seen: &str, prefix: Prefix, around: Surroundings) -> Option<Found>
+    requires { IsFront seen.now (Led prefix) }
     ensures found { IfSome result (λ f. FindsAt around.after_dot around.inside_heredoc
         around.closes_sequence seen.now f.kind f.len) }
     ensures boundary { IfSome result (λ f. IsCharBoundary seen.now f.len) }
@@ -132,26 +132,26 @@ fn led(seen: &str, lead: Lead, around: Surroundings) -> Option<Found>
         around.closes_sequence seen.now) }
 {
     let bytes = seen.as_bytes();
-    match lead {
-        Lead::LineEnd => found_newline(bytes),
-        Lead::Space => found_as(Kind::Blank, blank_len(bytes, around.inside_heredoc)),
-        Lead::Letter => begun_ident(seen),
-        Lead::Digit => found_as(Kind::Number, numeral_len(bytes, around.after_dot)),
-        Lead::HashOrSlashes => Some(Found {
+    match prefix {
+        Prefix::LineEnd => found_newline(bytes),
+        Prefix::Space => found_as(Kind::Blank, blank_len(bytes, around.inside_heredoc)),
+        Prefix::Letter => begun_ident(seen),
+        Prefix::Digit => found_as(Kind::Number, numeral_len(bytes, around.after_dot)),
+        Prefix::HashOrSlashes => Some(Found {
             kind: Kind::LineComment,
             len: line_len(bytes),
         }),
-        Lead::SlashStar => found_as(Kind::InlineComment, inline_comment_len(bytes)),
-        Lead::OneSlash => Some(Found {
+        Prefix::SlashStar => found_as(Kind::InlineComment, inline_comment_len(bytes)),
+        Prefix::OneSlash => Some(Found {
             kind: Kind::Slash,
             len: 1,
         }),
-        Lead::LessLess => Some(opener_or_less(seen)),
-        Lead::Closer => found_as(
+        Prefix::LessLess => Some(opener_or_less(seen)),
+        Prefix::Closer => found_as(
             closer_kind(around.closes_sequence),
             closer_len(bytes, around.closes_sequence),
         ),
-        Lead::Sign => None,
+        Prefix::Sign => None,
     }
 }
 
@@ -165,6 +165,6 @@ pub(crate) fn next_in_expression(seen: &str, around: Surroundings) -> Option<Fou
 {
     match front_of(seen.as_bytes()) {
         Front::Mark(kind, len) => Some(Found { kind, len }),
-        Front::Led(lead) => led(seen, lead, around),
+        Front::Led(prefix) => token_by_prefix(seen, prefix, around),
     }
 }

@@ -11,14 +11,14 @@
 
 ghost use Rattle.std.specs.Prelude.{◌≡◌};
 ghost use Rattle.hcl_scan.specs.Inner.Fronts.{IsFront};
-ghost use Rattle.hcl_scan.specs.Inner.Leads.{slash_lead};
+ghost use Rattle.hcl_scan.specs.Inner.Prefixes.{slash_prefix};
 
 use crate::text::byte_at;
 use hcl_tokens::Kind;
 
 /// The tokens that the first two bytes may begin.
 #[derive(Clone, Copy)]
-pub enum Lead {
+pub enum Prefix {
     LineEnd,
     Space,
     Letter,
@@ -31,15 +31,15 @@ pub enum Lead {
     Sign,
 }
 
-fn slash_lead(second: u8) -> Lead
-    ensures { result ≡ slash_lead second }
+fn slash_prefix(second: u8) -> Prefix
+    ensures { result ≡ slash_prefix second }
 {
     if second == b'/' {
-        Lead::HashOrSlashes
+        Prefix::HashOrSlashes
     } else if second == b'*' {
-        Lead::SlashStar
+        Prefix::SlashStar
     } else {
-        Lead::OneSlash
+        Prefix::OneSlash
     }
 }
 
@@ -47,7 +47,7 @@ fn slash_lead(second: u8) -> Lead
 #[derive(Clone, Copy)]
 pub enum Front {
     Mark(Kind, usize),
-    Led(Lead),
+    Led(Prefix),
 }
 
 /// Classifies the first bytes. The second byte is read only if the first one needs it.
@@ -55,13 +55,13 @@ pub fn front_of(seen: &[u8]) -> Front
     ensures { IsFront seen.now result }
 {
     match byte_at(seen, 0) {
-        b'a'..=b'z' | b'A'..=b'Z' | b'_' | 128..=255 => Front::Led(Lead::Letter),
-        b'0'..=b'9' => Front::Led(Lead::Digit),
-        b'\n' | b'\r' => Front::Led(Lead::LineEnd),
-        b' ' | b'\t' => Front::Led(Lead::Space),
-        b'#' => Front::Led(Lead::HashOrSlashes),
-        b'/' => Front::Led(slash_lead(byte_at(seen, 1))),
-        b'}' | b'~' => Front::Led(Lead::Closer),
+        b'a'..=b'z' | b'A'..=b'Z' | b'_' | 128..=255 => Front::Led(Prefix::Letter),
+        b'0'..=b'9' => Front::Led(Prefix::Digit),
+        b'\n' | b'\r' => Front::Led(Prefix::LineEnd),
+        b' ' | b'\t' => Front::Led(Prefix::Space),
+        b'#' => Front::Led(Prefix::HashOrSlashes),
+        b'/' => Front::Led(slash_prefix(byte_at(seen, 1))),
+        b'}' | b'~' => Front::Led(Prefix::Closer),
         b'"' => Front::Mark(Kind::QuoteOpen, 1),
         b'.' if seen.starts_with(b"...") => Front::Mark(Kind::Ellipsis, 3),
         b'.' => Front::Mark(Kind::Dot, 1),
@@ -85,13 +85,13 @@ pub fn front_of(seen: &[u8]) -> Front
             (b'!', b'=') => Front::Mark(Kind::NotEqual, 2),
             (b'!', _) => Front::Mark(Kind::Not, 1),
             (b'<', b'=') => Front::Mark(Kind::LessEqual, 2),
-            (b'<', b'<') => Front::Led(Lead::LessLess),
+            (b'<', b'<') => Front::Led(Prefix::LessLess),
             (b'<', _) => Front::Mark(Kind::Less, 1),
             (b'>', b'=') => Front::Mark(Kind::GreaterEqual, 2),
             (b'>', _) => Front::Mark(Kind::Greater, 1),
             (b'&', b'&') => Front::Mark(Kind::And, 2),
             (b'|', b'|') => Front::Mark(Kind::Or, 2),
-            _ => Front::Led(Lead::Sign),
+            _ => Front::Led(Prefix::Sign),
         },
     }
 }

@@ -6,10 +6,10 @@ use Rattle.std.proofs.lemmas.Bool.Decides.{nat_tests}
 use Rattle.std.proofs.lemmas.List.{append-nil}
 use Rattle.hcl_tokens.specs.Lexemes.{Opener}
 use Rattle.hcl_tokens.specs.Spelling.{punctuation, IsPunctuation, IsDigits, is_blank, starts}
-use Rattle.hcl_scan.specs.Inner.Leads.{lead_of, lead_bytes, slash_lead}
+use Rattle.hcl_scan.specs.Inner.Prefixes.{prefix_of, prefix_bytes, slash_prefix}
 use Rattle.hcl_tokens.specs.SideBySide.{may_begin_ident}
-use Rattle.hcl_scan.specs.declared.front.Lead.{Lead}
-use Rattle.hcl_scan.specs.declared.front.Lead.TheVariants.{LineEnd, Space, Letter, Digit, HashOrSlashes, SlashStar, OneSlash, LessLess, Closer, Sign}
+use Rattle.hcl_scan.specs.declared.front.Prefix.{Prefix}
+use Rattle.hcl_scan.specs.declared.front.Prefix.TheVariants.{LineEnd, Space, Letter, Digit, HashOrSlashes, SlashStar, OneSlash, LessLess, Closer, Sign}
 use Rattle.hcl_tokens.specs.declared.token.Kind.{Kind}
 use Rattle.hcl_tokens.specs.declared.token.Kind.TheVariants.{Newline, LineComment, InlineComment, Blank, Ident, Number, HeredocOpen, SeqClose, BraceClose, Slash}
 use Rattle.hcl_tokens.proofs.BooleanLemmas.{and_true, or_cases}
@@ -19,7 +19,7 @@ use Rattle.hcl_scan.proofs.NumeralLemmas.{digit_head}
 use Rattle.hcl_scan.proofs.CommentTextLemmas.{starts_split}
 
 -- how the texts of each kind begin
-abbrev pub kind_lead : Kind → Lead
+abbrev pub kind_lead : Kind → Prefix
 kind_lead Newline = LineEnd
 kind_lead Blank = Space
 kind_lead Ident = Letter
@@ -32,23 +32,23 @@ kind_lead SeqClose = Closer
 kind_lead BraceClose = Closer
 kind_lead _ = Sign
 
-is_sign_lead : Lead → Bool
+is_sign_lead : Prefix → Bool
 is_sign_lead Sign = true
 is_sign_lead _ = false
 
-sign_is : (l : Lead) → is_sign_lead l ≡ true → l ≡ Sign
+sign_is : (l : Prefix) → is_sign_lead l ≡ true → l ≡ Sign
 unfolding is_sign_lead
 sign_is Sign h = refl
 sign_is _ h = absurd (cc)
 
-mark_leads : (text : List ℕ) (kind : Kind) → IsPunctuation punctuation text kind → (is_sign_lead (lead_of text) && is_sign_lead (kind_lead kind)) ≡ true
+mark_leads : (text : List ℕ) (kind : Kind) → IsPunctuation punctuation text kind → (is_sign_lead (prefix_of text) && is_sign_lead (kind_lead kind)) ≡ true
 unfolding punctuation is_sign_lead
-mark_leads text kind is = mark_passes (λ t k. is_sign_lead (lead_of t) && is_sign_lead (kind_lead k)) punctuation text kind refl is
+mark_leads text kind is = mark_passes (λ t k. is_sign_lead (prefix_of t) && is_sign_lead (kind_lead k)) punctuation text kind refl is
 
-pub letter_leads : (b second : ℕ) → may_begin_ident b ≡ true → lead_bytes b second ≡ Letter
+pub letter_leads : (b second : ℕ) → may_begin_ident b ≡ true → prefix_bytes b second ≡ Letter
 letter_leads b second h = rw h refl
 
-pub letter_begins : (b second : ℕ) → lead_bytes b second ≡ Letter → may_begin_ident b ≡ true
+pub letter_begins : (b second : ℕ) → prefix_bytes b second ≡ Letter → may_begin_ident b ≡ true
 letter_begins b second h = by (may_begin_ident b) (is_ascii_digit b) ((b == 10) || (b == 13)) (is_blank b) (b == 35) (b == 47) (second == 47) (second == 42) ((b == 60) && (second == 60)) ((b == 125) || (b == 126)) h
   where
     by : (a d l s f g v w m i : Bool) → cond a Letter (cond d Digit (cond l LineEnd (cond s Space (cond f HashOrSlashes (cond g (cond v HashOrSlashes (cond w SlashStar OneSlash)) (cond m LessLess (cond i Closer Sign))))))) ≡ Letter → a ≡ true
@@ -64,59 +64,59 @@ letter_begins b second h = by (may_begin_ident b) (is_ascii_digit b) ((b == 10) 
     by false false false false false false v w false true h = absurd (cc)
     by false false false false false false v w false false h = absurd (cc)
 
-pub digit_leads : (b second : ℕ) → is_ascii_digit b ≡ true → lead_bytes b second ≡ Digit
+pub digit_leads : (b second : ℕ) → is_ascii_digit b ≡ true → prefix_bytes b second ≡ Digit
 digit_leads b second h = let no : may_begin_ident b ≡ false = grind (arith, nat_tests) in rw (no, h) refl
 
-pub blank_leads : (b second : ℕ) → is_blank b ≡ true → lead_bytes b second ≡ Space
+pub blank_leads : (b second : ℕ) → is_blank b ≡ true → prefix_bytes b second ≡ Space
 blank_leads b second h =
     let no : may_begin_ident b ≡ false = grind (arith, nat_tests) in
     let digit : is_ascii_digit b ≡ false = grind (arith, nat_tests) in
     let line : ((b == 10) || (b == 13)) ≡ false = grind (arith, nat_tests) in
     rw (no, digit, line, h) refl
 
-pub newline_leads : (b second : ℕ) → ((b == 10) || (b == 13)) ≡ true → lead_bytes b second ≡ LineEnd
+pub newline_leads : (b second : ℕ) → ((b == 10) || (b == 13)) ≡ true → prefix_bytes b second ≡ LineEnd
 newline_leads b second h =
     let no : may_begin_ident b ≡ false = grind (arith, nat_tests) in
     let digit : is_ascii_digit b ≡ false = grind (arith, nat_tests) in
     rw (no, digit, h) refl
 
-blanks_lead : (text : List ℕ) → 0 < length text → list_all is_blank text ≡ true → lead_of text ≡ Space
+blanks_lead : (text : List ℕ) → 0 < length text → list_all is_blank text ≡ true → prefix_of text ≡ Space
 blanks_lead [] some h = absurd (omega arith)
 blanks_lead (b ∷ text) some h = blank_leads b (get_or (b ∷ text) 1 0) (and_true (is_blank b) (list_all is_blank text) h).0
 
-pub digits_lead : (text after : List ℕ) → IsDigits text → lead_of (text ++ after) ≡ Digit
+pub digits_lead : (text after : List ℕ) → IsDigits text → prefix_of (text ++ after) ≡ Digit
 digits_lead text after is = digit_leads (get_or (text ++ after) 0 0) (get_or (text ++ after) 1 0) (digit_head text after is)
 
-word_lead : (text more : List ℕ) (b : ℕ) → text ≡ b ∷ more → may_begin_ident b ≡ true → lead_of text ≡ Letter
-word_lead text more b e h = ap lead_of e ∙ letter_leads b (get_or (b ∷ more) 1 0) h
+word_lead : (text more : List ℕ) (b : ℕ) → text ≡ b ∷ more → may_begin_ident b ≡ true → prefix_of text ≡ Letter
+word_lead text more b e h = ap prefix_of e ∙ letter_leads b (get_or (b ∷ more) 1 0) h
 
-pub line_lead : (text : List ℕ) → (starts text (35 ∷ []) || starts text (47 ∷ 47 ∷ [])) ≡ true → lead_of text ≡ HashOrSlashes
+pub line_lead : (text : List ℕ) → (starts text (35 ∷ []) || starts text (47 ∷ 47 ∷ [])) ≡ true → prefix_of text ≡ HashOrSlashes
 line_lead text h = ⊎_elim
-    (λ a. ap lead_of (starts_split text (35 ∷ []) a).1)
-    (λ b. ap lead_of (starts_split text (47 ∷ 47 ∷ []) b).1)
+    (λ a. ap prefix_of (starts_split text (35 ∷ []) a).1)
+    (λ b. ap prefix_of (starts_split text (47 ∷ 47 ∷ []) b).1)
     (or_cases (starts text (35 ∷ [])) (starts text (47 ∷ 47 ∷ [])) h)
 
 -- THE LAW: a token begins as its kind does
-pub leads : (opens : List Opener) (dot : Bool) (kind : Kind) (text rest : List ℕ) → Ways opens dot kind text rest → lead_of text ≡ kind_lead kind
-leads opens dot kind text rest (newline k (inl e)) = ap lead_of e ∙ ap kind_lead (sym k)
-leads opens dot kind text rest (newline k (inr e)) = ap lead_of e ∙ ap kind_lead (sym k)
+pub leads : (opens : List Opener) (dot : Bool) (kind : Kind) (text rest : List ℕ) → Ways opens dot kind text rest → prefix_of text ≡ kind_lead kind
+leads opens dot kind text rest (newline k (inl e)) = ap prefix_of e ∙ ap kind_lead (sym k)
+leads opens dot kind text rest (newline k (inr e)) = ap prefix_of e ∙ ap kind_lead (sym k)
 leads opens dot kind text rest (line_comment k is) = line_lead text is.0 ∙ ap kind_lead (sym k)
-leads opens dot kind text rest (inline_comment k is) = ap lead_of is.1 ∙ ap kind_lead (sym k)
+leads opens dot kind text rest (inline_comment k is) = ap prefix_of is.1 ∙ ap kind_lead (sym k)
 leads opens dot kind text rest (blanks k h is) = blanks_lead text is.0 is.1 ∙ ap kind_lead (sym k)
 leads opens dot kind text rest (ident k is) = let w = ident_word text is in word_lead text w.more w.first w.whole w.begins ∙ ap kind_lead (sym k)
-leads opens dot kind text rest (digits k h is) = sym (ap lead_of (append-nil text)) ∙ digits_lead text [] is ∙ ap kind_lead (sym k)
-leads opens dot kind text rest (number k h is) = ap lead_of (is.6 ∙ append_assoc is.0 is.1 is.2) ∙ digits_lead is.0 (is.1 ++ is.2) is.3 ∙ ap kind_lead (sym k)
-leads opens dot kind text rest (heredoc k is) = ap lead_of is.6 ∙ ap kind_lead (sym k)
-leads opens dot kind text rest (seq_close k h (inl e)) = ap lead_of e ∙ ap kind_lead (sym k)
-leads opens dot kind text rest (seq_close k h (inr e)) = ap lead_of e ∙ ap kind_lead (sym k)
-leads opens dot kind text rest (brace_close k h e) = ap lead_of e ∙ ap kind_lead (sym k)
-leads opens dot kind text rest (slash k e h) = ap lead_of e ∙ ap kind_lead (sym k)
+leads opens dot kind text rest (digits k h is) = sym (ap prefix_of (append-nil text)) ∙ digits_lead text [] is ∙ ap kind_lead (sym k)
+leads opens dot kind text rest (number k h is) = ap prefix_of (is.6 ∙ append_assoc is.0 is.1 is.2) ∙ digits_lead is.0 (is.1 ++ is.2) is.3 ∙ ap kind_lead (sym k)
+leads opens dot kind text rest (heredoc k is) = ap prefix_of is.6 ∙ ap kind_lead (sym k)
+leads opens dot kind text rest (seq_close k h (inl e)) = ap prefix_of e ∙ ap kind_lead (sym k)
+leads opens dot kind text rest (seq_close k h (inr e)) = ap prefix_of e ∙ ap kind_lead (sym k)
+leads opens dot kind text rest (brace_close k h e) = ap prefix_of e ∙ ap kind_lead (sym k)
+leads opens dot kind text rest (slash k e h) = ap prefix_of e ∙ ap kind_lead (sym k)
 leads opens dot kind text rest (mark is) =
-    let both = and_true (is_sign_lead (lead_of text)) (is_sign_lead (kind_lead kind)) (mark_leads text kind is) in
-    sign_is (lead_of text) both.0 ∙ sym (sign_is (kind_lead kind) both.1)
+    let both = and_true (is_sign_lead (prefix_of text)) (is_sign_lead (kind_lead kind)) (mark_leads text kind is) in
+    sign_is (prefix_of text) both.0 ∙ sym (sign_is (kind_lead kind) both.1)
 
 pub mark_lead : (text : List ℕ) (kind : Kind) → IsPunctuation punctuation text kind → kind_lead kind ≡ Sign
-mark_lead text kind is = sign_is (kind_lead kind) (and_true (is_sign_lead (lead_of text)) (is_sign_lead (kind_lead kind)) (mark_leads text kind is)).1
+mark_lead text kind is = sign_is (kind_lead kind) (and_true (is_sign_lead (prefix_of text)) (is_sign_lead (kind_lead kind)) (mark_leads text kind is)).1
 
 -- no token is empty
 pub some : (opens : List Opener) (dot : Bool) (kind : Kind) (text rest : List ℕ) → Ways opens dot kind text rest → 0 < length text
@@ -204,14 +204,14 @@ sign_mark opens dot kind text rest l (brace_close k h e) = absurd (let other = a
 sign_mark opens dot kind text rest l (slash k e h) = absurd (let other = ap kind_lead k in cc)
 
 -- leads by the first byte alone
-abbrev pub is_settled : Lead → Bool
+abbrev pub is_settled : Prefix → Bool
 is_settled HashOrSlashes = false
 is_settled SlashStar = false
 is_settled OneSlash = false
 is_settled LessLess = false
 is_settled _ = true
 
-slash_unsettled : (second : ℕ) → is_settled (slash_lead second) ≡ false
+slash_unsettled : (second : ℕ) → is_settled (slash_prefix second) ≡ false
 slash_unsettled second = by (second == 47) (second == 42)
   where
     by : (v w : Bool) → is_settled (cond v HashOrSlashes (cond w SlashStar OneSlash)) ≡ false
@@ -219,11 +219,11 @@ slash_unsettled second = by (second == 47) (second == 42)
     by false true = refl
     by false false = refl
 
-settled_first : (first second : ℕ) (l : Lead) → is_settled l ≡ true → lead_bytes first second ≡ l → lead_bytes first 0 ≡ l
+settled_first : (first second : ℕ) (l : Prefix) → is_settled l ≡ true → prefix_bytes first second ≡ l → prefix_bytes first 0 ≡ l
 settled_first first second l h e =
-    by (may_begin_ident first) (is_ascii_digit first) ((first == 10) || (first == 13)) (is_blank first) (first == 35) (first == 47) (first == 60) (second == 60) ((first == 125) || (first == 126)) (slash_lead second) (slash_unsettled second) e
+    by (may_begin_ident first) (is_ascii_digit first) ((first == 10) || (first == 13)) (is_blank first) (first == 35) (first == 47) (first == 60) (second == 60) ((first == 125) || (first == 126)) (slash_prefix second) (slash_unsettled second) e
   where
-    by : (a b c d f g less more i : Bool) (x : Lead) → is_settled x ≡ false → cond a Letter (cond b Digit (cond c LineEnd (cond d Space (cond f HashOrSlashes (cond g x (cond (less && more) LessLess (cond i Closer Sign))))))) ≡ l →
+    by : (a b c d f g less more i : Bool) (x : Prefix) → is_settled x ≡ false → cond a Letter (cond b Digit (cond c LineEnd (cond d Space (cond f HashOrSlashes (cond g x (cond (less && more) LessLess (cond i Closer Sign))))))) ≡ l →
         cond a Letter (cond b Digit (cond c LineEnd (cond d Space (cond f HashOrSlashes (cond g OneSlash (cond (less && false) LessLess (cond i Closer Sign))))))) ≡ l
     by true b c d f g less more i x u k = k
     by false true c d f g less more i x u k = k
@@ -236,12 +236,12 @@ settled_first first second l h e =
     by false false false false false false false more i x u k = k
 
 -- fronts of the visible text
-pub front_lead : (longer left seen : List ℕ) → longer ++ left ≡ seen → 1 < length longer → lead_of longer ≡ lead_of seen
+pub front_lead : (longer left seen : List ℕ) → longer ++ left ≡ seen → 1 < length longer → prefix_of longer ≡ prefix_of seen
 front_lead [] left seen e lt = absurd (omega arith)
 front_lead (b ∷ []) left seen e lt = absurd (omega arith)
-front_lead (b ∷ c ∷ longer) left seen e lt = ap lead_of e
+front_lead (b ∷ c ∷ longer) left seen e lt = ap prefix_of e
 
-pub front_settled : (text rest seen : List ℕ) (l : Lead) → text ++ rest ≡ seen → 0 < length text → is_settled l ≡ true → lead_of seen ≡ l → lead_of text ≡ l
+pub front_settled : (text rest seen : List ℕ) (l : Prefix) → text ++ rest ≡ seen → 0 < length text → is_settled l ≡ true → prefix_of seen ≡ l → prefix_of text ≡ l
 front_settled [] rest seen l e lt h is = absurd (omega arith)
-front_settled (b ∷ []) rest seen l e lt h is = settled_first b (get_or (b ∷ rest) 1 0) l h (ap lead_of e ∙ is)
-front_settled (b ∷ c ∷ text) rest seen l e lt h is = ap lead_of e ∙ is
+front_settled (b ∷ []) rest seen l e lt h is = settled_first b (get_or (b ∷ rest) 1 0) l h (ap prefix_of e ∙ is)
+front_settled (b ∷ c ∷ text) rest seen l e lt h is = ap prefix_of e ∙ is
