@@ -13,7 +13,7 @@ use Rattle.hcl_grammar.specs.Classes.{class_of, lookaheads_from}
 use Rattle.hcl_grammar.specs.Grammar.{Symbol, directive, section_directive, Marked, ◌at◌, Action, none, nothing, reads, opens, closes, row}
 use Rattle.hcl_grammar.specs.Predictor.{max_directives, Effect, on, stop, effect, row_effect, next, run}
 use Rattle.hcl_grammar.specs.Verdict.{IsAccepted}
-use Rattle.hcl_grammar.proofs.OwedLemmas.{owes, owes_all, Shift, HaveNumbers, RowMoves}
+use Rattle.hcl_grammar.proofs.OwedLemmas.{must_be_closed, owes_all, Shift, HaveNumbers, RowMoves}
 use Rattle.hcl_grammar.proofs.RowLemmas.{owes_all-append, numbers-append, shift-above, moves-row}
 
 -- P holds of the number that a refusal names, where it names one
@@ -55,9 +55,9 @@ taken-moves P count (opens n xs) a ss passed t h p k q = elim (nat_lt count max_
 taken-moves P count (closes xs) a ss passed t h p k q = (shift-after t.class a xs ss h.0, numbers-append P xs ss h.1 k)
 
 effect-by : (P : ℕ → Type 0) (count : ℕ) (s : Symbol) (m : Newlines) (ss : List Marked) (t : Lookahead) (b : Bool) → drops m t.class ≡ b → P t.number → HaveNumbers P (s at m ∷ ss) →
-    EffectMoves P (effect count ss t) (owes_all ss) t.class → EffectMoves P (cond b (on count (s at m ∷ ss)) (row_effect count (row s m t) ss (effect count ss t) t)) (owes s ++ owes_all ss) t.class
-effect-by P count s m ss t true e p h q = (shift-dropped m t.class (owes s ++ owes_all ss) e, h)
-effect-by P count s m ss t false e p h q = taken-moves P count (row s m t) (owes s) ss (effect count ss t) t (moves-row P s m t.number t.class p (first-number P s m ss h)) p (more-numbers P s m ss h) q
+    EffectMoves P (effect count ss t) (owes_all ss) t.class → EffectMoves P (cond b (on count (s at m ∷ ss)) (row_effect count (row s m t) ss (effect count ss t) t)) (must_be_closed s ++ owes_all ss) t.class
+effect-by P count s m ss t true e p h q = (shift-dropped m t.class (must_be_closed s ++ owes_all ss) e, h)
+effect-by P count s m ss t false e p h q = taken-moves P count (row s m t) (must_be_closed s) ss (effect count ss t) t (moves-row P s m t.number t.class p (first-number P s m ss h)) p (more-numbers P s m ss h) q
 
 pub effect-moves : (P : ℕ → Type 0) (count : ℕ) (ss : List Marked) (t : Lookahead) → P t.number → HaveNumbers P ss → EffectMoves P (effect count ss t) (owes_all ss) t.class
 effect-moves P count [] t p h = p

@@ -17,28 +17,28 @@ awaits EndQuote = Quote ∷ []
 awaits EndHeredoc = Heredoc ∷ []
 awaits _ = []
 
-abbrev pub owes : Symbol → List Opener
-owes (the e) = awaits e
-owes start = Brace ∷ []
-owes index = Bracket ∷ []
-owes tuple = Bracket ∷ []
-owes tuple_next = Bracket ∷ []
-owes tuple_item = Bracket ∷ []
-owes tuple_if = Bracket ∷ []
-owes object = Brace ∷ []
-owes object_next = Brace ∷ []
-owes object_item = Brace ∷ []
-owes group = Brace ∷ []
-owes object_if = Brace ∷ []
-owes args = Paren ∷ []
-owes arg_next = Paren ∷ []
-owes (directive n) = Sequence ∷ []
-owes (section_directive e n) = Sequence ∷ []
-owes _ = []
+abbrev pub must_be_closed : Symbol → List Opener
+must_be_closed (the e) = awaits e
+must_be_closed start = Brace ∷ []
+must_be_closed index = Bracket ∷ []
+must_be_closed tuple = Bracket ∷ []
+must_be_closed tuple_next = Bracket ∷ []
+must_be_closed tuple_item = Bracket ∷ []
+must_be_closed tuple_if = Bracket ∷ []
+must_be_closed object = Brace ∷ []
+must_be_closed object_next = Brace ∷ []
+must_be_closed object_item = Brace ∷ []
+must_be_closed group = Brace ∷ []
+must_be_closed object_if = Brace ∷ []
+must_be_closed args = Paren ∷ []
+must_be_closed arg_next = Paren ∷ []
+must_be_closed (directive n) = Sequence ∷ []
+must_be_closed (section_directive e n) = Sequence ∷ []
+must_be_closed _ = []
 
 abbrev pub owes_all : List Marked → List Opener
 owes_all [] = []
-owes_all (s at m ∷ ss) = owes s ++ owes_all ss
+owes_all (s at m ∷ ss) = must_be_closed s ++ owes_all ss
 
 -- what a token of the class does to what is open
 abbrev pub Shift : Class → List Opener → List Opener → Type 0

@@ -3,7 +3,7 @@
 use Rattle.std.proofs.Common.{◌≡◌, ℕ, ◌<◌, Bool, List, [], ◌∷◌, ◌++◌, length, get_or, None, ◌⊎◌, inl, inr, ⊎_elim, refl, sym, ap, subst, ◌∙◌, arith, length-drop}
 use Rattle.hcl_tokens.specs.Lexemes.{Lexeme, Opener, marker_of, open_after, max_open}
 use Rattle.hcl_tokens.specs.Spelling.{IsExpressionText, IsTextIn, Context, Template, Expression, context, element_len, IsLiteral}
-use Rattle.hcl_tokens.specs.Scans.{State, gap_len, owed_opener, ahead, IsLongest, IsMarkerLine, Leaves, Reads, Next, Run}
+use Rattle.hcl_tokens.specs.Scans.{State, gap_len, unclosed_opener, ahead, IsLongest, IsMarkerLine, Leaves, Reads, Next, Run}
 use Rattle.hcl_tokens.specs.Faults.{Lacks, at_end, no_token, too_deep, no_marker_line, end_fault}
 use Rattle.hcl_source.specs.declared.fault.FaultKind.{FaultKind}
 use Rattle.hcl_tokens.specs.declared.token.Kind.{Kind}
@@ -66,7 +66,7 @@ module _ (one : OneKind) (some : Nonempty) where
 
   pub lacks_stuck : (s : State) (kind : FaultKind) → Lacks s kind → Stuck s
   lacks_stuck s kind (at_end e is) t next (inl r) = nothing_ahead some s t next (ap length e) r
-  lacks_stuck s kind (at_end e is) t next (inr c) = let f = ap (λ o. end_fault (owed_opener o)) c.top in let g = sym f ∙ is in absurd (cc)
+  lacks_stuck s kind (at_end e is) t next (inr c) = let f = ap (λ o. end_fault (unclosed_opener o)) c.top in let g = sym f ∙ is in absurd (cc)
   lacks_stuck s kind (no_token front none is) t next (inl r) = none t.kind t.text r.rest r.longest.whole r.longest.spelled
   lacks_stuck s kind (no_token front none is) t next (inr c) = omega (arith, front, empty_ahead s c.read)
   lacks_stuck s kind (too_deep k text rest x deep is) t next (inl r) = deep_reads s k text rest x deep t next r

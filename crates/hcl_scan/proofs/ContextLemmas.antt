@@ -2,7 +2,7 @@
 use Rattle.std.proofs.Common.{◌≡◌, Bool, true, false, List, [], ◌∷◌, Some, sym, ap, refl, ◌∙◌}
 use Rattle.hcl_tokens.specs.Lexemes.{Opener, Quote, Heredoc, Sequence, Brace, Bracket, Paren, in_heredoc}
 use Rattle.hcl_tokens.specs.Spelling.{context, Context, Template, Expression}
-use Rattle.hcl_tokens.specs.Scans.{owed_opener}
+use Rattle.hcl_tokens.specs.Scans.{unclosed_opener}
 
 abbrev pub is_expression : Context → Bool
 is_expression Expression = true
@@ -29,7 +29,7 @@ heredoc_on_top (Bracket ∷ os) e = absurd (not_both Expression false refl e)
 heredoc_on_top (Paren ∷ os) e = absurd (not_both Expression false refl e)
 
 -- a quote on top is the one that must be closed first
-pub quote_owed : (opens : List Opener) → context opens ≡ Template true → owed_opener opens ≡ Some Quote
+pub quote_owed : (opens : List Opener) → context opens ≡ Template true → unclosed_opener opens ≡ Some Quote
 quote_owed (Quote ∷ os) e = refl
 quote_owed (Heredoc ∷ os) e = absurd (let k : false ≡ true = ap is_quoted e in cc)
 quote_owed [] e = absurd (not_both Expression true refl e)

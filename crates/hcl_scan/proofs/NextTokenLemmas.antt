@@ -4,7 +4,7 @@ use Rattle.std.proofs.Common.{◌≡◌, ℕ, Bool, true, false, cond, List, [],
 use Rattle.std.specs.List.{prefix_len}
 use Rattle.hcl_tokens.specs.Lexemes.{Lexeme, Opener, in_heredoc, open_after}
 use Rattle.hcl_tokens.specs.Spelling.{IsTextIn, IsLiteral, context, Template, is_blank, are_elements}
-use Rattle.hcl_tokens.specs.Scans.{State, gap_in, has_gaps_in, owed_opener, IsLongest, Leaves, Reads, Closes, Run, IsComplete}
+use Rattle.hcl_tokens.specs.Scans.{State, gap_in, has_gaps_in, unclosed_opener, IsLongest, Leaves, Reads, Closes, Run, IsComplete}
 use Rattle.hcl_tokens.specs.Neighbours.{same_close, stays}
 use Rattle.hcl_tokens.specs.Regapped.{without_gaps, text_with_gaps, touches, gap_fits, AllFit}
 use Rattle.hcl_tokens.specs.declared.token.Kind.{Kind}
@@ -92,7 +92,7 @@ literal_on s t next end r plain k ps run done parts = by ps run parts
     here = ap context opens_same ∙ spelled.0
 
     by : (ps : List (ℕ × Lexeme)) → Run next (without_gaps ps) end → AllFit s.after_dot t.kind ps → same_close r.rest (text_with_gaps ps) ≡ true
-    by [] run parts = absurd (let o = sym (quote_owed next.opens here) ∙ ap (λ (z : State). owed_opener z.opens) run ∙ done.1 in cc)
+    by [] run parts = absurd (let o = sym (quote_owed next.opens here) ∙ ap (λ (z : State). unclosed_opener z.opens) run ∙ done.1 in cc)
     by (p ∷ ps) run parts = ⊎_elim reads closes run.1
       where
         closes : Closes next p.1 run.0 → same_close r.rest (text_with_gaps (p ∷ ps)) ≡ true

@@ -3,7 +3,7 @@
 use Rattle.std.proofs.Common.{◌≡◌, ℕ, ◌&&◌, ◌||◌, Bool, true, false, cond, List, [], ◌∷◌, length, drop, None, ◌+◌, ◌<◌, if◌then◌else◌, ⊎_elim, refl, sym, ap, subst, ◌∙◌, arith}
 use Rattle.hcl_tokens.specs.Lexemes.{Lexeme, Opener, Quote, Heredoc, Sequence, Brace, Bracket, Paren, open_after, closes_sequence, below_groups, pop_if, in_heredoc, same_opener}
 use Rattle.hcl_tokens.specs.Spelling.{IsSpelling, IsTextIn, context, Context, Template, Expression}
-use Rattle.hcl_tokens.specs.Scans.{State, Hidden, Next, Reads, Closes, owed_opener}
+use Rattle.hcl_tokens.specs.Scans.{State, Hidden, Next, Reads, Closes, unclosed_opener}
 use Rattle.hcl_tokens.specs.declared.token.Kind.{Kind}
 use Rattle.hcl_tokens.specs.declared.token.Kind.TheVariants.{HeredocOpen, QuoteOpen, ParenOpen, BracketOpen, BraceOpen, ParenClose, BracketClose, SeqClose, BraceClose, Lit, InterpOpen, ControlOpen, QuoteClose, HeredocClose}
 use Rattle.hcl_scan.proofs.WayLemmas.{Ways, ways, newline, line_comment, inline_comment, blanks, ident, digits, number, heredoc, seq_close, brace_close, slash, mark, is_marked, mark_kind}
@@ -42,7 +42,7 @@ no_heredoc (Brace ∷ os) h = no_heredoc os h
 no_heredoc (Bracket ∷ os) h = no_heredoc os h
 no_heredoc (Paren ∷ os) h = no_heredoc os h
 
-pub owes_heredoc : (opens : List Opener) → owed_opener opens ≡ None → count opens ≡ 0
+pub owes_heredoc : (opens : List Opener) → unclosed_opener opens ≡ None → count opens ≡ 0
 owes_heredoc [] h = refl
 owes_heredoc (Heredoc ∷ os) h = absurd (cc)
 owes_heredoc (Quote ∷ os) h = absurd (cc)

@@ -6,7 +6,7 @@ use Rattle.std.proofs.lemmas.List.{take-append-drop}
 use Rattle.hcl_tokens.specs.Lexemes.{Lexeme, Opener, Heredoc, marker_of, open_after, in_heredoc, max_open}
 use Rattle.hcl_tokens.specs.Spelling.{IsSpelling, context, Expression}
 use Rattle.hcl_tokens.specs.Kinds.{is}
-use Rattle.hcl_tokens.specs.Scans.{State, Hidden, hides, gap_len, offsets_of, owed_opener, begin, skip_blanks, at_line_end, closer_len, IsLongest, IsFirstMarkerLine, Leaves, Reads, Closes, Run, Scans, IsComplete}
+use Rattle.hcl_tokens.specs.Scans.{State, Hidden, hides, gap_len, offsets_of, unclosed_opener, begin, skip_blanks, at_line_end, closer_len, IsLongest, IsFirstMarkerLine, Leaves, Reads, Closes, Run, Scans, IsComplete}
 use Rattle.hcl_tokens.specs.Regapped.{without_gaps, text_with_gaps, placed_tokens, AllFit}
 use Rattle.hcl_tokens.specs.declared.token.Kind.{Kind}
 use Rattle.hcl_tokens.specs.declared.token.Kind.TheVariants.{Newline, Dot}
@@ -71,12 +71,12 @@ outside_end : Outside []
 outside_end s end dot before at offsets run done no_hidden sound dot_is parts = (
   record { at = at; opens = s.opens; offsets = offsets; after_dot = s.after_dot; seen = []; hidden = [] },
   refl,
-  (ap (λ n. drop {A = ℕ} n []) (gap_of_nothing (context s.opens) (in_heredoc s.opens)), ap (λ (z : State). owed_opener z.opens) run ∙ done.1),
+  (ap (λ n. drop {A = ℕ} n []) (gap_of_nothing (context s.opens) (in_heredoc s.opens)), ap (λ (z : State). unclosed_opener z.opens) run ∙ done.1),
 )
 
 inside_end : Inside []
 inside_end s end dot before at offsets hs last run done hidden sound ends dot_is parts =
-    let none : count s.opens ≡ 0 = owes_heredoc s.opens (ap (λ (z : State). owed_opener z.opens) run ∙ done.1) in
+    let none : count s.opens ≡ 0 = owes_heredoc s.opens (ap (λ (z : State). unclosed_opener z.opens) run ∙ done.1) in
     let some = ap length hidden in
     absurd (omega (arith, none, some, sound.counted, length-append hs (last ∷ [])))
 

@@ -5,7 +5,7 @@ use Rattle.std.proofs.lemmas.Bool.Decides.{nat_tests}
 use Rattle.hcl_tokens.specs.Lexemes.{Opener, Quote, Heredoc, Sequence, Brace, Bracket, Paren, is_group, in_heredoc, below_groups, closes_sequence, pop_if, tops_with, open_after, same_opener}
 use Rattle.hcl_tokens.specs.Spelling.{Context, Template, Expression, context, context_in}
 use Rattle.hcl_tokens.specs.Kinds.{is}
-use Rattle.hcl_tokens.specs.Scans.{Hidden, offsets_of, owed_opener, owes}
+use Rattle.hcl_tokens.specs.Scans.{Hidden, offsets_of, unclosed_opener, must_be_closed}
 use Rattle.hcl_scan.specs.Inner.Openings.{opener_of, openers_of, offsets_in, hidden_of, hidden_under, popped_groups, popped_if, closed, closes_on, top_closes, opens_or_closes, opened_by}
 use Rattle.hcl_scan.specs.Inner.Scanners.{fits_in, AreEndsBy, IsStack}
 use Rattle.hcl_scan.specs.declared.stack.Opener as kept
@@ -389,7 +389,7 @@ hidden_on text end (by.Heredoc c o) above h = absurd (cc)
 hidden_on text end _ above h = refl
 
 -- if a heredoc must be closed first, it is on top, since expressions are opened only in sequences
-owed_on : (opener : Opener) (opens : List Opener) (v : Bool) → owes opener ≡ v → IsTrue (fits_in opener (context opens)) → (owed_opener opens ≡ Some Heredoc → context opens ≡ Template false) → (if v then Some opener else owed_opener opens) ≡ Some Heredoc → context_in opener ≡ Template false
+owed_on : (opener : Opener) (opens : List Opener) (v : Bool) → must_be_closed opener ≡ v → IsTrue (fits_in opener (context opens)) → (unclosed_opener opens ≡ Some Heredoc → context opens ≡ Template false) → (if v then Some opener else unclosed_opener opens) ≡ Some Heredoc → context_in opener ≡ Template false
 owed_on Heredoc opens true e fits more h = refl
 owed_on Quote opens true e fits more h = absurd (cc)
 owed_on Sequence opens true e fits more h = absurd (cc)
@@ -411,8 +411,8 @@ some_around text end by.Brace stack h = (end, h)
 some_around text end by.Bracket stack h = (end, h)
 some_around text end by.Paren stack h = (end, h)
 
-pub owed_heredoc : (text : List ℕ) (stack : List Opened) (end : ℕ) → IsStack text stack end → owed_opener (openers_of stack) ≡ Some Heredoc → context (openers_of stack) ≡ Template false
+pub owed_heredoc : (text : List ℕ) (stack : List Opened) (end : ℕ) → IsStack text stack end → unclosed_opener (openers_of stack) ≡ Some Heredoc → context (openers_of stack) ≡ Template false
 owed_heredoc text [] end h is = absurd (cc)
 owed_heredoc text (o ∷ stack) end h is =
     let around = some_around text end o.by stack h.3 in
-    owed_on (opener_of o.by) (openers_of stack) (owes (opener_of o.by)) refl h.1 (owed_heredoc text stack around.0 around.1) is
+    owed_on (opener_of o.by) (openers_of stack) (must_be_closed (opener_of o.by)) refl h.1 (owed_heredoc text stack around.0 around.1) is

@@ -11,10 +11,10 @@ use Rattle.hcl_source.specs.Load.{max_source}
 use Rattle.hcl_tokens.specs.Lexemes.{Opener, in_heredoc, open_after, Heredoc, Quote, Sequence, Brace, Bracket, Paren, max_open}
 use Rattle.hcl_tokens.specs.Spelling.{is_blank, Context, Template, Expression, context, context_in}
 use Rattle.hcl_tokens.specs.Kinds.{is}
-use Rattle.hcl_tokens.specs.Scans.{State, Hidden, Leaves, IsLongest, gap_len, ahead, offsets_of, owed_opener, owes, has_gaps_in, HasNone}
-use Rattle.hcl_tokens.specs.Faults.{no_token, at_end, no_token_fault, fault_offset, owed_offset, end_fault}
+use Rattle.hcl_tokens.specs.Scans.{State, Hidden, Leaves, IsLongest, gap_len, ahead, offsets_of, unclosed_opener, must_be_closed, has_gaps_in, HasNone}
+use Rattle.hcl_tokens.specs.Faults.{no_token, at_end, no_token_fault, fault_offset, unclosed_offset, end_fault}
 use Rattle.hcl_scan.specs.Inner.Found.{Finds}
-use Rattle.hcl_scan.specs.Inner.Openings.{opener_of, openers_of, offsets_in, hidden_of, quoted_in, template_top, option_and, innermost_owed, opened_by, opened_on, closed}
+use Rattle.hcl_scan.specs.Inner.Openings.{opener_of, openers_of, offsets_in, hidden_of, quoted_in, template_top, option_and, innermost_unclosed, opened_by, opened_on, closed}
 use Rattle.hcl_tokens.specs.Entries.{IsEntry}
 use Rattle.hcl_scan.specs.Inner.Scanners.{state_of, IsStack, IsSound, IsStart, IsNext, IsStopped, Moves}
 use Rattle.hcl_tokens.specs.declared.token.Entry.{Entry}
@@ -177,7 +177,7 @@ expression_offset s true = refl
 expression_offset s false = refl
 
 -- if a template is on top, its opener is the one that must be closed
-owed_if : (opener : Opener) (at : ℕ) (opens : List Opener) (offsets : List ℕ) (quoted : Bool) → context_in opener ≡ Template quoted → at ≡ owed_offset (opener ∷ opens) (at ∷ offsets)
+owed_if : (opener : Opener) (at : ℕ) (opens : List Opener) (offsets : List ℕ) (quoted : Bool) → context_in opener ≡ Template quoted → at ≡ unclosed_offset (opener ∷ opens) (at ∷ offsets)
 owed_if Quote at opens offsets quoted h = refl
 owed_if Heredoc at opens offsets quoted h = refl
 owed_if Sequence at opens offsets quoted h = absurd (cc)
@@ -192,50 +192,50 @@ option_some (Template q) o top h = let e : o ≡ top = cc in (e, (q, refl))
 pub record TemplateTop (text : List ℕ) (stack : List Opened) (top : Opened) : Type 0 where
   pub quoted : Bool
   pub here : context (openers_of stack) ≡ Template quoted
-  pub at : top.at ≡ owed_offset (openers_of stack) (offsets_in stack)
+  pub at : top.at ≡ unclosed_offset (openers_of stack) (offsets_in stack)
   pub boundary : IsCharBoundary text top.at
 
 -- AFTER THE END
-owed_none_by : (o : Opened) (stack : List Opened) (v : Bool) → (innermost_owed stack ≡ None → owed_opener (openers_of stack) ≡ None) → (if v then Some o else innermost_owed stack) ≡ None → (if v then Some (opener_of o.by) else owed_opener (openers_of stack)) ≡ None
+owed_none_by : (o : Opened) (stack : List Opened) (v : Bool) → (innermost_unclosed stack ≡ None → unclosed_opener (openers_of stack) ≡ None) → (if v then Some o else innermost_unclosed stack) ≡ None → (if v then Some (opener_of o.by) else unclosed_opener (openers_of stack)) ≡ None
 owed_none_by o stack true more h = absurd (cc)
 owed_none_by o stack false more h = more h
 
-pub owed_none : (stack : List Opened) → innermost_owed stack ≡ None → owed_opener (openers_of stack) ≡ None
+pub owed_none : (stack : List Opened) → innermost_unclosed stack ≡ None → unclosed_opener (openers_of stack) ≡ None
 owed_none [] h = refl
-owed_none (o ∷ stack) h = owed_none_by o stack (owes (opener_of o.by)) (owed_none stack) h
+owed_none (o ∷ stack) h = owed_none_by o stack (must_be_closed (opener_of o.by)) (owed_none stack) h
 
 pub record OwedTop (text : List ℕ) (stack : List Opened) (top : Opened) : Type 0 where
-  pub opener : owed_opener (openers_of stack) ≡ Some (opener_of top.by)
-  pub at : top.at ≡ owed_offset (openers_of stack) (offsets_in stack)
+  pub opener : unclosed_opener (openers_of stack) ≡ Some (opener_of top.by)
+  pub at : top.at ≡ unclosed_offset (openers_of stack) (offsets_in stack)
   pub boundary : IsCharBoundary text top.at
-  pub owes_so : owes (opener_of top.by) ≡ true
+  pub owes_so : must_be_closed (opener_of top.by) ≡ true
 
-pub owed_some : (text : List ℕ) (stack : List Opened) (end : ℕ) (top : Opened) → IsStack text stack end → innermost_owed stack ≡ Some top → OwedTop text stack top
+pub owed_some : (text : List ℕ) (stack : List Opened) (end : ℕ) (top : Opened) → IsStack text stack end → innermost_unclosed stack ≡ Some top → OwedTop text stack top
 owed_some text [] end top sound h = absurd (cc)
 owed_some text (o ∷ stack) end top sound h =
     let around = some_around text end o.by stack sound.3 in
-    by (owes (opener_of o.by)) refl (λ more. owed_some text stack around.0 top around.1 more) h
+    by (must_be_closed (opener_of o.by)) refl (λ more. owed_some text stack around.0 top around.1 more) h
   where
-    by : (v : Bool) → owes (opener_of o.by) ≡ v → (innermost_owed stack ≡ Some top → OwedTop text stack top) → (if v then Some o else innermost_owed stack) ≡ Some top → OwedTop text (o ∷ stack) top
+    by : (v : Bool) → must_be_closed (opener_of o.by) ≡ v → (innermost_unclosed stack ≡ Some top → OwedTop text stack top) → (if v then Some o else innermost_unclosed stack) ≡ Some top → OwedTop text (o ∷ stack) top
     by true e more h =
         let same : o ≡ top = cc in
         let at : top.at ≡ o.at = ap (λ (z : Opened). z.at) (sym same) in
         record {
-          opener = ap (λ v. if v then Some (opener_of o.by) else owed_opener (openers_of stack)) e ∙ ap (λ (z : Opened). Some (opener_of z.by)) same;
-          at = at ∙ sym (ap (λ v. if v then o.at else owed_offset (openers_of stack) (offsets_in stack)) e);
+          opener = ap (λ v. if v then Some (opener_of o.by) else unclosed_opener (openers_of stack)) e ∙ ap (λ (z : Opened). Some (opener_of z.by)) same;
+          at = at ∙ sym (ap (λ v. if v then o.at else unclosed_offset (openers_of stack) (offsets_in stack)) e);
           boundary = subst (IsCharBoundary text) (sym at) sound.2;
-          owes_so = ap (λ (z : Opened). owes (opener_of z.by)) (sym same) ∙ e;
+          owes_so = ap (λ (z : Opened). must_be_closed (opener_of z.by)) (sym same) ∙ e;
         }
     by false e more h =
         let m = more h in
         record {
-          opener = ap (λ v. if v then Some (opener_of o.by) else owed_opener (openers_of stack)) e ∙ m.opener;
-          at = m.at ∙ sym (ap (λ v. if v then o.at else owed_offset (openers_of stack) (offsets_in stack)) e);
+          opener = ap (λ v. if v then Some (opener_of o.by) else unclosed_opener (openers_of stack)) e ∙ m.opener;
+          at = m.at ∙ sym (ap (λ v. if v then o.at else unclosed_offset (openers_of stack) (offsets_in stack)) e);
           boundary = m.boundary;
           owes_so = m.owes_so;
         }
 
-pub owed_stops : (s : Scanner) (kind : FaultKind) (at : ℕ) → ahead (state_of s) ≡ [] → end_fault (owed_opener (openers_of s.stack)) ≡ Some kind → at ≡ fault_offset (state_of s) kind → IsCharBoundary s.text.now at → IsStopped s (record { kind = kind; at = at })
+pub owed_stops : (s : Scanner) (kind : FaultKind) (at : ℕ) → ahead (state_of s) ≡ [] → end_fault (unclosed_opener (openers_of s.stack)) ≡ Some kind → at ≡ fault_offset (state_of s) kind → IsCharBoundary s.text.now at → IsStopped s (record { kind = kind; at = at })
 owed_stops s kind at read kind_is at_is boundary = record { lacks = at_end read kind_is; at = at_is; boundary = boundary }
 
 pub template_found : (found : Option Found) (opens : List Opener) (dot quoted : Bool) (seen part : List ℕ) → context opens ≡ Template quoted → seen ≡ part → IfSome found (λ f. (opens : List Opener) (dot : Bool) → context opens ≡ Template quoted → Finds opens dot seen f.kind f.len) → IfSome found (λ f. Finds opens dot part f.kind f.len)
@@ -243,7 +243,7 @@ template_found None opens dot quoted seen part here same h = tt
 template_found (Some f) opens dot quoted seen part here same h = subst (λ l. Finds opens dot l f.kind f.len) same (h opens dot here)
 
 -- the construct that must be closed is a template's sequence, if it isn't a quote
-owed_template_by : (opener : kept.Opener) → owes (opener_of opener) ≡ true → (opener_of opener ≡ Heredoc → ⊥) → (opener ≡ by.Quote → ⊥) → end_fault (Some (opener_of opener)) ≡ Some UnterminatedTemplate
+owed_template_by : (opener : kept.Opener) → must_be_closed (opener_of opener) ≡ true → (opener_of opener ≡ Heredoc → ⊥) → (opener ≡ by.Quote → ⊥) → end_fault (Some (opener_of opener)) ≡ Some UnterminatedTemplate
 owed_template_by by.Quote o no_heredoc no_quote = absurd (no_quote refl)
 owed_template_by (by.Heredoc c u) o no_heredoc no_quote = absurd (no_heredoc refl)
 owed_template_by by.Sequence o no_heredoc no_quote = refl
@@ -251,6 +251,6 @@ owed_template_by by.Brace o no_heredoc no_quote = absurd (cc)
 owed_template_by by.Bracket o no_heredoc no_quote = absurd (cc)
 owed_template_by by.Paren o no_heredoc no_quote = absurd (cc)
 
-pub owed_template : (text : List ℕ) (stack : List Opened) (end : ℕ) (top : Opened) → IsStack text stack end → (context (openers_of stack) ≡ Template false → ⊥) → (top.by ≡ by.Quote → ⊥) → OwedTop text stack top → end_fault (owed_opener (openers_of stack)) ≡ Some UnterminatedTemplate
+pub owed_template : (text : List ℕ) (stack : List Opened) (end : ℕ) (top : Opened) → IsStack text stack end → (context (openers_of stack) ≡ Template false → ⊥) → (top.by ≡ by.Quote → ⊥) → OwedTop text stack top → end_fault (unclosed_opener (openers_of stack)) ≡ Some UnterminatedTemplate
 owed_template text stack end top sound no_heredoc no_quote is =
     ap end_fault is.opener ∙ owed_template_by top.by is.owes_so (λ e. no_heredoc (owed_heredoc text stack end sound (is.opener ∙ ap (λ o. Some o) e))) no_quote

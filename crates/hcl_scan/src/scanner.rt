@@ -232,18 +232,18 @@ impl<'s, 'k> Scanner<'s, 'k> {
 
     /// After the end of the visible text, without a heredoc that ends: the reason why more is needed, if a construct
     /// must still be closed.
-    fn owed(&mut self) -> Option<Stopped>
+    fn stop_if_unclosed(&mut self) -> Option<Stopped>
         requires sound { IsSound self.old }
         requires read { ahead (state_of self.old) ≡ [] }
         requires no_heredoc { context (openers_of self.old.stack) ≢ Template false }
         ensures complete { IfNone result (IsComplete (state_of self.old)) }
         ensures stopped { IfSome result (IsStopped self.old) }
     {
-        let Some(owed) = self.stack.pop_owed() else {
+        let Some(stop_if_unclosed) = self.stack.pop_unclosed() else {
             return None;
         };
-        let at = owed.at;
-        match owed.by {
+        let at = stop_if_unclosed.at;
+        match stop_if_unclosed.by {
             Opener::Quote => Some(Stopped {
                 kind: FaultKind::UnterminatedQuote,
                 at,
@@ -422,7 +422,7 @@ impl<'s, 'k> Scanner<'s, 'k> {
                 return Some(Ok(self.close_heredoc(closer_end, outer_end)));
             }
         }
-        match self.owed() {
+        match self.stop_if_unclosed() {
             Some(stopped) => Some(Err(stopped)),
             None => None,
         }

@@ -3,8 +3,8 @@
 ghost use Rattle.std.specs.Prelude.{◌≡◌, ◌==◌, ◌<◌, ◌≤◌, ◌∷◌, [], length, drop, slice_index_or, MatchOption};
 ghost use Rattle.hcl_tokens.specs.Lexemes.{max_open, same_opener};
 ghost use Rattle.hcl_tokens.specs.Spelling.{context, context_in};
-ghost use Rattle.hcl_tokens.specs.Scans.{owes};
-ghost use Rattle.hcl_scan.specs.Inner.Openings.{opener_of, openers_of, is_group_by, popped_groups, popped_if, top_closes, opened_on, closed, quoted_in, template_top, innermost_owed};
+ghost use Rattle.hcl_tokens.specs.Scans.{must_be_closed};
+ghost use Rattle.hcl_scan.specs.Inner.Openings.{opener_of, openers_of, is_group_by, popped_groups, popped_if, top_closes, opened_on, closed, quoted_in, template_top, innermost_unclosed};
 ghost use Rattle.hcl_scan.specs.Inner.Readings.{closes_in, is_text, template_in, group_reading, reading_on, opener_in, opened_of};
 ghost use Rattle.hcl_scan.specs.declared.stack.Frame.{Frame};
 
@@ -262,8 +262,8 @@ fn is_group(by: Opener) -> bool
 }
 
 /// Whether this must be closed before the end: groups, which only expressions have, need not.
-fn owes(by: Opener) -> bool
-    ensures { result ≡ owes (opener_of by) }
+fn must_be_closed(by: Opener) -> bool
+    ensures { result ≡ must_be_closed (opener_of by) }
 {
     !matches!(by, Opener::Brace | Opener::Bracket | Opener::Paren)
 }
@@ -400,11 +400,11 @@ impl<'k> Stack<'k> {
     }
 
     /// The innermost quote, heredoc or sequence; this pops the stack down to it.
-    pub fn pop_owed(&mut self) -> Option<Opened>
-        ensures { result ≡ innermost_owed self.old }
+    pub fn pop_unclosed(&mut self) -> Option<Opened>
+        ensures { result ≡ innermost_unclosed self.old }
     {
         while let Some(top) = self.pop() {
-            if owes(top.by) {
+            if must_be_closed(top.by) {
                 return Some(top);
             }
         }

@@ -5,7 +5,7 @@ use Rattle.std.proofs.Math.Seq.{take-append_seam, drop-append_seam}
 use Rattle.hcl_tokens.specs.Lexemes.{Lexeme, Opener, marker_of, open_after, open_after_all, max_open}
 use Rattle.hcl_tokens.specs.Spelling.{IsSpelling}
 use Rattle.hcl_tokens.specs.Kinds.{is}
-use Rattle.hcl_tokens.specs.Scans.{State, Hidden, hides, gap_len, offsets_of, owed_opener, begin, ahead, IsLongest, IsFirstMarkerLine, Leaves, Reads, Closes, Next, Run, Scans, IsComplete}
+use Rattle.hcl_tokens.specs.Scans.{State, Hidden, hides, gap_len, offsets_of, unclosed_opener, begin, ahead, IsLongest, IsFirstMarkerLine, Leaves, Reads, Closes, Next, Run, Scans, IsComplete}
 use Rattle.hcl_tokens.specs.Faults.{Lacks, at_end, no_token, too_deep, no_marker_line, end_fault, fault_offset, IsScanFault}
 use Rattle.hcl_source.specs.declared.fault.FaultKind.{FaultKind}
 use Rattle.hcl_tokens.specs.declared.token.Kind.{Kind}
@@ -110,7 +110,7 @@ one_next one nonempty s t u a b (inr x) (inr y) = one_closes s t u a b x y
 
 pub complete_ends : Nonempty → (s : State) (t : Lexeme) (a : State) → IsComplete s → Next s t a → ⊥
 complete_ends nonempty s t a done (inl x) = nothing_ahead nonempty s t a (ap length done.0) x
-complete_ends nonempty s t a done (inr y) = let e = ap owed_opener y.top in let d = done.1 in absurd (cc)
+complete_ends nonempty s t a done (inr y) = let e = ap unclosed_opener y.top in let d = done.1 in absurd (cc)
 
 abbrev pub Stuck : State → Type 0
 Stuck s = (t : Lexeme) (next : State) → ¬ Next s t next

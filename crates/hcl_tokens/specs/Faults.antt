@@ -3,7 +3,7 @@
 use Rattle.std.specs.Prelude.{◌≡◌, ℕ, ◌+◌, ◌<◌, List, [], ◌∷◌, length, if◌then◌else◌, codes, Option, Some, None}
 use Rattle.hcl_tokens.specs.Lexemes.{Lexeme, Opener, Quote, Sequence, marker_of, open_after, max_open}
 use Rattle.hcl_tokens.specs.Spelling.{starts, context, Context, Template, Expression}
-use Rattle.hcl_tokens.specs.Scans.{State, begin, ahead, gap_len, owes, owed_opener, IsLongest, HasNone, IsMarkerLine, Next, Run}
+use Rattle.hcl_tokens.specs.Scans.{State, begin, ahead, gap_len, must_be_closed, unclosed_opener, IsLongest, HasNone, IsMarkerLine, Next, Run}
 use Rattle.hcl_source.specs.declared.fault.FaultKind.{FaultKind}
 use Rattle.hcl_source.specs.declared.fault.FaultKind.TheVariants.{InvalidCharacter, UnterminatedQuote, UnterminatedComment, UnterminatedHeredoc, UnterminatedTemplate, InvalidEscape, TooDeep}
 use Rattle.hcl_tokens.specs.declared.token.Kind.{Kind}
@@ -22,20 +22,20 @@ no_token_fault (Template _) seen = if starts seen (codes "\\") then InvalidEscap
 
 -- why the reading ends here
 pub data Lacks (s : State) (kind : FaultKind) : Type 0 where
-  at_end : ahead s ≡ [] → end_fault (owed_opener s.opens) ≡ Some kind → Lacks s kind
+  at_end : ahead s ≡ [] → end_fault (unclosed_opener s.opens) ≡ Some kind → Lacks s kind
   no_token : 0 < length (ahead s) → HasNone s.opens s.after_dot (ahead s) → kind ≡ no_token_fault (context s.opens) (ahead s) → Lacks s kind
   too_deep : (k : Kind) (text rest : List ℕ) → IsLongest s.opens s.after_dot (ahead s) k text rest → max_open < length (open_after k s.opens) → kind ≡ TooDeep → Lacks s kind
   no_marker_line : (text rest : List ℕ) → IsLongest s.opens s.after_dot (ahead s) HeredocOpen text rest → length s.opens < max_open → ((n : ℕ) → ¬ IsMarkerLine (marker_of text) rest n) → kind ≡ UnterminatedHeredoc → Lacks s kind
 
 -- where the innermost Quote, Heredoc or Sequence was opened
-abbrev pub owed_offset : List Opener → List ℕ → ℕ
-owed_offset (o ∷ opens) (at ∷ offsets) = if owes o then at else owed_offset opens offsets
-owed_offset _ _ = 0
+abbrev pub unclosed_offset : List Opener → List ℕ → ℕ
+unclosed_offset (o ∷ opens) (at ∷ offsets) = if must_be_closed o then at else unclosed_offset opens offsets
+unclosed_offset _ _ = 0
 
 -- an unterminated quote or template stands at its opener, all else where the reading ends
 abbrev pub fault_offset : State → FaultKind → ℕ
-fault_offset s UnterminatedQuote = owed_offset s.opens s.offsets
-fault_offset s UnterminatedTemplate = owed_offset s.opens s.offsets
+fault_offset s UnterminatedQuote = unclosed_offset s.opens s.offsets
+fault_offset s UnterminatedTemplate = unclosed_offset s.opens s.offsets
 fault_offset s _ = s.at + gap_len s
 
 -- THE FAULT of a text without tokens: what is lacking at the end of its longest reading

@@ -128,19 +128,19 @@ Run s [] end = s ≡ end
 Run s (t ∷ ts) end = (next : State) × Next s t next × Run next ts end
 
 -- the innermost Quote, Heredoc or Sequence, what only expressions need aside
-abbrev pub owes : Opener → Bool
-owes Brace = false
-owes Bracket = false
-owes Paren = false
-owes _ = true
+abbrev pub must_be_closed : Opener → Bool
+must_be_closed Brace = false
+must_be_closed Bracket = false
+must_be_closed Paren = false
+must_be_closed _ = true
 
-abbrev pub owed_opener : List Opener → Option Opener
-owed_opener [] = None
-owed_opener (o ∷ opens) = if owes o then Some o else owed_opener opens
+abbrev pub unclosed_opener : List Opener → Option Opener
+unclosed_opener [] = None
+unclosed_opener (o ∷ opens) = if must_be_closed o then Some o else unclosed_opener opens
 
 -- only a gap is left, and no quote, heredoc or sequence is open
 abbrev pub IsComplete : State → Type 0
-IsComplete s = (ahead s ≡ []) × (owed_opener s.opens ≡ None)
+IsComplete s = (ahead s ≡ []) × (unclosed_opener s.opens ≡ None)
 
 -- THE RELATION: the text is these tokens with gaps between them
 abbrev pub Scans : List ℕ → List Lexeme → Type 0

@@ -4,7 +4,7 @@ use Rattle.std.specs.Prelude.{ℕ, ◌-◌, ◌||◌, Bool, true, false, List, [
 use Rattle.hcl_tokens.specs.Lexemes as lexemes
 use Rattle.hcl_tokens.specs.Lexemes.{is_group, open_after, same_opener}
 use Rattle.hcl_tokens.specs.Spelling.{Context, Template, Expression, context_in}
-use Rattle.hcl_tokens.specs.Scans.{Hidden, owes}
+use Rattle.hcl_tokens.specs.Scans.{Hidden, must_be_closed}
 use Rattle.hcl_scan.specs.declared.stack.Opener.{Opener}
 use Rattle.hcl_scan.specs.declared.stack.Opener.TheVariants.{Quote, Heredoc, Sequence, Brace, Bracket, Paren}
 use Rattle.hcl_scan.specs.declared.stack.Opened.{Opened}
@@ -71,9 +71,9 @@ abbrev pub opened_on : Opener → ℕ → List Opened → List Opened
 opened_on by at stack = record { by = by; at = at; closes_sequence = closes_on by (top_closes stack) } ∷ stack
 
 -- the innermost quote, heredoc or sequence
-abbrev pub innermost_owed : List Opened → Option Opened
-innermost_owed [] = None
-innermost_owed (o ∷ stack) = if owes (opener_of o.by) then Some o else innermost_owed stack
+abbrev pub innermost_unclosed : List Opened → Option Opened
+innermost_unclosed [] = None
+innermost_unclosed (o ∷ stack) = if must_be_closed (opener_of o.by) then Some o else innermost_unclosed stack
 
 -- in a template, whether it is in quotes
 abbrev pub quoted_in : Context → Option Bool
