@@ -4,7 +4,7 @@ use Rattle.std.specs.Prelude.{map}
 use Rattle.std.proofs.lemmas.List.{reverse-append, take_more, take_more_set}
 use Rattle.hcl_tokens.specs.Spelling.{context, context_in}
 use Rattle.hcl_scan.specs.Inner.Openings.{opener_of, openers_of, closes_on, top_closes, quoted_in}
-use Rattle.hcl_scan.specs.Inner.Readings.{closes_in, template_in, group_reading, reading_on, opener_in, opened_of, frames_of, reading_under, AreFrames, IsRoom}
+use Rattle.hcl_scan.specs.Inner.Readings.{closes_in, template_in, group_reading, reading_on, opener_in, opened_of, frames_of, reading_under, AreFrames, IsStackStorage}
 use Rattle.hcl_scan.specs.declared.stack.Opener as kept
 use Rattle.hcl_scan.specs.declared.stack.Opener.TheVariants as by
 use Rattle.hcl_scan.specs.declared.stack.Opened.{Opened}
@@ -57,11 +57,11 @@ pub top_frame : (fs : List Frame) (n : ℕ) (d : Frame) → n < length fs → fr
 top_frame fs n d within = ap reverse (take_more fs n d within) ∙ reverse-append (take n fs) (get_or fs n d ∷ [])
 
 -- the top, and the constructs below it
-module _ (fs : List Frame) (m n : ℕ) (reading : Reading) (f : Frame) (one : n + 1 ≡ m) (top : f ≡ get_or fs n f) (is : IsRoom m fs reading) where
+module _ (fs : List Frame) (m n : ℕ) (reading : Reading) (f : Frame) (one : n + 1 ≡ m) (top : f ≡ get_or fs n f) (is : IsStackStorage m fs reading) where
   top_first : frames_of m fs ≡ f ∷ frames_of n fs
   top_first = ap (λ k. frames_of k fs) (sym one) ∙ top_frame fs n f (omega (arith, one, is.within, is.room)) ∙ ap (λ g. g ∷ frames_of n fs) (sym top)
 
-  pub closes_frame : IsRoom n fs f.around
+  pub closes_frame : IsStackStorage n fs f.around
   closes_frame =
       let are : AreFrames (f ∷ frames_of n fs) = subst (λ (l : List Frame). AreFrames l) top_first is.frames in
       record { room = is.room; within = omega (arith, one, is.within); frames = are.1; read_so = are.0 }

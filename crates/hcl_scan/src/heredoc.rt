@@ -33,7 +33,7 @@ fn word_len(text: &[u8]) -> usize
 }
 
 /// The text after the `<<` or `<<-` of a heredoc's opener.
-fn named(opener: &[u8]) -> &[u8]
+fn heredoc_name(opener: &[u8]) -> &[u8]
     requires { 2 ≤ length opener.now }
     ensures { result.now ≡ (if starts_with nat_eq opener.now (codes "<<-") then drop 3 opener.now
         else drop 2 opener.now) }
@@ -51,7 +51,7 @@ pub fn marker_of(opener: &[u8]) -> &[u8]
     requires { 2 ≤ length opener.now }
     ensures { result.now ≡ marker_of opener.now }
 {
-    let name = named(opener);
+    let name = heredoc_name(opener);
     let (marker, _) = name.split_at(word_len(name));
     marker
 }

@@ -19,7 +19,7 @@ ghost use Rattle.hcl_source.specs.declared.fault.FaultKind.{FaultKind};
 ghost use Rattle.hcl_tokens.specs.declared.token.Kind.{Kind};
 
 use crate::scanner::Scanner;
-use crate::stack::Room;
+use crate::stack::StackStorage;
 pub use hcl_source::laws::{fault_or_text, one_load_fault, text_or_fault};
 
 /// A text is a list of tokens or has a scan fault. The body shows it: it scans, and keeps nothing.
@@ -28,7 +28,7 @@ pub fn list_or_fault(text: &str)
     ensures { ((ts : List Lexeme) × Scans text.now ts)
         ⊎ ((kind : FaultKind) × (at : ℕ) × IsScanFault text.now kind at) }
 {
-    let mut room = Room::new();
+    let mut room = StackStorage::new();
     let mut scanner = Scanner::new(text, &mut room);
     while let Some(read) = scanner.next_token() {
         match read {

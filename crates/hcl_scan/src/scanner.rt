@@ -17,7 +17,7 @@ ghost use Rattle.hcl_scan.specs.Inner.Scanners.{state_of, IsSound, IsStart, IsNe
 use crate::expression::{Surroundings, next_in_expression};
 use crate::found::Found;
 use crate::heredoc::{closer_len, marker_line, marker_of};
-use crate::stack::{Opener, Room, Stack};
+use crate::stack::{Opener, StackStorage, Stack};
 use crate::template::next_in_template;
 use crate::text::past_blanks;
 use hcl_source::FaultKind;
@@ -64,7 +64,7 @@ impl AfterDot {
         }
     }
 
-    fn is_so(&self) -> bool
+    fn is_after_dot(&self) -> bool
         ensures { result ≡ self.now }
     {
         matches!(self.before, Kind::Dot)
@@ -139,7 +139,7 @@ fn no_expression(seen: &[u8]) -> FaultKind
 
 impl<'s, 'k> Scanner<'s, 'k> {
     /// At the front of a text.
-    pub fn new(text: &'s str, room: &'k mut Room) -> Scanner<'s, 'k>
+    pub fn new(text: &'s str, room: &'k mut StackStorage) -> Scanner<'s, 'k>
         requires { length text.now ≤ max_source }
         ensures text { result.text ≡ text.entry }
         ensures sound { IsSound result }
@@ -194,7 +194,7 @@ impl<'s, 'k> Scanner<'s, 'k> {
             None => next_in_expression(
                 seen,
                 Surroundings {
-                    after_dot: self.after_dot.is_so(),
+                    after_dot: self.after_dot.is_after_dot(),
                     inside_heredoc: self.inside_heredoc(),
                     closes_sequence: self.stack.closes_sequence(),
                 },

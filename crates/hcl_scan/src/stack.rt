@@ -75,14 +75,14 @@ struct Frame {
 /// Storage for the open constructs, and their number. A [`Stack`] borrows it, so that the mode is separate and can be
 /// kept in a register.
 #[derive(Drop)]
-pub struct Room {
+pub struct StackStorage {
     frames: [Frame; MAX_OPEN],
     depth: usize,
 }
 
-impl Room {
-    pub fn new() -> Room {
-        Room {
+impl StackStorage {
+    pub fn new() -> StackStorage {
+        StackStorage {
             frames: [Frame {
                 at: 0,
                 form: Form::Quote,
@@ -106,7 +106,7 @@ impl Room {
 /// At most `MAX_OPEN` openers, the innermost on top.
 #[derive(Drop)]
 pub struct Stack<'k> {
-    room: &'k mut Room,
+    room: &'k mut StackStorage,
     /// The mode of the innermost opener.
     reading: Reading,
 }
@@ -117,11 +117,11 @@ impl<'k> Model for Stack<'k> {
 
     ghost Value = { List Opened };
 
-    ghost use Rattle.hcl_scan.specs.Inner.Readings.{IsRoom, frames_of, opened_of};
+    ghost use Rattle.hcl_scan.specs.Inner.Readings.{IsStackStorage, frames_of, opened_of};
 
     ghost view = { λ s. map opened_of (frames_of s.room.now.depth s.room.now.frames) };
 
-    ghost invariant = { λ s. IsRoom s.room.now.depth s.room.now.frames s.reading };
+    ghost invariant = { λ s. IsStackStorage s.room.now.depth s.room.now.frames s.reading };
 }
 
 /// Whether a `}` closes a sequence.
@@ -270,7 +270,7 @@ fn must_be_closed(by: Opener) -> bool
 
 impl<'k> Stack<'k> {
     /// Nothing is open.
-    pub fn new(room: &'k mut Room) -> Stack<'k>
+    pub fn new(room: &'k mut StackStorage) -> Stack<'k>
         ensures { result ≡ [] }
     {
         room.depth = 0;

@@ -5,7 +5,7 @@ ghost use Rattle.hcl_tokens.specs.Scans.{Scans};
 ghost use Rattle.hcl_tokens.specs.Scanned.{IsScanError};
 
 use crate::scanner::Scanner;
-use crate::stack::Room;
+use crate::stack::StackStorage;
 use hcl_source::{Fault, Source};
 use hcl_tokens::{Entries, ScanError, Tokens};
 use std::alloc::Global;
@@ -39,7 +39,7 @@ pub fn scan<'s>(alloc: Global, source: &'s Source) -> Result<Tokens<'s>, ScanErr
     ensures err { IfErr result (IsScanError source.now) }
 {
     let mut entries = no_entries(alloc, source)?;
-    let mut room = Room::new();
+    let mut room = StackStorage::new();
     let mut scanner = Scanner::new(source.text(), &mut room);
     while let Some(read) = scanner.next_token() {
         match read {

@@ -71,7 +71,7 @@ AreFrames [] = Unit {0}
 AreFrames (f ∷ fs) = (f.around ≡ reading_under fs) × AreFrames fs
 
 -- the stored form of the open constructs; there are n
-pub record IsRoom (n : ℕ) (fs : List Frame) (reading : Reading) : Type 0 where
+pub record IsStackStorage (n : ℕ) (fs : List Frame) (reading : Reading) : Type 0 where
   pub room : length fs ≡ max_open
   pub within : n ≤ max_open
   pub frames : AreFrames (frames_of n fs)
