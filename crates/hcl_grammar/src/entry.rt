@@ -7,7 +7,7 @@ use crate::item::{Item, Label};
 
 /// An item whose numbers take four bytes each, half of what an `Item` takes.
 #[derive(Clone, Copy, Debug)]
-pub enum Entry {
+pub enum ItemEntry {
     Attribute {
         level: u32,
         name: u32,
@@ -25,14 +25,14 @@ pub enum Entry {
     },
 }
 
-const _: () = prove!(size_of::<Entry>() <= 20);
+const _: () = prove!(size_of::<ItemEntry>() <= 20);
 
-impl Entry {
+impl ItemEntry {
     pub fn item(self) -> Item
         ensures { result ≡ item_in self }
     {
         match self {
-            Entry::Attribute {
+            ItemEntry::Attribute {
                 level,
                 name,
                 first,
@@ -43,12 +43,12 @@ impl Entry {
                 first: first as usize,
                 end: end as usize,
             },
-            Entry::Block { level, kind, end } => Item::Block {
+            ItemEntry::Block { level, kind, end } => Item::Block {
                 level: level as usize,
                 kind: kind as usize,
                 end: end as usize,
             },
-            Entry::Label { first, last } => Item::Label(Label {
+            ItemEntry::Label { first, last } => Item::Label(Label {
                 first: first as usize,
                 last: last as usize,
             }),

@@ -4,7 +4,7 @@ ghost use Rattle.std.specs.Prelude.{◌≡◌, ◌<◌, ◌==◌, ◌∷◌, ◌
 ghost use Rattle.hcl_grammar.specs.Inner.Entries.{item_in};
 ghost use Rattle.hcl_grammar.specs.declared.item.Item.TheVariants as item;
 
-use crate::entry::Entry;
+use crate::entry::ItemEntry;
 use crate::item::Item;
 use std::alloc::{AllocError, Global};
 use std::marker::Model;
@@ -13,7 +13,7 @@ use std::marker::Model;
 /// deeper.
 #[derive(Debug, Drop)]
 pub struct Outline {
-    entries: Vec<Entry>,
+    entries: Vec<ItemEntry>,
 }
 
 impl Model for Outline {
@@ -46,7 +46,7 @@ impl Outline {
         })
     }
 
-    fn push(&mut self, entry: Entry) -> Result<(), AllocError>
+    fn push(&mut self, entry: ItemEntry) -> Result<(), AllocError>
         ensures pushed { OnOk result (self.new ≡ self.old ++ item_in entry ∷ []) }
         ensures unchanged { OnErr result (self.new ≡ self.old) }
     {
@@ -66,7 +66,7 @@ impl Outline {
             ≡ self.old ++ item.Attribute level name first end ∷ []) }
         ensures unchanged { OnErr result (self.new ≡ self.old) }
     {
-        self.push(Entry::Attribute {
+        self.push(ItemEntry::Attribute {
             level,
             name,
             first,
@@ -79,7 +79,7 @@ impl Outline {
         ensures pushed { OnOk result (self.new ≡ self.old ++ item.Block level kind end ∷ []) }
         ensures unchanged { OnErr result (self.new ≡ self.old) }
     {
-        self.push(Entry::Block { level, kind, end })
+        self.push(ItemEntry::Block { level, kind, end })
     }
 
     /// Puts a label after the items. A refused growth leaves them as they were.
@@ -88,7 +88,7 @@ impl Outline {
             ≡ self.old ++ item.Label (record { first = first; last = last }) ∷ []) }
         ensures unchanged { OnErr result (self.new ≡ self.old) }
     {
-        self.push(Entry::Label { first, last })
+        self.push(ItemEntry::Label { first, last })
     }
 
     /// How many items there are.

@@ -14,7 +14,7 @@ use Rattle.hcl_tokens.specs.Scans.{Leaves, hides, IsLongest, IsMarkerLine, IsFir
 use Rattle.hcl_tokens.specs.Faults.{too_deep, no_marker_line}
 use Rattle.hcl_scan.specs.Inner.Openings.{opener_of, openers_of, offsets_in, hidden_of, opened_by, opened_on}
 use Rattle.hcl_scan.specs.Inner.Scanners.{state_of, IsSound, IsNext, IsStopped, Moves, fits_in}
-use Rattle.hcl_tokens.specs.declared.token.Entry.{Entry}
+use Rattle.hcl_tokens.specs.declared.token.TokenEntry.{TokenEntry}
 use Rattle.hcl_scan.specs.declared.stack.Opener as kept
 use Rattle.hcl_scan.specs.declared.stack.Opener.TheVariants as by
 use Rattle.hcl_scan.specs.declared.stack.Opened.{Opened}
@@ -69,7 +69,7 @@ closer_within marker line is =
     let le : prefix_len is_blank line ≤ length line = prefix_len-le-length is_blank line in
     omega (arith, starts_len (skip_blanks line) marker b.0, length-drop (prefix_len is_blank line) line, le)
 
-module _ (s : Scanner) (e : Entry) (sound : IsSound s) (this : IsNext s e) (opens : is HeredocOpen e.kind ≡ true) where
+module _ (s : Scanner) (e : TokenEntry) (sound : IsSound s) (this : IsNext s e) (opens : is HeredocOpen e.kind ≡ true) where
   kind_is : e.kind ≡ HeredocOpen
   kind_is = heredoc_kind e.kind opens
 
@@ -181,7 +181,7 @@ module _ (s : Scanner) (e : Entry) (sound : IsSound s) (this : IsNext s e) (open
               λ i. record { closer = closer i; after = after i } ∷ hidden_of s.text.now s.stack s.end
 
 -- TOO DEEP
-pub deep : (s : Scanner) (e : Entry) (is : IsNext s e) (opener : Opener) → length s.stack ≡ max_open → open_after e.kind (openers_of s.stack) ≡ opener ∷ openers_of s.stack → IsStopped s (record { kind = TooDeep; at = e.start })
+pub deep : (s : Scanner) (e : TokenEntry) (is : IsNext s e) (opener : Opener) → length s.stack ≡ max_open → open_after e.kind (openers_of s.stack) ≡ opener ∷ openers_of s.stack → IsStopped s (record { kind = TooDeep; at = e.start })
 deep s e is opener full moves = record {
   lacks = too_deep e.kind (slice_range s.text.now e.start e.end) (slice_range s.text.now e.end s.end)
       (subst (λ l. IsLongest (openers_of s.stack) s.after_dot l e.kind (slice_range s.text.now e.start e.end) (slice_range s.text.now e.end s.end)) (ahead_is s e.start is.start) is.longest)
@@ -190,10 +190,10 @@ deep s e is opener full moves = record {
   boundary = is.start.boundary;
 }
 
-pub deep_opener : (s : Scanner) (e : Entry) (is : IsNext s e) (opener : kept.Opener) → length s.stack ≡ max_open → opened_by e.kind ≡ Some opener → IsStopped s (record { kind = TooDeep; at = e.start })
+pub deep_opener : (s : Scanner) (e : TokenEntry) (is : IsNext s e) (opener : kept.Opener) → length s.stack ≡ max_open → opened_by e.kind ≡ Some opener → IsStopped s (record { kind = TooDeep; at = e.start })
 deep_opener s e is opener full opens = deep s e is (opener_of opener) full (sym (opens_so e.kind opener (openers_of s.stack) opens).0)
 
-pub deep_heredoc : (s : Scanner) (e : Entry) (this : IsNext s e) → length s.stack ≡ max_open → is HeredocOpen e.kind ≡ true → IsStopped s (record { kind = TooDeep; at = e.start })
+pub deep_heredoc : (s : Scanner) (e : TokenEntry) (this : IsNext s e) → length s.stack ≡ max_open → is HeredocOpen e.kind ≡ true → IsStopped s (record { kind = TooDeep; at = e.start })
 deep_heredoc s e is full opens = deep s e is Heredoc full (ap (λ (k : Kind). open_after k (openers_of s.stack)) (heredoc_kind e.kind opens))
 
 -- whether the stack is full

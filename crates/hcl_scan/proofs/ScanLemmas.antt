@@ -9,7 +9,7 @@ use Rattle.hcl_tokens.specs.Faults.{IsScanFault}
 use Rattle.hcl_tokens.specs.Entries.{lexeme_of, lexemes_of, IsEntry}
 use Rattle.hcl_scan.specs.Inner.Scanners.{state_of, IsStopped, Moves}
 use Rattle.hcl_source.specs.declared.fault.FaultKind.{FaultKind}
-use Rattle.hcl_tokens.specs.declared.token.Entry.{Entry}
+use Rattle.hcl_tokens.specs.declared.token.TokenEntry.{TokenEntry}
 use Rattle.hcl_scan.specs.declared.scanner.Scanner.{Scanner}
 use Rattle.hcl_scan.specs.declared.scanner.Stopped.{Stopped}
 use Rattle.hcl_tokens.proofs.OneReadingLemmas.{no_fault}
@@ -18,18 +18,18 @@ use Rattle.hcl_scan.proofs.ExpressionLawLemmas.{one_expression}
 use Rattle.hcl_tokens.proofs.NonemptyLemmas.{nonempty}
 
 -- the result of the scanner
-pub token_read : (read : Result Entry Stopped) (s next : Scanner) (e : Entry) → read ≡ Ok e → IfOk read (λ x. Moves s x next) → Moves s e next
-token_read read s next e is h = subst (λ (r : Result Entry Stopped). IfOk r (λ x. Moves s x next)) is h
+pub token_read : (read : Result TokenEntry Stopped) (s next : Scanner) (e : TokenEntry) → read ≡ Ok e → IfOk read (λ x. Moves s x next) → Moves s e next
+token_read read s next e is h = subst (λ (r : Result TokenEntry Stopped). IfOk r (λ x. Moves s x next)) is h
 
-pub stopped_there : (read : Result Entry Stopped) (s : Scanner) (fault : Stopped) → read ≡ Err fault → IfErr read (λ x. IsStopped s x) → IsStopped s fault
-stopped_there read s fault is h = subst (λ (r : Result Entry Stopped). IfErr r (λ x. IsStopped s x)) is h
+pub stopped_there : (read : Result TokenEntry Stopped) (s : Scanner) (fault : Stopped) → read ≡ Err fault → IfErr read (λ x. IsStopped s x) → IsStopped s fault
+stopped_there read s fault is h = subst (λ (r : Result TokenEntry Stopped). IfErr r (λ x. IsStopped s x)) is h
 
-pub none_yet : (text : List ℕ) (es : List Entry) → es ≡ [] → All (IsEntry text) es
-none_yet text es is = subst (λ (l : List Entry). All (IsEntry text) l) (sym is) (λ k d h. absurd (omega arith))
+pub none_yet : (text : List ℕ) (es : List TokenEntry) → es ≡ [] → All (IsEntry text) es
+none_yet text es is = subst (λ (l : List TokenEntry). All (IsEntry text) l) (sym is) (λ k d h. absurd (omega arith))
 
-module _ (text : List ℕ) (es new : List Entry) (s next : Scanner) (e : Entry) (same : s.text.now ≡ text) (moved : Moves s e next) (new_is : new ≡ es ++ e ∷ []) where
+module _ (text : List ℕ) (es new : List TokenEntry) (s next : Scanner) (e : TokenEntry) (same : s.text.now ≡ text) (moved : Moves s e next) (new_is : new ≡ es ++ e ∷ []) where
   pub more_parts : All (IsEntry text) es → All (IsEntry text) new
-  more_parts parts = subst (λ (l : List Entry). All (IsEntry text) l) (sym new_is) (All-push (IsEntry text) es e parts (subst (λ t. IsEntry t e) same moved.entry))
+  more_parts parts = subst (λ (l : List TokenEntry). All (IsEntry text) l) (sym new_is) (All-push (IsEntry text) es e parts (subst (λ t. IsEntry t e) same moved.entry))
 
   pub same_still : next.text.now ≡ text
   same_still = ap (λ t. t.now) moved.same_text ∙ same

@@ -17,7 +17,7 @@ use Rattle.hcl_scan.specs.Inner.Found.{Finds}
 use Rattle.hcl_scan.specs.Inner.Openings.{opener_of, openers_of, offsets_in, hidden_of, quoted_in, template_top, option_and, innermost_unclosed, opened_by, opened_on, closed}
 use Rattle.hcl_tokens.specs.Entries.{IsEntry}
 use Rattle.hcl_scan.specs.Inner.Scanners.{state_of, IsStack, IsSound, IsStart, IsNext, IsStopped, Moves}
-use Rattle.hcl_tokens.specs.declared.token.Entry.{Entry}
+use Rattle.hcl_tokens.specs.declared.token.TokenEntry.{TokenEntry}
 use Rattle.hcl_scan.specs.declared.found.Found.{Found}
 use Rattle.hcl_scan.specs.declared.stack.Opener as kept
 use Rattle.hcl_scan.specs.declared.stack.Opener.TheVariants as by
@@ -41,7 +41,7 @@ plain_shows HeredocOpen text rest hidden h = absurd (h refl)
 plain_shows _ text rest hidden h = (refl, refl)
 
 -- A TOKEN THAT OPENS NO HEREDOC is read
-module _ (s : Scanner) (e : Entry) (sound : IsSound s) (this : IsNext s e) where
+module _ (s : Scanner) (e : TokenEntry) (sound : IsSound s) (this : IsNext s e) where
   pub text_len : e.end ≡ e.start + length (slice_range s.text.now e.start e.end)
   text_len = omega (arith, slice_len s.text.now e.start e.end (omega (arith, this.order)) (omega (arith, this.within, sound.within)))
 

@@ -21,7 +21,7 @@ use crate::stack::{Opener, StackStorage, Stack};
 use crate::template::next_in_template;
 use crate::text::past_blanks;
 use hcl_source::FaultKind;
-use hcl_tokens::{Entry, Kind};
+use hcl_tokens::{TokenEntry, Kind};
 use std::marker::Model;
 
 /// A fault and its offset.
@@ -256,7 +256,7 @@ impl<'s, 'k> Scanner<'s, 'k> {
     }
 
     /// Reads a token that neither opens nor closes.
-    fn read_plain(&mut self, entry: Entry)
+    fn read_plain(&mut self, entry: TokenEntry)
         requires sound { IsSound self.old }
         requires next { IsNext self.old entry }
         requires plain { opens_or_closes entry.kind ≡ false }
@@ -267,7 +267,7 @@ impl<'s, 'k> Scanner<'s, 'k> {
     }
 
     /// Reads a closer.
-    fn read_closer(&mut self, entry: Entry)
+    fn read_closer(&mut self, entry: TokenEntry)
         requires sound { IsSound self.old }
         requires next { IsNext self.old entry }
         requires closes { opens_or_closes entry.kind ≡ true }
@@ -281,7 +281,7 @@ impl<'s, 'k> Scanner<'s, 'k> {
     }
 
     /// Reads an opener, heredocs aside.
-    fn read_opener(&mut self, entry: Entry, by: Opener) -> Result<(), Stopped>
+    fn read_opener(&mut self, entry: TokenEntry, by: Opener) -> Result<(), Stopped>
         requires sound { IsSound self.old }
         requires next { IsNext self.old entry }
         requires opens { opened_by entry.kind ≡ Some by }
@@ -301,7 +301,7 @@ impl<'s, 'k> Scanner<'s, 'k> {
     }
 
     /// Reads the opener of a heredoc, and searches for its marker line.
-    fn read_heredoc(&mut self, entry: Entry) -> Result<(), Stopped>
+    fn read_heredoc(&mut self, entry: TokenEntry) -> Result<(), Stopped>
         requires sound { IsSound self.old }
         requires next { IsNext self.old entry }
         requires heredoc { is HeredocOpen entry.kind ≡ true }
@@ -337,14 +337,14 @@ impl<'s, 'k> Scanner<'s, 'k> {
     }
 
     /// Reads the closing marker of the heredoc on top.
-    fn close_heredoc(&mut self, closer_end: u32, outer_end: u32) -> Entry
+    fn close_heredoc(&mut self, closer_end: u32, outer_end: u32) -> TokenEntry
         requires sound { IsSound self.old }
         requires read { self.old.at ≡ self.old.end }
         requires top { (o : Opened) × (below : List Opened) × (self.old.stack ≡ o ∷ below)
             × (o.by ≡ Opener.Heredoc closer_end outer_end) }
         ensures { Moves self.old result self.new }
     {
-        let entry = Entry {
+        let entry = TokenEntry {
             kind: Kind::HeredocClose,
             inside_heredoc: true,
             // equal to `at`, which then needs no register of its own
@@ -359,7 +359,7 @@ impl<'s, 'k> Scanner<'s, 'k> {
     }
 
     /// Reads the longest next token.
-    fn read(&mut self, entry: Entry) -> Result<(), Stopped>
+    fn read(&mut self, entry: TokenEntry) -> Result<(), Stopped>
         requires sound { IsSound self.old }
         requires next { IsNext self.old entry }
         ensures read { OnOk result (Moves self.old entry self.new) }
@@ -380,7 +380,7 @@ impl<'s, 'k> Scanner<'s, 'k> {
     }
 
     /// Reads the token that begins here.
-    fn token(&mut self, start: usize) -> Result<Entry, Stopped>
+    fn token(&mut self, start: usize) -> Result<TokenEntry, Stopped>
         requires sound { IsSound self.old }
         requires start { IsStart self.old start }
         requires some { start < self.old.end }
@@ -390,7 +390,7 @@ impl<'s, 'k> Scanner<'s, 'k> {
         let Some(found) = self.find(start) else {
             return Err(self.no_token(start));
         };
-        let entry = Entry {
+        let entry = TokenEntry {
             kind: found.kind,
             inside_heredoc: self.inside_heredoc(),
             start: start as u32,
@@ -403,7 +403,7 @@ impl<'s, 'k> Scanner<'s, 'k> {
     }
 
     /// Reads a token, or returns `None` if all was read and nothing must still be closed.
-    pub fn next_token(&mut self) -> Option<Result<Entry, Stopped>>
+    pub fn next_token(&mut self) -> Option<Result<TokenEntry, Stopped>>
         requires { IsSound self.old }
         ensures complete { IfNone result (IsComplete (state_of self.old)) }
         ensures read { IfSome result (λ read. IfOk read (λ entry. Moves self.old entry self.new)) }

@@ -4,39 +4,39 @@ use Rattle.std.specs.Prelude.{All}
 use Rattle.std.proofs.lemmas.List.{get_or_append_left, get_or_push, map_push}
 use Rattle.std.proofs.lemmas.List.Elements.{All-head, All-tail}
 use Rattle.std.proofs.Math.Seq.{set-append_seam}
-use Rattle.hcl_tokens.specs.Inner.KeptEntries.{span_of, entry_of, entries_of, short_span, long_mark, IsKept}
-use Rattle.hcl_tokens.specs.declared.token.Entry.{Entry}
-use Rattle.hcl_tokens.specs.declared.entries.Kept.{Kept}
+use Rattle.hcl_tokens.specs.Inner.StoredEntries.{span_of, entry_of, entries_of, short_span, long_mark, IsStored}
+use Rattle.hcl_tokens.specs.declared.token.TokenEntry.{TokenEntry}
+use Rattle.hcl_tokens.specs.declared.entries.StoredEntry.{StoredEntry}
 use Rattle.hcl_tokens.specs.declared.entries.Span.{Span}
 
 -- the entry of a token that stands here
-abbrev pub entry_at : Kept → Span → Entry
+abbrev pub entry_at : StoredEntry → Span → TokenEntry
 entry_at k s = record { start = s.start; end = s.start + s.length; kind = k.kind; inside_heredoc = k.inside_heredoc }
 
 -- the entry with another end
-abbrev pub ended : Entry → ℕ → Entry
+abbrev pub ended : TokenEntry → ℕ → TokenEntry
 ended e n = record { start = e.start; end = n; kind = e.kind; inside_heredoc = e.inside_heredoc }
 
 module _ (long : List Span) (s : Span) where
-  span_still : (k : Kept) → IsKept long k → span_of (long ++ s ∷ []) k ≡ span_of long k
+  span_still : (k : StoredEntry) → IsStored long k → span_of (long ++ s ∷ []) k ≡ span_of long k
   span_still k is = by (k.length == long_mark) refl
     where
       by : (v : Bool) → (k.length == long_mark) ≡ v → (if v then get_or (long ++ s ∷ []) k.place (short_span k) else short_span k) ≡ (if v then get_or long k.place (short_span k) else short_span k)
       by true h = get_or_append_left long (s ∷ []) (short_span k) k.place (is.found (search rules))
       by false h = refl
 
-  all_still : (ks : List Kept) → All (IsKept long) ks → entries_of (long ++ s ∷ []) ks ≡ entries_of long ks
+  all_still : (ks : List StoredEntry) → All (IsStored long) ks → entries_of (long ++ s ∷ []) ks ≡ entries_of long ks
   all_still [] are = refl
-  all_still (k ∷ ks) are = let one = ap (entry_at k) (span_still k (All-head (IsKept long) k ks are)) in let rest = all_still ks (All-tail (IsKept long) k ks are) in cc
+  all_still (k ∷ ks) are = let one = ap (entry_at k) (span_still k (All-head (IsStored long) k ks are)) in let rest = all_still ks (All-tail (IsStored long) k ks are) in cc
 
   -- the long token itself
-  pub long_pushed : (ks : List Kept) (k : Kept) → All (IsKept long) ks → k.length ≡ long_mark → k.place ≡ length long → entries_of (long ++ s ∷ []) (ks ++ k ∷ []) ≡ entries_of long ks ++ entry_at k s ∷ []
+  pub long_pushed : (ks : List StoredEntry) (k : StoredEntry) → All (IsStored long) ks → k.length ≡ long_mark → k.place ≡ length long → entries_of (long ++ s ∷ []) (ks ++ k ∷ []) ≡ entries_of long ks ++ entry_at k s ∷ []
   long_pushed ks k are marked last =
       let itself : span_of (long ++ s ∷ []) k ≡ s = ap (λ n. if n == long_mark then get_or (long ++ s ∷ []) k.place (short_span k) else short_span k) marked ∙ get_or_push long s (short_span k) k.place (sym last) in
       map_push (entry_of (long ++ s ∷ [])) ks k ∙ ap (λ l. l ++ entry_of (long ++ s ∷ []) k ∷ []) (all_still ks are) ∙ ap (λ x. entries_of long ks ++ entry_at k x ∷ []) itself
 
 -- a token that isn't long, written where another was put
-pub short_pushed : (long : List Span) (ks : List Kept) (put k : Kept) → (k.length == long_mark) ≡ false
+pub short_pushed : (long : List Span) (ks : List StoredEntry) (put k : StoredEntry) → (k.length == long_mark) ≡ false
     → entries_of long (slice_set (ks ++ put ∷ []) (length ks) k) ≡ entries_of long ks ++ entry_at k (short_span k) ∷ []
 short_pushed long ks put k short =
     let itself : entry_of long k ≡ entry_at k (short_span k) = ap (λ v. entry_at k (if v then get_or long k.place (short_span k) else short_span k)) short in

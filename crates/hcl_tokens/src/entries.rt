@@ -2,10 +2,10 @@
 
 ghost use Rattle.std.specs.Prelude.{◌≡◌, ◌≤◌, ◌<◌, ◌==◌, ◌++◌, ◌∷◌, [], length, slice_get, Some, IfOk, OnErr, OnOk};
 ghost use Rattle.hcl_source.specs.Load.{max_source};
-ghost use Rattle.hcl_tokens.specs.declared.token.Entry.{Entry};
-ghost use Rattle.hcl_tokens.specs.Inner.KeptEntries.{entry_given};
+ghost use Rattle.hcl_tokens.specs.declared.token.TokenEntry.{TokenEntry};
+ghost use Rattle.hcl_tokens.specs.Inner.StoredEntries.{entry_given};
 
-use crate::token::{Entry, Kind};
+use crate::token::{TokenEntry, Kind};
 use std::alloc::{AllocError, Global};
 use std::marker::Model;
 
@@ -14,7 +14,7 @@ const LONG: u16 = u16::MAX;
 
 /// An entry as it is kept. Of a long token it says which of the long ones this is, and not where it stands.
 #[derive(Clone, Copy, Debug)]
-struct Kept {
+struct StoredEntry {
     /// Where the token begins, or the number of a long one among the long ones.
     place: u32,
     /// How many bytes it has, or `LONG`.
@@ -23,7 +23,7 @@ struct Kept {
     inside_heredoc: bool,
 }
 
-const _: () = prove!(size_of::<Kept>() == 8);
+const _: () = prove!(size_of::<StoredEntry>() == 8);
 
 /// Where a token begins, and how many bytes it has.
 #[derive(Clone, Copy, Debug)]
@@ -44,22 +44,22 @@ pub struct Given {
 /// A list of entries, as a scan fills it.
 #[derive(Debug, Drop)]
 pub struct Entries {
-    kept: Vec<Kept>,
+    kept: Vec<StoredEntry>,
     /// Where the long tokens stand.
     long: Vec<Span>,
 }
 
 impl Model for Entries {
     ghost use Rattle.std.specs.Prelude.{◌≤◌, List, All, length};
-    ghost use Rattle.hcl_tokens.specs.declared.token.Entry.{Entry};
+    ghost use Rattle.hcl_tokens.specs.declared.token.TokenEntry.{TokenEntry};
 
-    ghost Value = { List Entry };
+    ghost Value = { List TokenEntry };
 
-    ghost use Rattle.hcl_tokens.specs.Inner.KeptEntries.{entries_of, IsKept};
+    ghost use Rattle.hcl_tokens.specs.Inner.StoredEntries.{entries_of, IsStored};
 
     ghost view = { λ e. entries_of e.long.items e.kept.items };
 
-    ghost invariant = { λ e. All (IsKept e.long.items) e.kept.items
+    ghost invariant = { λ e. All (IsStored e.long.items) e.kept.items
         × (length e.long.items ≤ length e.kept.items) };
 }
 
@@ -123,7 +123,7 @@ impl Entries {
     #[inline(always)]
     pub(crate) fn kind(&self, i: usize) -> Kind
         requires { i < length self.now }
-        ensures { (e : Entry) → slice_get self.now i ≡ Some e → result ≡ e.kind }
+        ensures { (e : TokenEntry) → slice_get self.now i ≡ Some e → result ≡ e.kind }
     {
         self.kept[i].kind
     }
@@ -132,14 +132,14 @@ impl Entries {
     #[inline(always)]
     pub(crate) fn is_inside_heredoc(&self, i: usize) -> bool
         requires { i < length self.now }
-        ensures { (e : Entry) → slice_get self.now i ≡ Some e → result ≡ e.inside_heredoc }
+        ensures { (e : TokenEntry) → slice_get self.now i ≡ Some e → result ≡ e.inside_heredoc }
     {
         self.kept[i].inside_heredoc
     }
 
     /// Puts an entry at the end. Of a source there are no more entries than it has bytes. A refused growth leaves the list
     /// as it was.
-    pub fn push(&mut self, entry: Entry) -> Result<(), AllocError>
+    pub fn push(&mut self, entry: TokenEntry) -> Result<(), AllocError>
         requires order { entry.start ≤ entry.end }
         requires room { length self.old < max_source }
         ensures pushed { OnOk result (self.new ≡ self.old ++ entry ∷ []) }
@@ -150,7 +150,7 @@ impl Entries {
             return self.push_long(entry);
         }
         let at = self.kept.len();
-        self.kept.push(Kept {
+        self.kept.push(StoredEntry {
             place: 0,
             length: 0,
             kind: Kind::Newline,
@@ -166,14 +166,14 @@ impl Entries {
     }
 
     /// Puts the entry of a long token at the end.
-    fn push_long(&mut self, entry: Entry) -> Result<(), AllocError>
+    fn push_long(&mut self, entry: TokenEntry) -> Result<(), AllocError>
         requires order { entry.start ≤ entry.end }
         requires room { length self.old < max_source }
         ensures pushed { OnOk result (self.new ≡ self.old ++ entry ∷ []) }
         ensures unchanged { OnErr result (self.new ≡ self.old) }
     {
         let count = self.kept.len();
-        self.kept.push(Kept {
+        self.kept.push(StoredEntry {
             place: self.long.len() as u32,
             length: LONG,
             kind: entry.kind,

@@ -9,7 +9,7 @@ use Rattle.hcl_tokens.specs.Scans.{State, Next, IsLongest, gap_len}
 use Rattle.hcl_tokens.specs.Faults.{Lacks, fault_offset}
 use Rattle.hcl_tokens.specs.Entries.{IsEntry, lexeme_of}
 use Rattle.hcl_scan.specs.Inner.Openings.{opener_of, openers_of, offsets_in, hidden_of}
-use Rattle.hcl_tokens.specs.declared.token.Entry.{Entry}
+use Rattle.hcl_tokens.specs.declared.token.TokenEntry.{TokenEntry}
 use Rattle.hcl_scan.specs.declared.stack.Opener as kept
 use Rattle.hcl_scan.specs.declared.stack.Opener.TheVariants.{Heredoc}
 use Rattle.hcl_scan.specs.declared.stack.Opened.{Opened}
@@ -53,7 +53,7 @@ pub record IsStart (s : Scanner) (start : ℕ) : Type 0 where
   pub boundary : IsCharBoundary s.text.now start
 
 -- the entry is the longest next token
-pub record IsNext (s : Scanner) (e : Entry) : Type 0 where
+pub record IsNext (s : Scanner) (e : TokenEntry) : Type 0 where
   pub start : IsStart s e.start
   pub order : e.start < e.end
   pub within : e.end ≤ s.end
@@ -62,7 +62,7 @@ pub record IsNext (s : Scanner) (e : Entry) : Type 0 where
   pub longest : IsLongest (openers_of s.stack) s.after_dot (slice_range s.text.now e.start s.end) e.kind (slice_range s.text.now e.start e.end) (slice_range s.text.now e.end s.end)
 
 -- a token was read
-pub record Moves (s : Scanner) (e : Entry) (next : Scanner) : Type 0 where
+pub record Moves (s : Scanner) (e : TokenEntry) (next : Scanner) : Type 0 where
   pub same_text : next.text ≡ s.text
   pub entry : IsEntry s.text.now e
   pub read : Next (state_of s) (lexeme_of s.text.now e) (state_of next)

@@ -3,7 +3,7 @@ use Rattle.hcl_tokens.specs.Lexemes.{Lexeme}
 use Rattle.hcl_tokens.specs.Scans.{Next, Run, begin}
 use Rattle.hcl_tokens.specs.Entries.{lexeme_of}
 use Rattle.hcl_scan.specs.Inner.Scanners.{state_of, Moves}
-use Rattle.hcl_tokens.specs.declared.token.Entry.{Entry}
+use Rattle.hcl_tokens.specs.declared.token.TokenEntry.{TokenEntry}
 use Rattle.hcl_scan.specs.declared.scanner.Scanner.{Scanner}
 use Rattle.hcl_scan.proofs.AllContextLemmas.{Run-push}
 use Rattle.hcl_scan.proofs.ScanLemmas.{token_read, stopped_there, scan_fault}
@@ -12,11 +12,11 @@ use Rattle.hcl_scan.proofs.laws.list_or_fault.Goals as goal
 abbrev Read : List ℕ → Scanner → Type 0
 Read text s = (ts : List Lexeme) × Run (begin text) ts (state_of s)
 
-still : (text : List ℕ) (s next : Scanner) (e : Entry) → s.text.now ≡ text → Moves s e next → next.text.now ≡ text
+still : (text : List ℕ) (s next : Scanner) (e : TokenEntry) → s.text.now ≡ text → Moves s e next → next.text.now ≡ text
 still text s next e same moved = ap (λ t. t.now) moved.same_text ∙ same
 
 -- one more token
-read_on : (text : List ℕ) (s next : Scanner) (e : Entry) → s.text.now ≡ text → Moves s e next → Read text s → Read text next
+read_on : (text : List ℕ) (s next : Scanner) (e : TokenEntry) → s.text.now ≡ text → Moves s e next → Read text s → Read text next
 read_on text s next e same moved (ts, run) = (
   ts ++ lexeme_of text e ∷ [],
   Run-push (begin text) ts (state_of s) (lexeme_of text e) (state_of next) run

@@ -1,7 +1,7 @@
 use Rattle.std.proofs.Common.{◌≡◌, ◌+◌, ◌-◌, ◌==◌, ◌++◌, ◌∷◌, [], ◌∙◌, ap, false, length, rules, arith}
 use Rattle.std.specs.Vec.{vec_len}
-use Rattle.hcl_tokens.specs.Inner.KeptEntries.{entries_of, long_mark}
-use Rattle.hcl_tokens.specs.declared.entries.Kept.{Kept}
+use Rattle.hcl_tokens.specs.Inner.StoredEntries.{entries_of, long_mark}
+use Rattle.hcl_tokens.specs.declared.entries.StoredEntry.{StoredEntry}
 use Rattle.hcl_tokens.proofs.TokenEntryLemmas.{ended, short_pushed}
 use Rattle.hcl_tokens.proofs.entries.Entries.push.Goals as goal
 
@@ -10,7 +10,7 @@ returns-clause-pushed c =
     let e = c.args.entry in
     let long = c.self.inside.long.items in
     let ks = c.self.inside.kept.items in
-    let k : Kept = record { place = e.start; length = e.end - e.start; kind = e.kind; inside_heredoc = e.inside_heredoc } in
+    let k : StoredEntry = record { place = e.start; length = e.end - e.start; kind = e.kind; inside_heredoc = e.inside_heredoc } in
     let short : ((e.end - e.start) == long_mark) ≡ false = search (rules, arith, c.if-length.false) in
     let counted : vec_len c.self.inside.kept ≡ length ks = search (rules) in
     let same_end : e.start + (e.end - e.start) ≡ e.end = omega (arith, c.requires.order) in

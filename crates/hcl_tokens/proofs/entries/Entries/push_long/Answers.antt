@@ -1,5 +1,5 @@
 use Rattle.std.proofs.Common.{◌≡◌, ◌+◌, ◌-◌, ◌++◌, ◌∷◌, [], ◌∙◌, ap, refl, rules, arith}
-use Rattle.hcl_tokens.specs.Inner.KeptEntries.{entries_of}
+use Rattle.hcl_tokens.specs.Inner.StoredEntries.{entries_of}
 use Rattle.hcl_tokens.proofs.TokenEntryLemmas.{ended, long_pushed}
 use Rattle.hcl_tokens.proofs.entries.Entries.push_long.Goals as goal
 

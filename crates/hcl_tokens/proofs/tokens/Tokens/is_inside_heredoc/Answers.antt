@@ -3,11 +3,11 @@ use Rattle.std.specs.Prelude.{option_map}
 use Rattle.std.proofs.lemmas.Option.{slice_get-map}
 use Rattle.hcl_tokens.specs.Lexemes.{Lexeme}
 use Rattle.hcl_tokens.specs.Entries.{lexeme_of}
-use Rattle.hcl_tokens.specs.declared.token.Entry.{Entry}
+use Rattle.hcl_tokens.specs.declared.token.TokenEntry.{TokenEntry}
 use Rattle.hcl_tokens.proofs.tokens.Tokens.is_inside_heredoc.Goals as goal
 
 -- a token is inside a heredoc where its entry is
-inside_of_entry : (text : List ℕ) (o : Option Entry) (b : Bool) → ((e : Entry) → o ≡ Some e → b ≡ e.inside_heredoc) → (t : Lexeme) → option_map (lexeme_of text) o ≡ Some t → b ≡ t.inside_heredoc
+inside_of_entry : (text : List ℕ) (o : Option TokenEntry) (b : Bool) → ((e : TokenEntry) → o ≡ Some e → b ≡ e.inside_heredoc) → (t : Lexeme) → option_map (lexeme_of text) o ≡ Some t → b ≡ t.inside_heredoc
 inside_of_entry text None b is t at = absurd (cc)
 inside_of_entry text (Some e) b is t at = let same = is e refl in cc
 

@@ -3,12 +3,12 @@ use Rattle.std.specs.Prelude.{option_map}
 use Rattle.std.proofs.lemmas.Option.{slice_get-map}
 use Rattle.hcl_tokens.specs.Lexemes.{Lexeme}
 use Rattle.hcl_tokens.specs.Entries.{lexeme_of}
-use Rattle.hcl_tokens.specs.declared.token.Entry.{Entry}
+use Rattle.hcl_tokens.specs.declared.token.TokenEntry.{TokenEntry}
 use Rattle.hcl_tokens.specs.declared.token.Kind.{Kind}
 use Rattle.hcl_tokens.proofs.tokens.Tokens.kind.Goals as goal
 
 -- a token has the kind of its entry
-kind_of_entry : (text : List ℕ) (o : Option Entry) (k : Kind) → ((e : Entry) → o ≡ Some e → k ≡ e.kind) → (t : Lexeme) → option_map (lexeme_of text) o ≡ Some t → k ≡ t.kind
+kind_of_entry : (text : List ℕ) (o : Option TokenEntry) (k : Kind) → ((e : TokenEntry) → o ≡ Some e → k ≡ e.kind) → (t : Lexeme) → option_map (lexeme_of text) o ≡ Some t → k ≡ t.kind
 kind_of_entry text None k is t at = absurd (cc)
 kind_of_entry text (Some e) k is t at = let same = is e refl in cc
 
