@@ -7,7 +7,7 @@ use Rattle.hcl_tokens.specs.declared.token.Kind.TheVariants.{ParenOpen, ParenClo
 use Rattle.hcl_tokens.proofs.OneReadingLemmas.{scan_bounded}
 use Rattle.hcl_grammar.specs.Classes.{class_at}
 use Rattle.hcl_grammar.specs.Verdict.{IsAccepted}
-use Rattle.hcl_tokens.specs.Balanced.{max_open, opening, closing, openers, closers, IsWithin, IsBalanced}
+use Rattle.hcl_tokens.specs.Balanced.{max_open, opener_count, closer_count, openers, closers, IsWithin, IsBalanced}
 use Rattle.hcl_grammar.proofs.OwedLemmas.{Shift}
 use Rattle.hcl_grammar.proofs.MoveLemmas.{Shifts, accepted-shifts}
 
@@ -24,7 +24,7 @@ groups-few (Quote ∷ os) = omega (arith, groups-few os)
 groups-few (Heredoc ∷ os) = omega (arith, groups-few os)
 groups-few (o ∷ os) = omega (arith, groups-few os)
 
-pub counted : (k : Kind) (text : List ℕ) (a b : List Opener) → Shift (class_at k text) a b → opening k + groups a ≡ closing k + groups b
+pub counted : (k : Kind) (text : List ℕ) (a b : List Opener) → Shift (class_at k text) a b → opener_count k + groups a ≡ closer_count k + groups b
 counted ParenOpen text a b h = omega (arith, ap groups h)
 counted k text a b h = omega (arith, ap groups h)
 

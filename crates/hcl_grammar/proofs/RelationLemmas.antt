@@ -13,23 +13,23 @@ use Rattle.hcl_grammar.specs.Relation.{Step, dropped, read, opened, closed, gone
 effect-row : (count : ℕ) (s : Symbol) (m : Newlines) (ss : List Marked) (t : Lookahead) (r : Action) → drops m t.class ≡ false → row s m t ≡ r → effect count (s at m ∷ ss) t ≡ row_effect count r ss (effect count ss t) t
 effect-row count s m ss t r d e = ap (λ b. cond b (on count (s at m ∷ ss)) (row_effect count (row s m t) ss (effect count ss t) t)) d ∙ ap (λ x. row_effect count x ss (effect count ss t) t) e
 
-opening-on : (count n : ℕ) (xs : List Marked) → count < max_directives → opening_directive count n xs ≡ on (count + 1) xs
-opening-on count n xs few = ap (λ b. cond b (on (count + 1) xs) (stop (TooDeep n))) (lt-ltb count max_directives few)
+opener_count-on : (count n : ℕ) (xs : List Marked) → count < max_directives → opening_directive count n xs ≡ on (count + 1) xs
+opener_count-on count n xs few = ap (λ b. cond b (on (count + 1) xs) (stop (TooDeep n))) (lt-ltb count max_directives few)
 
-opening-stop : (count n : ℕ) (xs : List Marked) → max_directives ≤ count → opening_directive count n xs ≡ stop (TooDeep n)
-opening-stop count n xs many = ap (λ b. cond b (on (count + 1) xs) (stop (TooDeep n))) (le-ltb count max_directives many)
+opener_count-stop : (count n : ℕ) (xs : List Marked) → max_directives ≤ count → opening_directive count n xs ≡ stop (TooDeep n)
+opener_count-stop count n xs many = ap (λ b. cond b (on (count + 1) xs) (stop (TooDeep n))) (le-ltb count max_directives many)
 
 step-effect : (count : ℕ) (ss : List Marked) (t : Lookahead) (later : ℕ) (us : List Marked) → Step count ss t later us → effect count ss t ≡ on later us
 step-effect count ss t later us (dropped c s m vs u d) = ap (λ b. cond b (on c (s at m ∷ vs)) (row_effect c (row s m u) vs (effect c vs u) u)) d
 step-effect count ss t later us (read c s m xs vs u d e) = effect-row c s m vs u (reads xs) d e
-step-effect count ss t later us (opened c n s m xs vs u d e few) = effect-row c s m vs u (opens n xs) d e ∙ opening-on c n (xs ++ vs) few
+step-effect count ss t later us (opened c n s m xs vs u d e few) = effect-row c s m vs u (opens n xs) d e ∙ opener_count-on c n (xs ++ vs) few
 step-effect count ss t later us (closed c s m xs vs u d e) = effect-row c s m vs u (closes xs) d e
 step-effect count ss t later us (gone c s m vs u l ws d e h) = effect-row c s m vs u nothing d e ∙ step-effect c vs u l ws h
 
 refuses-effect : (count : ℕ) (ss : List Marked) (t : Lookahead) (r : Refusal) → Refuses count ss t r → effect count ss t ≡ stop r
 refuses-effect count ss t r (nothing_waited_for c u) = refl
 refuses-effect count ss t r (no_row c s m vs u d e) = effect-row c s m vs u none d e
-refuses-effect count ss t r (too_deep c n s m xs vs u d e many) = effect-row c s m vs u (opens n xs) d e ∙ opening-stop c n (xs ++ vs) many
+refuses-effect count ss t r (too_deep c n s m xs vs u d e many) = effect-row c s m vs u (opens n xs) d e ∙ opener_count-stop c n (xs ++ vs) many
 refuses-effect count ss t r (past c s m vs u f d e h) = effect-row c s m vs u nothing d e ∙ refuses-effect c vs u f h
 
 ending-is : (ss : List Marked) (o : Option Refusal) → Ending ss o → ending ss ≡ o

@@ -7,14 +7,14 @@ use Rattle.hcl_tokens.specs.Kinds.{is}
 use Rattle.hcl_tokens.specs.declared.token.Kind.TheVariants.{Assign, BraceClose, BraceOpen, Ident, Newline, QuoteClose, QuoteOpen}
 use Rattle.hcl_tokens.specs.Lexemes.{Lexeme}
 use Rattle.hcl_tokens.specs.declared.token.Kind.{Kind}
-use Rattle.hcl_tokens.specs.Balanced.{opening, closing}
+use Rattle.hcl_tokens.specs.Balanced.{opener_count, closer_count}
 use Rattle.hcl_grammar.specs.Numbered.{Numbered, numbered, without_comments, end_of}
 use Rattle.hcl_grammar.specs.declared.item.Item.{Item}
 use Rattle.hcl_grammar.specs.declared.item.Item.TheVariants as item
 
 -- how many openers are open after a token
 abbrev pub deepen : ℕ → Kind → ℕ
-deepen depth k = depth + opening k - closing k
+deepen depth k = depth + opener_count k - closer_count k
 
 -- nothing is open
 abbrev pub is_closed : ℕ → Bool

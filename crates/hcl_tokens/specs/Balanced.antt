@@ -37,21 +37,21 @@ abbrev pub is_closer : Kind → Bool
 is_closer k = is_closes (nesting k)
 
 -- each counts as one
-abbrev pub opening : Kind → ℕ
-opening k = if is_opener k then 1 else 0
+abbrev pub opener_count : Kind → ℕ
+opener_count k = if is_opener k then 1 else 0
 
-abbrev pub closing : Kind → ℕ
-closing k = if is_closer k then 1 else 0
+abbrev pub closer_count : Kind → ℕ
+closer_count k = if is_closer k then 1 else 0
 
 -- how many openers are in the list
 abbrev pub openers : List Lexeme → ℕ
 openers [] = 0
-openers (t ∷ ts) = opening t.kind + openers ts
+openers (t ∷ ts) = opener_count t.kind + openers ts
 
 -- how many closers
 abbrev pub closers : List Lexeme → ℕ
 closers [] = 0
-closers (t ∷ ts) = closing t.kind + closers ts
+closers (t ∷ ts) = closer_count t.kind + closers ts
 
 -- no more closers than openers, and at most so many more openers
 pub record IsWithin (tokens : List Lexeme) : Type 0 where

@@ -10,7 +10,7 @@ use Rattle.hcl_tokens.specs.Spelling.{IsSpelling, IsTemplateText, IsTextIn, cont
 use Rattle.hcl_tokens.specs.declared.token.Kind.{Kind}
 use Rattle.hcl_tokens.specs.declared.token.Kind.TheVariants as kind
 use Rattle.hcl_tokens.proofs.ExpressionKindLemmas.{in_expressions}
-use Rattle.hcl_tokens.specs.Balanced.{opening, closing, is_closer}
+use Rattle.hcl_tokens.specs.Balanced.{opener_count, closer_count, is_closer}
 use Rattle.hcl_grammar.specs.Classes.{class_at, class_of, is_trivia, lookaheads_from}
 use Rattle.hcl_grammar.specs.Items.{deepen, is_closed}
 use Rattle.hcl_grammar.specs.Numbered.{Numbered, is_comment, is_passed_over, numbered, numbered_from, without_comments}
@@ -149,7 +149,7 @@ both_true true zero e = (refl, refl)
 both_true true (suc h) e = absurd (true≢false (sym e))
 both_true false h e = absurd (true≢false (sym e))
 
-closer_opens_none : (t : Kind) → is_closer t ≡ true → (opening t ≡ 0) × (closing t ≡ 1)
+closer_opens_none : (t : Kind) → is_closer t ≡ true → (opener_count t ≡ 0) × (closer_count t ≡ 1)
 closer_opens_none kind.ParenClose e = (refl, refl)
 closer_opens_none kind.BracketClose e = (refl, refl)
 closer_opens_none kind.SeqClose e = (refl, refl)
@@ -173,7 +173,7 @@ module _ (count n later : ℕ) (t : Kind) (text : List ℕ) (us xs ds : List Mar
       none = none_open (owes_all xs) (owes_all ds) flat (sym (ap in_template (owes_all-append xs ds)) ∙ outside (in_template (owes_all (xs ++ ds))) refl)
 
   -- the number of open groups then
-  more_open : (ys : List Marked) → us ≡ ys ++ ds → opening t + groups (owes_all xs) ≡ closing t + groups (owes_all ys)
+  more_open : (ys : List Marked) → us ≡ ys ++ ds → opener_count t + groups (owes_all xs) ≡ closer_count t + groups (owes_all ys)
   more_open ys is =
       let s = counted t text (owes_all (xs ++ ds)) (owes_all us) (shift count n later t text (xs ++ ds) us e) in
       let a = ap groups (owes_all-append xs ds) ∙ groups_both (owes_all xs) (owes_all ds) in

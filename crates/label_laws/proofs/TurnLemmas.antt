@@ -4,7 +4,7 @@ use Rattle.std.proofs.Common.{◌≡◌, ◌⊎◌, inl, inr, ℕ, zero, suc, �
 use Rattle.std.specs.Prelude.{◌&&◌, Option, Some, None}
 use Rattle.hcl_tokens.specs.declared.token.Kind.{Kind}
 use Rattle.hcl_tokens.specs.declared.token.Kind.TheVariants as kind
-use Rattle.hcl_tokens.specs.Balanced.{closing, is_closer}
+use Rattle.hcl_tokens.specs.Balanced.{closer_count, is_closer}
 use Rattle.hcl_grammar.specs.Items.{deepen, is_closed}
 use Rattle.hcl_tokens.specs.Kinds.{is}
 
@@ -137,7 +137,7 @@ there p t q r e g = let same : r ≡ q = cc in subst (λ x. Goes p t x) same g
 nowhere : (p : Place) (t : Kind) (q : Place) → None ≡ Some q → Goes p t q
 nowhere p t q e = absurd (cc)
 
-fits : (h : ℕ) (t : Kind) → (is_closer t && is_closed h) ≡ false → closing t ≤ h
+fits : (h : ℕ) (t : Kind) → (is_closer t && is_closed h) ≡ false → closer_count t ≤ h
 fits h t e = by (is_closer t) h e
   where
     by : (b : Bool) (h : ℕ) → (b && is_closed h) ≡ false → cond b 1 0 ≤ h

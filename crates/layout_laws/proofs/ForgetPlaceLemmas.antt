@@ -8,7 +8,7 @@ use Rattle.hcl_grammar.specs.declared.class.Lookahead.{Lookahead}
 use Rattle.hcl_grammar.specs.Classes.{class_of, lookaheads, lookaheads_from}
 use Rattle.hcl_grammar.specs.Classes.{is_trivia}
 use Rattle.hcl_layout.specs.Lines.{Line, lines, onto_line, ends_line}
-use Rattle.hcl_tokens.specs.Balanced.{closing, opening}
+use Rattle.hcl_tokens.specs.Balanced.{closer_count, opener_count}
 use Rattle.hcl_layout.specs.Levels.{Net, levels, net_of, plus}
 use Rattle.hcl_layout.specs.Cells.{is_assignment, is_trailing, is_multiline, is_level, has_multiline, before_comment, until, first_place, first_place_from, if_level, assign_cell, running_comment, trailing_comment}
 use Rattle.hcl_layout.specs.Columns.{columns}
@@ -52,7 +52,7 @@ plain_forgot n (t ∷ l) = ap (λ y. indent n t ∷ y) (after_forgot None t l)
 
 net_forgot : (l : Line) → net_of (forgot l) ≡ net_of l
 net_forgot [] = refl
-net_forgot (t ∷ l) = ap (λ n. plus (record { opens = opening t.kind; closes = closing t.kind }) n) (net_forgot l)
+net_forgot (t ∷ l) = ap (λ n. plus (record { opens = opener_count t.kind; closes = closer_count t.kind }) n) (net_forgot l)
 
 -- ---- cells
 place_forgot : (test : Lexeme → Bool) → ((t : Lexeme) → test (forget t) ≡ test t) → (k : ℕ) (l : Line) → first_place_from test k (forgot l) ≡ first_place_from test k l

@@ -6,7 +6,7 @@ use Rattle.hcl_tokens.specs.Kinds.{is}
 use Rattle.hcl_tokens.specs.Lexemes.{Lexeme}
 use Rattle.hcl_tokens.specs.declared.token.Kind.{Kind}
 use Rattle.hcl_tokens.specs.declared.token.Kind.TheVariants as kind
-use Rattle.hcl_tokens.specs.Balanced.{closing}
+use Rattle.hcl_tokens.specs.Balanced.{closer_count}
 use Rattle.hcl_grammar.specs.Items.{deepen, is_closed}
 use Rattle.hcl_grammar.specs.Numbered.{is_passed_over}
 use Rattle.tf_facts.specs.Patterns.{begins_with_close, after_closer}
@@ -21,7 +21,7 @@ pub record Says (k : Kind) (dot quote opener closer : Bool) (move : ℕ → ℕ)
   pub seen : is_passed_over k ≡ false
   pub dot_is : is kind.Dot k ≡ dot
   pub quote_is : is kind.QuoteOpen k ≡ quote
-  pub closer_is : (closing k == 1) ≡ closer
+  pub closer_is : (closer_count k == 1) ≡ closer
   pub moves : (depth : ℕ) → deepen depth k ≡ move depth
   -- only what opens something opens an interpolation
   pub opened : (here known : Bool) → (opener ≡ true → here ≡ known) → (is kind.InterpOpen k && here) ≡ (is kind.InterpOpen k && known)
@@ -99,10 +99,10 @@ and_false false = refl
 module _ (ts : List Lexeme) (n : ℕ) (t : Lexeme) (e : slice_get ts n ≡ Some t) where
   -- of a token that is seen
   from_here : (d : ℕ) → is_passed_over t.kind ≡ false → closes_before_quote ts d n
-      ≡ begins_with_close (cond (is_closed d && (closing t.kind == 1)) (seen_from ts (n + 1)) (after_closer (deepen d t.kind) (seen_from ts (n + 1))))
+      ≡ begins_with_close (cond (is_closed d && (closer_count t.kind == 1)) (seen_from ts (n + 1)) (after_closer (deepen d t.kind) (seen_from ts (n + 1))))
   from_here d seen = ap (λ s. begins_with_close (after_closer d s)) (seen_here ts n t e seen)
 
-  from_next : (d next : ℕ) → is_passed_over t.kind ≡ false → (closing t.kind == 1) ≡ false → deepen d t.kind ≡ next → closes_before_quote ts d n ≡ closes_before_quote ts next (n + 1)
+  from_next : (d next : ℕ) → is_passed_over t.kind ≡ false → (closer_count t.kind == 1) ≡ false → deepen d t.kind ≡ next → closes_before_quote ts d n ≡ closes_before_quote ts next (n + 1)
   from_next d next seen plain moved =
       from_here d seen
       ∙ ap (λ b. begins_with_close (cond (is_closed d && b) (seen_from ts (n + 1)) (after_closer (deepen d t.kind) (seen_from ts (n + 1))))) plain

@@ -2,7 +2,7 @@
 -- file without comments, blanks and newlines.
 use Rattle.std.specs.Prelude.{ℕ, ◌==◌, ◌&&◌, ◌++◌, Bool, false, List, [], ◌∷◌, if◌then◌else◌}
 use Rattle.hcl_tokens.specs.declared.token.Kind.TheVariants as kind
-use Rattle.hcl_tokens.specs.Balanced.{closing}
+use Rattle.hcl_tokens.specs.Balanced.{closer_count}
 use Rattle.hcl_grammar.specs.Items.{deepen, is_closed}
 use Rattle.hcl_grammar.specs.Numbered.{Numbered, significant}
 use Rattle.hcl_tokens.specs.Kinds.{is}
@@ -14,7 +14,7 @@ is_index _ = false
 -- what follows the closer of what is open, where so many more are open
 abbrev pub after_closer : ℕ → List Numbered → List Numbered
 after_closer depth [] = []
-after_closer depth (t ∷ ts) = if is_closed depth && (closing t.kind == 1) then ts else after_closer (deepen depth t.kind) ts
+after_closer depth (t ∷ ts) = if is_closed depth && (closer_count t.kind == 1) then ts else after_closer (deepen depth t.kind) ts
 
 abbrev pub begins_with_close : List Numbered → Bool
 begins_with_close [] = false

@@ -3,13 +3,13 @@
 use Rattle.std.specs.Prelude.{◌≡◌, ◌<◌, ◌≤◌, ◌+◌, ◌-◌, ℕ, suc, zero, List, [], ◌∷◌, length, get_or, slice_set, min, replicate, IsTrue}
 use Rattle.hcl_tokens.specs.Lexemes.{Lexeme}
 use Rattle.hcl_tokens.specs.declared.token.Kind.{Kind}
-use Rattle.hcl_tokens.specs.Balanced.{closing, is_closer, is_opener, opening, max_open}
+use Rattle.hcl_tokens.specs.Balanced.{closer_count, is_closer, is_opener, opener_count, max_open}
 use Rattle.hcl_grammar.specs.Items.{deepen}
 use Rattle.hcl_layout.specs.Levels.{Net}
 
 -- the openers and the closers of a token
 abbrev pub net_of_kind : Kind → Net
-net_of_kind k = record { opens = opening k; closes = closing k }
+net_of_kind k = record { opens = opener_count k; closes = closer_count k }
 
 abbrev pub depth_after : ℕ → List Lexeme → ℕ
 depth_after d [] = d

@@ -1,6 +1,6 @@
 -- Whether what is open is closed directly before a closing quote, token by token, as the code finds it.
 use Rattle.std.specs.Prelude.{◌≡◌, ◌==◌, ℕ, Bool, false, List, get_or, reverse, if◌then◌else◌}
-use Rattle.hcl_tokens.specs.Balanced.{closing, opening}
+use Rattle.hcl_tokens.specs.Balanced.{closer_count, opener_count}
 use Rattle.hcl_tokens.specs.Kinds.{is}
 use Rattle.hcl_tokens.specs.declared.token.Kind.{Kind}
 use Rattle.hcl_tokens.specs.declared.token.Kind.TheVariants as kind
@@ -30,6 +30,6 @@ part_of k =
     else if is_passed_over k then part.PassedOver
     else if is kind.Dot k then part.Dot
     else if is kind.QuoteOpen k then part.QuoteOpen
-    else if opening k == 1 then part.Opens
-    else if closing k == 1 then part.Closes
+    else if opener_count k == 1 then part.Opens
+    else if closer_count k == 1 then part.Closes
     else part.Plain
