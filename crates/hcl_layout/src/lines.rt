@@ -125,7 +125,7 @@ fn token_before<'s>(tokens: &Measured<'_, 's>, first: usize, number: usize) -> O
 
 /// The blank before a token if the two kinds don't decide it.
 #[cold]
-fn asked_gap(tokens: &Measured<'_, '_>, first: usize, number: usize) -> u64
+fn gap_by_texts(tokens: &Measured<'_, '_>, first: usize, number: usize) -> u64
     requires within { number < length tokens.now.tokens }
     requires after { first < number }
     ensures { IsGapAt tokens.now.tokens first number result }
@@ -156,7 +156,7 @@ fn gap_after(tokens: &Measured<'_, '_>, first: usize, number: usize, token: Toke
 {
     match space_by_kinds(tokens.get(number - 1), token) {
         Some(space) => u64::from(space),
-        None => asked_gap(tokens, first, number),
+        None => gap_by_texts(tokens, first, number),
     }
 }
 

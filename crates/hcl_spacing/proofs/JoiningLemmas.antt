@@ -16,8 +16,8 @@ use Rattle.hcl_tokens.specs.declared.token.Kind.TheVariants as kind
 use Rattle.hcl_tokens.proofs.BooleanLemmas.{and_true, not_true, or_cases}
 use Rattle.hcl_tokens.proofs.ByteKindLemmas.{Says, says}
 use Rattle.hcl_tokens.specs.Kinds.{is}
-use Rattle.hcl_spacing.specs.Spacing.{begins_with_colon, begins_with_equals, stands_before, has_blank}
-use Rattle.hcl_spacing.specs.Inner.KindPairs.{asked_after, asked_space, pair_space}
+use Rattle.hcl_spacing.specs.Spacing.{begins_with_colon, begins_with_equals, follows_kind, has_blank}
+use Rattle.hcl_spacing.specs.Inner.KindPairs.{space_by_texts_after, space_by_texts, pair_space}
 use Rattle.hcl_spacing.proofs.KindLemmas.{each, kinds, never}
 use Rattle.hcl_spacing.proofs.KindPairLemmas.{answered, by_kinds}
 
@@ -104,7 +104,7 @@ plain : (g : Bool) → (g || false) ≡ true → g ≡ true
 plain true k = refl
 plain false k = k
 
-module _ (before : Option Lexeme) (u t : Lexeme) (dot : Bool) (outside_all : t.inside_heredoc ≡ false) (point : dot ≡ false → stands_before (is kind.Dot) before ≡ false)
+module _ (before : Option Lexeme) (u t : Lexeme) (dot : Bool) (outside_all : t.inside_heredoc ≡ false) (point : dot ≡ false → follows_kind (is kind.Dot) before ≡ false)
     (begins : beside.begins_as t.kind (get_or t.text 0 0) ≡ true) (tilde : t.kind ≡ kind.SeqClose → (t.text ≡ codes "}") ⊎ (t.text ≡ codes "~}")) where
   abbrev b : ℕ
   b = get_or t.text 0 0
@@ -115,13 +115,13 @@ module _ (before : Option Lexeme) (u t : Lexeme) (dot : Bool) (outside_all : t.i
   -- after a token of this kind, one blank stands before those of these kinds
   told : (k : Kind) (P : Kind → Bool) → list_all (λ r. not (P r) || parts (pair_space k r)) kinds ≡ true → u.kind ≡ k → P t.kind ≡ true → has_blank before u t ≡ true
   told k P tried e h =
-      sym (by_kinds before u t outside_all) ∙ is_told (pair_space u.kind t.kind) (asked_space before u t) (ap (λ z. parts (pair_space z t.kind)) e ∙ so P (λ r. parts (pair_space k r)) tried t.kind h)
+      sym (by_kinds before u t outside_all) ∙ is_told (pair_space u.kind t.kind) (space_by_texts before u t) (ap (λ z. parts (pair_space z t.kind)) e ∙ so P (λ r. parts (pair_space k r)) tried t.kind h)
 
   -- or if the tests give one
-  asked : (k : Kind) (P : Kind → Bool) → list_all (λ r. not (P r) || may_part (pair_space k r)) kinds ≡ true → u.kind ≡ k → P t.kind ≡ true → asked_after k before u t ≡ true → has_blank before u t ≡ true
+  asked : (k : Kind) (P : Kind → Bool) → list_all (λ r. not (P r) || may_part (pair_space k r)) kinds ≡ true → u.kind ≡ k → P t.kind ≡ true → space_by_texts_after k before u t ≡ true → has_blank before u t ≡ true
   asked k P tried e h f =
       sym (by_kinds before u t outside_all)
-      ∙ is_asked (pair_space u.kind t.kind) (asked_space before u t) (ap (λ z. may_part (pair_space z t.kind)) e ∙ so P (λ r. may_part (pair_space k r)) tried t.kind h) (ap (λ z. asked_after z before u t) e ∙ f)
+      ∙ is_asked (pair_space u.kind t.kind) (space_by_texts before u t) (ap (λ z. may_part (pair_space z t.kind)) e ∙ so P (λ r. may_part (pair_space k r)) tried t.kind h) (ap (λ z. space_by_texts_after z before u t) e ∙ f)
 
   tilde_text : (t.text ≡ codes "}") ⊎ (t.text ≡ codes "~}") → (b == 126) ≡ true → bytes_eq t.text (codes "~}") ≡ true
   tilde_text (inl e) h = absurd (let f : false ≡ true = sym (ap (λ l. get_or l 0 0 == 126) e) ∙ h in cc)
@@ -194,19 +194,19 @@ module _ (before : Option Lexeme) (u t : Lexeme) (dot : Bool) (outside_all : t.i
       by (inl x) = told kind.Slash is_slashed refl e x
       by (inr x) = told kind.Slash (is kind.Star) refl e x
 
-  parted : (k : Kind) → Parted k
-  parted kind.Ident = ident_parted
-  parted kind.Number = number_parted
-  parted kind.Dot = dot_parted
-  parted kind.Colon = colon_parted
-  parted kind.Not = not_parted
-  parted kind.Assign = assign_parted
-  parted kind.Less = less_parted
-  parted kind.Greater = greater_parted
-  parted kind.Slash = slash_parted
-  parted kind.InterpOpen = interp_parted
-  parted kind.ControlOpen = control_parted
-  parted _ = λ e h. never h
+  stays_apart : (k : Kind) → Parted k
+  stays_apart kind.Ident = ident_parted
+  stays_apart kind.Number = number_parted
+  stays_apart kind.Dot = dot_parted
+  stays_apart kind.Colon = colon_parted
+  stays_apart kind.Not = not_parted
+  stays_apart kind.Assign = assign_parted
+  stays_apart kind.Less = less_parted
+  stays_apart kind.Greater = greater_parted
+  stays_apart kind.Slash = slash_parted
+  stays_apart kind.InterpOpen = interp_parted
+  stays_apart kind.ControlOpen = control_parted
+  stays_apart _ = λ e h. never h
 
   pub joined_apart : neighbours.joins dot u.kind t.kind t.text ≡ true → has_blank before u t ≡ true
-  joined_apart h = parted u.kind refl h
+  joined_apart h = stays_apart u.kind refl h

@@ -8,8 +8,8 @@ use Rattle.hcl_tokens.specs.Lexemes.{Lexeme}
 use Rattle.hcl_tokens.specs.declared.token.Kind.{Kind}
 use Rattle.hcl_tokens.specs.Kinds.{is}
 use Rattle.hcl_tokens.specs.declared.token.Kind.TheVariants as kind
-use Rattle.hcl_spacing.specs.Spacing.{AreUntold, begins_with_colon, begins_with_equals, is_opening, has_blank, stands_before}
-use Rattle.hcl_spacing.specs.Inner.KindPairs.{asked_space, pair_space}
+use Rattle.hcl_spacing.specs.Spacing.{AreUndecided, begins_with_colon, begins_with_equals, is_opening, has_blank, follows_kind}
+use Rattle.hcl_spacing.specs.Inner.KindPairs.{space_by_texts, pair_space}
 use Rattle.hcl_tokens.proofs.BooleanLemmas.{and_true, not_true}
 use Rattle.hcl_spacing.proofs.KindLemmas.{each, kinds}
 
@@ -28,7 +28,7 @@ same_is false true h = cc
 same_is false false h = refl
 
 abbrev agrees : Option Lexeme → Lexeme → Lexeme → Bool
-agrees before subject after = same (answered (pair_space subject.kind after.kind) (asked_space before subject after)) (has_blank before subject after)
+agrees before subject after = same (answered (pair_space subject.kind after.kind) (space_by_texts before subject after)) (has_blank before subject after)
 
 -- ---- samples: after each kind, tokens for both results of the tests of the texts and of the token before
 abbrev sample : Kind → List ℕ → Lexeme
@@ -43,8 +43,8 @@ asked_text kind.Ident subject after = bytes_eq subject.text (codes "in")
 asked_text _ subject after = false
 
 abbrev asked_before : Kind → Option Lexeme → Bool
-asked_before kind.Number before = stands_before (is kind.Dot) before
-asked_before kind.Ident before = stands_before (is kind.Ident) before
+asked_before kind.Number before = follows_kind (is kind.Dot) before
+asked_before kind.Ident before = follows_kind (is kind.Ident) before
 asked_before kind.Minus before = is_opening before
 asked_before _ before = false
 
@@ -91,7 +91,7 @@ module _ (r : Kind) (before : Option Lexeme) (u t : Lexeme) where
   on_control true e = first_of (rw e, cc)
   on_control false e = first_of (rw e, cc)
 
-  on_number : (y : Bool) → stands_before (is kind.Dot) before ≡ y → On kind.Number false y
+  on_number : (y : Bool) → follows_kind (is kind.Dot) before ≡ y → On kind.Number false y
   on_number true e = first_of (rw e, cc)
   on_number false e = first_of (rw e, cc)
 
@@ -99,7 +99,7 @@ module _ (r : Kind) (before : Option Lexeme) (u t : Lexeme) where
   on_minus true e = first_of (rw e, cc)
   on_minus false e = first_of (rw e, cc)
 
-  on_ident : (x y : Bool) → bytes_eq u.text (codes "in") ≡ x → stands_before (is kind.Ident) before ≡ y → On kind.Ident x y
+  on_ident : (x y : Bool) → bytes_eq u.text (codes "in") ≡ x → follows_kind (is kind.Ident) before ≡ y → On kind.Ident x y
   on_ident true true e f = first_of (rw (e, f), rw e, rw f, cc)
   on_ident true false e f = first_of (rw (e, f), rw e, rw f, cc)
   on_ident false true e f = first_of (rw (e, f), rw e, rw f, cc)
@@ -134,17 +134,17 @@ every l r x y =
     (each (λ l. list_all (λ r. both (λ x. both (λ y. on_samples agrees l r x y))) kinds) tried l) r) x) y
 
 -- outside heredocs, the table gives for two tokens the answer of their kinds, or otherwise that of the further tests
-pub by_kinds : (before : Option Lexeme) (subject after : Lexeme) → after.inside_heredoc ≡ false → answered (pair_space subject.kind after.kind) (asked_space before subject after) ≡ has_blank before subject after
+pub by_kinds : (before : Option Lexeme) (subject after : Lexeme) → after.inside_heredoc ≡ false → answered (pair_space subject.kind after.kind) (space_by_texts before subject after) ≡ has_blank before subject after
 by_kinds before subject after e =
-    same_is (answered (pair_space subject.kind after.kind) (asked_space before subject after)) (has_blank before subject after)
+    same_is (answered (pair_space subject.kind after.kind) (space_by_texts before subject after)) (has_blank before subject after)
     ((λ j. agrees before subject (record { kind = after.kind; text = after.text; start = after.start; inside_heredoc = e j }))
     ∙ (on after.kind before subject after subject.kind ∙ every subject.kind after.kind (asked_text subject.kind subject after) (asked_before subject.kind before)))
 
 pub given : (space : Bool) (subject after : Lexeme) → after.inside_heredoc ≡ false → pair_space subject.kind after.kind ≡ Some space → (before : Option Lexeme) → space ≡ has_blank before subject after
-given space subject after e f before = sym (ap (λ o. answered o (asked_space before subject after)) f) ∙ by_kinds before subject after e
+given space subject after e f before = sym (ap (λ o. answered o (space_by_texts before subject after)) f) ∙ by_kinds before subject after e
 
-pub asked_is : (before : Option Lexeme) (subject after : Lexeme) → after.inside_heredoc ≡ false → pair_space subject.kind after.kind ≡ None → asked_space before subject after ≡ has_blank before subject after
-asked_is before subject after e f = sym (ap (λ o. answered o (asked_space before subject after)) f) ∙ by_kinds before subject after e
+pub asked_is : (before : Option Lexeme) (subject after : Lexeme) → after.inside_heredoc ≡ false → pair_space subject.kind after.kind ≡ None → space_by_texts before subject after ≡ has_blank before subject after
+asked_is before subject after e f = sym (ap (λ o. answered o (space_by_texts before subject after)) f) ∙ by_kinds before subject after e
 
 -- ---- if the kinds don't decide, some tokens of these kinds have one blank between them, and others none
 abbrev parts : Kind → Kind → Bool
@@ -163,11 +163,11 @@ second : (v w : Bool) → v ≡ false → (v || w) ≡ true → w ≡ true
 second true w e h = cc
 second false w e h = h
 
-pub untold : (l r : Kind) → pair_space l r ≡ None → AreUntold l r
+pub untold : (l r : Kind) → pair_space l r ≡ None → AreUndecided l r
 untold l r e =
     let apart = second (is_some (pair_space l r)) (on_samples has_blank l r true (is kind.Ident l)) (ap is_some e) (each (λ r. parts l r) (each (λ l. list_all (λ r. parts l r) kinds) all_part l) r) in
     let close = second (is_some (pair_space l r)) (not (on_samples has_blank l r false true)) (ap is_some e) (each (λ r. joins l r) (each (λ l. list_all (λ r. joins l r) kinds) all_join l) r) in
     record {
-      parted = record { before = before_of l (is kind.Ident l); first = subject_of l true; next = after_of l r true; first_is = refl; next_is = refl; outside = refl; gives = apart };
+      stays_apart = record { before = before_of l (is kind.Ident l); first = subject_of l true; next = after_of l r true; first_is = refl; next_is = refl; outside = refl; gives = apart };
       together = record { before = before_of l true; first = subject_of l false; next = after_of l r false; first_is = refl; next_is = refl; outside = refl; gives = not_true (on_samples has_blank l r false true) close };
     }

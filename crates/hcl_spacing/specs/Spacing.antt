@@ -27,8 +27,8 @@ is_operator k =
     || is kind.Equal k || is kind.NotEqual k || is kind.Less k || is kind.Greater k || is kind.LessEqual k || is kind.GreaterEqual k
 
 -- marks after which an expression begins
-abbrev pub awaits_operand : Kind → Bool
-awaits_operand k = is kind.Assign k || is kind.Arrow k || is kind.Colon k || is kind.Comma k || is kind.Question k
+abbrev pub expects_operand : Kind → Bool
+expects_operand k = is kind.Assign k || is kind.Arrow k || is kind.Colon k || is kind.Comma k || is kind.Question k
 
 abbrev pub begins_with_equals : List ℕ → Bool
 begins_with_equals [] = false
@@ -39,27 +39,27 @@ begins_with_colon [] = false
 begins_with_colon (b ∷ text) = b == 58
 
 -- the token before is of such a kind
-abbrev pub stands_before : (Kind → Bool) → Option Lexeme → Bool
-stands_before test None = false
-stands_before test (Some t) = test t.kind
+abbrev pub follows_kind : (Kind → Bool) → Option Lexeme → Bool
+follows_kind test None = false
+follows_kind test (Some t) = test t.kind
 
 abbrev pub is_opening : Option Lexeme → Bool
 is_opening None = true
-is_opening (Some t) = is_opener t.kind || is_operator t.kind || awaits_operand t.kind
+is_opening (Some t) = is_opener t.kind || is_operator t.kind || expects_operand t.kind
 
 -- neighbours that would be read as one token, or as others: among the pairs in the scan's table of neighbours
 -- (`Neighbours.joins` of `hcl_tokens`), those that a later row would put together
 abbrev pub would_join : Option Lexeme → Lexeme → Lexeme → Bool
 would_join before subject after =
     (is kind.Dot subject.kind && (is kind.Dot after.kind || is kind.Ellipsis after.kind))
-    || (is kind.Number subject.kind && not (stands_before (is kind.Dot) before) && is kind.Dot after.kind)
+    || (is kind.Number subject.kind && not (follows_kind (is kind.Dot) before) && is kind.Dot after.kind)
     || (is kind.Not subject.kind && begins_with_equals after.text)
     || (opens_sequence subject.kind && is kind.SeqClose after.kind && bytes_eq after.text (codes "~}"))
     || (is kind.Colon subject.kind && begins_with_colon after.text)
 
 -- the word `in`, after the last name that a `for` declares
 abbrev pub is_in : Option Lexeme → Lexeme → Bool
-is_in before subject = is kind.Ident subject.kind && bytes_eq subject.text (codes "in") && stands_before (is kind.Ident) before
+is_in before subject = is kind.Ident subject.kind && bytes_eq subject.text (codes "in") && follows_kind (is kind.Ident) before
 
 -- THE TABLE: one blank between the subject and the token after it; `before` is the token before the subject on its
 -- line. The words in quotation marks are headings of docs/STYLE.md, which has each row with examples.
@@ -109,6 +109,6 @@ pub record Stand (blank : Bool) (subject after : Kind) : Type 0 where
   pub gives : has_blank before first next ≡ blank
 
 -- the kinds of two neighbours don't decide: some such tokens have one blank between them, and others none
-pub record AreUntold (subject after : Kind) : Type 0 where
-  pub parted : Stand true subject after
+pub record AreUndecided (subject after : Kind) : Type 0 where
+  pub stays_apart : Stand true subject after
   pub together : Stand false subject after

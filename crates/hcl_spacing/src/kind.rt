@@ -2,7 +2,7 @@
 
 ghost use Rattle.std.specs.Prelude.{◌≡◌};
 ghost use Rattle.hcl_tokens.specs.Balanced.{is_opener};
-ghost use Rattle.hcl_spacing.specs.Spacing.{is_operator, awaits_operand};
+ghost use Rattle.hcl_spacing.specs.Spacing.{is_operator, expects_operand};
 
 use hcl_tokens::{Kind, Nesting};
 
@@ -30,8 +30,8 @@ pub fn is_operator(kind: Kind) -> bool
 }
 
 /// Marks after which an expression begins.
-pub fn awaits_operand(kind: Kind) -> bool
-    ensures { result ≡ awaits_operand kind }
+pub fn expects_operand(kind: Kind) -> bool
+    ensures { result ≡ expects_operand kind }
 {
     matches!(
         kind,

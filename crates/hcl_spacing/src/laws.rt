@@ -7,13 +7,13 @@ ghost use Rattle.hcl_tokens.specs.Regapped.{is_template};
 ghost use Rattle.hcl_tokens.specs.SideBySide.{Beside};
 ghost use Rattle.hcl_tokens.specs.Kinds.{is};
 ghost use Rattle.hcl_tokens.specs.declared.token.Kind.TheVariants.{Dot, Newline};
-ghost use Rattle.hcl_spacing.specs.Spacing.{has_blank, stands_before};
+ghost use Rattle.hcl_spacing.specs.Spacing.{has_blank, follows_kind};
 
 /// Outside heredocs and templates, neighbours are separated if a scan would read them differently side by side.
-pub fn parted()
+pub fn stays_apart()
     ensures { (before : Option Lexeme) (u t : Lexeme) → Beside u.kind t → t.inside_heredoc ≡ false
         → is_template t.kind ≡ false
-        → joins (stands_before (is Dot) before) u.kind t.kind t.text ≡ true
+        → joins (follows_kind (is Dot) before) u.kind t.kind t.text ≡ true
         → has_blank before u t ≡ true }
 {}
 

@@ -63,7 +63,7 @@ fn has(kinds: u64, kind: Kind) -> bool
 
 /// A row in which the kinds always decide.
 #[inline(always)]
-fn telling(blank: u64) -> Row
+fn decided_row(blank: u64) -> Row
     ensures { result ≡ record { blank = blank; asked = 0 } }
 {
     Row { blank, asked: NONE }
@@ -90,15 +90,15 @@ fn row_of(left: Kind) -> Row
             asked: (CLOSE | CLOSERS) & !LINE_END,
         },
         // "Quotes": a blank there would be text; "Two colons": a name is one thing to its reader
-        Kind::QuoteOpen | Kind::Lit | Kind::ColonColon => telling(NONE),
+        Kind::QuoteOpen | Kind::Lit | Kind::ColonColon => decided_row(NONE),
         // "Dots": so are attributes of attributes; but two dots would be read as another mark
-        Kind::Dot => telling(DOTS),
+        Kind::Dot => decided_row(DOTS),
         // "Commas": they separate the token after them from the rest, but not from a comma or dots
-        Kind::Comma => telling(!(MARKS | LINE_END)),
+        Kind::Comma => decided_row(!(MARKS | LINE_END)),
         // "Brackets, parentheses": they hug their contents; "Braces": a closing brace never does
-        Kind::ParenOpen | Kind::BracketOpen => telling(BRACE_END),
+        Kind::ParenOpen | Kind::BracketOpen => decided_row(BRACE_END),
         // "Braces": a blank on the inner side, and none in an empty pair
-        Kind::BraceOpen => telling(!(CLOSE | BRACE_END)),
+        Kind::BraceOpen => decided_row(!(CLOSE | BRACE_END)),
         // "Brackets, parentheses": these hug their contents; "Braces": except a brace, since `${{` reads badly. By "A
         // number and a dot" an opener would join the `~` of its closer
         Kind::InterpOpen | Kind::ControlOpen => Row {
@@ -106,9 +106,9 @@ fn row_of(left: Kind) -> Row
             asked: SEQUENCE_END,
         },
         // "Quotes and templates": a blank between a sequence and the next would be text
-        Kind::SeqClose => telling(!(CLOSE | CLOSERS | SEQUENCES)),
+        Kind::SeqClose => decided_row(!(CLOSE | CLOSERS | SEQUENCES)),
         // "Braces": `}}` reads badly at the end of a template
-        Kind::BraceClose => telling(AFTER_OPERAND | SEQUENCE_END),
+        Kind::BraceClose => decided_row(AFTER_OPERAND | SEQUENCE_END),
         // "A number and a dot": they could be read as one number, unless a dot stands before both
         Kind::Number => Row {
             blank: AFTER_OPERAND,
@@ -120,9 +120,9 @@ fn row_of(left: Kind) -> Row
             blank: !(CLOSE | PAREN),
             asked: BRACKET | CLOSERS,
         },
-        Kind::QuoteClose | Kind::ParenClose | Kind::BracketClose => telling(AFTER_OPERAND),
+        Kind::QuoteClose | Kind::ParenClose | Kind::BracketClose => decided_row(AFTER_OPERAND),
         // "All else" has one blank, except before a closer and before kinds without a blank before them
-        _ => telling(!(CLOSE | CLOSERS)),
+        _ => decided_row(!(CLOSE | CLOSERS)),
     }
 }
 

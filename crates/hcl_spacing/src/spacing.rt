@@ -5,10 +5,10 @@ ghost use Rattle.hcl_tokens.specs.Lexemes.{Lexeme};
 ghost use Rattle.hcl_tokens.specs.Scanned.{lexeme};
 ghost use Rattle.hcl_tokens.specs.Kinds.{is};
 ghost use Rattle.hcl_tokens.specs.declared.token.Kind.TheVariants.{Dot, Ident, Newline};
-ghost use Rattle.hcl_spacing.specs.Spacing.{AreUntold, begins_with_colon, begins_with_equals, is_opening, has_blank, stands_before};
-ghost use Rattle.hcl_spacing.specs.Inner.KindPairs.{asked_space};
+ghost use Rattle.hcl_spacing.specs.Spacing.{AreUndecided, begins_with_colon, begins_with_equals, is_opening, has_blank, follows_kind};
+ghost use Rattle.hcl_spacing.specs.Inner.KindPairs.{space_by_texts};
 
-use crate::kind::{awaits_operand, is_opener, is_operator};
+use crate::kind::{expects_operand, is_opener, is_operator};
 use crate::rows::pair_space;
 use hcl_tokens::{Kind, Token};
 
@@ -35,7 +35,7 @@ fn begins_with_colon(text: &str) -> bool
 /// Whether the token before is a Dot.
 #[inline(always)]
 fn is_after_dot(before: Option<Token<'_>>) -> bool
-    ensures { result ≡ stands_before (is Dot) (option_map lexeme before.entry) }
+    ensures { result ≡ follows_kind (is Dot) (option_map lexeme before.entry) }
 {
     let Some(before) = before else {
         return false;
@@ -46,7 +46,7 @@ fn is_after_dot(before: Option<Token<'_>>) -> bool
 /// Whether the token before is an Ident.
 #[inline(always)]
 fn is_after_ident(before: Option<Token<'_>>) -> bool
-    ensures { result ≡ stands_before (is Ident) (option_map lexeme before.entry) }
+    ensures { result ≡ follows_kind (is Ident) (option_map lexeme before.entry) }
 {
     let Some(before) = before else {
         return false;
@@ -62,15 +62,15 @@ fn is_opening(before: Option<Token<'_>>) -> bool
     let Some(before) = before else {
         return true;
     };
-    is_opener(before.kind) || is_operator(before.kind) || awaits_operand(before.kind)
+    is_opener(before.kind) || is_operator(before.kind) || expects_operand(before.kind)
 }
 
 /// The answer by the texts and the token before, if the kinds don't decide: whether a `!` would join `=`, a `:`
 /// another, a number a dot, or the opening of a sequence the `~` that closes it, whether a minus is a sign, and whether
 /// a name is the word `in`.
 #[inline(always)]
-fn asked_space(before: Option<Token<'_>>, subject: Token<'_>, after: Token<'_>) -> bool
-    ensures { result ≡ asked_space (option_map lexeme before.entry) (lexeme subject.entry)
+fn space_by_texts(before: Option<Token<'_>>, subject: Token<'_>, after: Token<'_>) -> bool
+    ensures { result ≡ space_by_texts (option_map lexeme before.entry) (lexeme subject.entry)
         (lexeme after.entry) }
 {
     match subject.kind {
@@ -104,9 +104,9 @@ fn is_kept(after: Token<'_>) -> bool
 fn kinds_space(subject: Token<'_>, after: Token<'_>) -> Option<bool>
     ensures given { IfSome result (λ space. (before : Option Lexeme)
         → space ≡ has_blank before (lexeme subject.entry) (lexeme after.entry)) }
-    ensures untold { IfNone result (AreUntold subject.entry.kind after.entry.kind) }
+    ensures untold { IfNone result (AreUndecided subject.entry.kind after.entry.kind) }
     ensures asked { IfNone result ((before : Option Lexeme)
-        → asked_space before (lexeme subject.entry) (lexeme after.entry)
+        → space_by_texts before (lexeme subject.entry) (lexeme after.entry)
         ≡ has_blank before (lexeme subject.entry) (lexeme after.entry)) }
 {
     if is_kept(after) {
@@ -121,7 +121,7 @@ fn kinds_space(subject: Token<'_>, after: Token<'_>) -> Option<bool>
 pub fn space_by_kinds(subject: Token<'_>, after: Token<'_>) -> Option<bool>
     ensures told { IfSome result (λ space. (before : Option Lexeme)
         → space ≡ has_blank before (lexeme subject.entry) (lexeme after.entry)) }
-    ensures untold { IfNone result (AreUntold subject.entry.kind after.entry.kind) }
+    ensures untold { IfNone result (AreUndecided subject.entry.kind after.entry.kind) }
 {
     kinds_space(subject, after)
 }
@@ -135,6 +135,6 @@ pub fn space_between(before: Option<Token<'_>>, subject: Token<'_>, after: Token
 {
     match kinds_space(subject, after) {
         Some(space) => space,
-        None => asked_space(before, subject, after),
+        None => space_by_texts(before, subject, after),
     }
 }

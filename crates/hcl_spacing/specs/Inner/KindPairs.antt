@@ -8,22 +8,22 @@ use Rattle.hcl_tokens.specs.declared.token.Kind.TheVariants as kind
 use Rattle.hcl_tokens.specs.Kinds.{is}
 use Rattle.hcl_spacing.specs.declared.rows.Row.{Row}
 use Rattle.std.specs.Int.{bit_at}
-use Rattle.hcl_spacing.specs.Spacing.{begins_with_colon, begins_with_equals, closes_group, is_opening, opens_sequence, stands_before}
+use Rattle.hcl_spacing.specs.Spacing.{begins_with_colon, begins_with_equals, closes_group, is_opening, opens_sequence, follows_kind}
 
 -- kinds with no blank before them, unless they would join
-abbrev pub stands_close : Kind → Bool
-stands_close kind.Newline = true
-stands_close kind.Dot = true
-stands_close kind.ColonColon = true
-stands_close kind.Comma = true
-stands_close kind.Ellipsis = true
-stands_close kind.Lit = true
-stands_close kind.QuoteClose = true
-stands_close _ = false
+abbrev pub hugs_left : Kind → Bool
+hugs_left kind.Newline = true
+hugs_left kind.Dot = true
+hugs_left kind.ColonColon = true
+hugs_left kind.Comma = true
+hugs_left kind.Ellipsis = true
+hugs_left kind.Lit = true
+hugs_left kind.QuoteClose = true
+hugs_left _ = false
 
 -- after the kinds that an index may follow
 abbrev pub space_after_operand : Kind → Bool
-space_after_operand r = not (stands_close r || closes_group r || is kind.BracketOpen r)
+space_after_operand r = not (hugs_left r || closes_group r || is kind.BracketOpen r)
 
 -- after `}`
 abbrev pub space_after_brace : Kind → Bool
@@ -35,7 +35,7 @@ space_after_number r = if is kind.Dot r then None else Some (space_after_operand
 
 -- after a name, unless it could be the word `in`
 abbrev pub space_after_name : Kind → Option Bool
-space_after_name r = if is kind.BracketOpen r || closes_group r then None else Some (not (stands_close r || is kind.ParenOpen r))
+space_after_name r = if is kind.BracketOpen r || closes_group r then None else Some (not (hugs_left r || is kind.ParenOpen r))
 
 -- after `${` and `%{`, unless they could join the `~` of the closer
 abbrev pub space_in_sequence : Kind → Option Bool
@@ -43,7 +43,7 @@ space_in_sequence r = if is kind.SeqClose r then None else Some (is kind.BraceOp
 
 -- after `:`, unless it could join another where none would stand
 abbrev pub space_after_colon : Kind → Option Bool
-space_after_colon r = if is kind.Newline r then Some false else if stands_close r || closes_group r then None else Some true
+space_after_colon r = if is kind.Newline r then Some false else if hugs_left r || closes_group r then None else Some true
 
 -- decided only at the end of a line
 abbrev pub unless_line_ends : Kind → Option Bool
@@ -52,7 +52,7 @@ unless_line_ends r = if is kind.Newline r then Some false else None
 -- the answer, if the two kinds give it, outside heredocs
 abbrev pub pair_space : Kind → Kind → Option Bool
 pair_space kind.Not r = unless_line_ends r
-pair_space kind.Minus r = if stands_close r then Some false else None
+pair_space kind.Minus r = if hugs_left r then Some false else None
 pair_space kind.Colon r = space_after_colon r
 pair_space kind.ColonColon r = Some false
 pair_space kind.QuoteOpen r = Some false
@@ -61,29 +61,29 @@ pair_space kind.Dot r = Some (is kind.Dot r || is kind.Ellipsis r)
 pair_space kind.Comma r = Some (not (is kind.Newline r || is kind.Dot r || is kind.ColonColon r || is kind.Comma r || is kind.Ellipsis r))
 pair_space kind.ParenOpen r = Some (is kind.BraceClose r)
 pair_space kind.BracketOpen r = Some (is kind.BraceClose r)
-pair_space kind.BraceOpen r = Some (not (stands_close r || is kind.BraceClose r))
+pair_space kind.BraceOpen r = Some (not (hugs_left r || is kind.BraceClose r))
 pair_space kind.InterpOpen r = space_in_sequence r
 pair_space kind.ControlOpen r = space_in_sequence r
-pair_space kind.SeqClose r = Some (not (stands_close r || closes_group r || opens_sequence r))
+pair_space kind.SeqClose r = Some (not (hugs_left r || closes_group r || opens_sequence r))
 pair_space kind.BraceClose r = Some (space_after_brace r)
 pair_space kind.Number r = space_after_number r
 pair_space kind.Ident r = space_after_name r
 pair_space kind.QuoteClose r = Some (space_after_operand r)
 pair_space kind.ParenClose r = Some (space_after_operand r)
 pair_space kind.BracketClose r = Some (space_after_operand r)
-pair_space _ r = Some (not (stands_close r || closes_group r))
+pair_space _ r = Some (not (hugs_left r || closes_group r))
 
 -- the answer if the kinds don't give it, by the table's tests after this kind of the texts or of the token before
-abbrev pub asked_after : Kind → Option Lexeme → Lexeme → Lexeme → Bool
-asked_after kind.Not before subject after = begins_with_equals after.text
-asked_after kind.Colon before subject after = begins_with_colon after.text
-asked_after kind.Minus before subject after = not (is_opening before)
-asked_after kind.Number before subject after = not (stands_before (is kind.Dot) before)
-asked_after kind.Ident before subject after = stands_before (is kind.Ident) before && bytes_eq subject.text (codes "in")
-asked_after _ before subject after = bytes_eq after.text (codes "~}")
+abbrev pub space_by_texts_after : Kind → Option Lexeme → Lexeme → Lexeme → Bool
+space_by_texts_after kind.Not before subject after = begins_with_equals after.text
+space_by_texts_after kind.Colon before subject after = begins_with_colon after.text
+space_by_texts_after kind.Minus before subject after = not (is_opening before)
+space_by_texts_after kind.Number before subject after = not (follows_kind (is kind.Dot) before)
+space_by_texts_after kind.Ident before subject after = follows_kind (is kind.Ident) before && bytes_eq subject.text (codes "in")
+space_by_texts_after _ before subject after = bytes_eq after.text (codes "~}")
 
-abbrev pub asked_space : Option Lexeme → Lexeme → Lexeme → Bool
-asked_space before subject after = asked_after subject.kind before subject after
+abbrev pub space_by_texts : Option Lexeme → Lexeme → Lexeme → Bool
+space_by_texts before subject after = space_by_texts_after subject.kind before subject after
 
 -- the bit of a kind in a set of kinds
 abbrev pub number : Kind → ℕ

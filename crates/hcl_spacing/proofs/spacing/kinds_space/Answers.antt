@@ -3,8 +3,8 @@ use Rattle.std.specs.Prelude.{IfNone, IfSome}
 use Rattle.hcl_tokens.specs.Lexemes.{Lexeme}
 use Rattle.hcl_tokens.specs.Scanned.{lexeme}
 use Rattle.hcl_tokens.specs.declared.token.Kind.{Kind}
-use Rattle.hcl_spacing.specs.Inner.KindPairs.{asked_space, pair_space}
-use Rattle.hcl_spacing.specs.Spacing.{AreUntold, has_blank}
+use Rattle.hcl_spacing.specs.Inner.KindPairs.{space_by_texts, pair_space}
+use Rattle.hcl_spacing.specs.Spacing.{AreUndecided, has_blank}
 use Rattle.hcl_spacing.proofs.KindPairLemmas.{asked_is, given, untold}
 use Rattle.hcl_spacing.proofs.spacing.kinds_space.Goals as goal
 
@@ -12,11 +12,11 @@ all_given : (o : Option Bool) (subject after : Lexeme) → after.inside_heredoc 
 all_given None subject after e f = tt
 all_given (Some space) subject after e f = given space subject after e (sym f)
 
-all_asked : (o : Option Bool) (subject after : Lexeme) → after.inside_heredoc ≡ false → o ≡ pair_space subject.kind after.kind → IfNone o ((before : Option Lexeme) → asked_space before subject after ≡ has_blank before subject after)
+all_asked : (o : Option Bool) (subject after : Lexeme) → after.inside_heredoc ≡ false → o ≡ pair_space subject.kind after.kind → IfNone o ((before : Option Lexeme) → space_by_texts before subject after ≡ has_blank before subject after)
 all_asked None subject after e f = λ before. asked_is before subject after e (sym f)
 all_asked (Some space) subject after e f = tt
 
-all_untold : (o : Option Bool) (l r : Kind) → o ≡ pair_space l r → IfNone o (AreUntold l r)
+all_untold : (o : Option Bool) (l r : Kind) → o ≡ pair_space l r → IfNone o (AreUndecided l r)
 all_untold None l r g = untold l r (sym g)
 all_untold (Some space) l r g = tt
 
