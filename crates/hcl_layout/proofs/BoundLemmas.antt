@@ -12,7 +12,7 @@ use Rattle.hcl_layout.specs.Columns.{widest}
 use Rattle.hcl_layout.specs.Gaps.{align, gap_to, gaps, gaps_after, plain_gaps, set_gap, width}
 use Rattle.hcl_layout.specs.Lines.{Line, ends_line, lines, onto_line}
 use Rattle.hcl_layout.specs.Print.{print, printed_text}
-use Rattle.hcl_layout.specs.Inner.Depths.{BalancedFrom, Sound, depth_after, fresh, level_at, next_levels, raised}
+use Rattle.hcl_layout.specs.Inner.Depths.{BalancedFrom, Sound, depth_after, fresh, level_at, next_levels, with_level}
 use Rattle.hcl_layout.specs.Inner.Bounds.{AreApart}
 use Rattle.hcl_layout.specs.Inner.LineGaps.{len_with_blanks}
 use Rattle.hcl_layout.specs.Inner.Rooms.{cells_of, nothing, room_before, room_of, start_of, taken, with_cells, with_line, with_lines}
@@ -102,7 +102,7 @@ sound_after d e levels low p = go (nat_lt d e) refl
     go false v =
         let le : e ≤ d = grind arith in
         let none : 0 ≡ e - d = omega arith in
-        subst (λ n. Sound e (raised levels (get_or levels d 0 + 1) (d + 1) n)) none (sound_less d e levels le p)
+        subst (λ n. Sound e (with_level levels (get_or levels d 0 + 1) (d + 1) n)) none (sound_less d e levels le p)
 
 plain_low : (d : ℕ) (levels : List ℕ) (l : Line) → Sound d levels → excess (plain d levels l) ≤ 2 * d
 plain_low d levels l p = omega (arith, plain_excess (level_at d (depth_after d l) levels) l, level_low d (depth_after d l) levels p)

@@ -6,7 +6,7 @@ use Rattle.std.proofs.lemmas.List.{get_or-set_other}
 use Rattle.std.proofs.lemmas.Grind.{get_or-set_at}
 use Rattle.hcl_tokens.specs.Balanced.{max_open}
 use Rattle.hcl_layout.specs.Levels.{Net, is_above, level, levels_after, no_net, plus, stays_above}
-use Rattle.hcl_layout.specs.Inner.Depths.{Sound, raised, next_levels}
+use Rattle.hcl_layout.specs.Inner.Depths.{Sound, with_level, next_levels}
 
 -- ---- the open groups in turn
 
@@ -165,21 +165,21 @@ filter_higher j k m n (g ∷ groups) p q le = go (filter_higher j k m n groups p
 
 -- ---- levels by depth
 
-raised_length : (levels : List ℕ) (top from n : ℕ) → length (raised levels top from n) ≡ length levels
+raised_length : (levels : List ℕ) (top from n : ℕ) → length (with_level levels top from n) ≡ length levels
 raised_length levels top from zero = refl
 raised_length levels top from (suc n) = raised_length (slice_set levels from top) top (from + 1) n ∙ length-set levels from top
 
-raised_before : (levels : List ℕ) (top from n k : ℕ) → k < from → get_or (raised levels top from n) k 0 ≡ get_or levels k 0
+raised_before : (levels : List ℕ) (top from n k : ℕ) → k < from → get_or (with_level levels top from n) k 0 ≡ get_or levels k 0
 raised_before levels top from zero k lt = refl
 raised_before levels top from (suc n) k lt =
     raised_before (slice_set levels from top) top (from + 1) n k (omega arith) ∙ get_or-set_other levels from k top 0 (λ e. omega arith)
 
-raised_within : (levels : List ℕ) (top from n k : ℕ) → from ≤ k → k < from + n → from + n ≤ length levels → get_or (raised levels top from n) k 0 ≡ top
+raised_within : (levels : List ℕ) (top from n k : ℕ) → from ≤ k → k < from + n → from + n ≤ length levels → get_or (with_level levels top from n) k 0 ≡ top
 raised_within levels top from zero k le lt room = absurd (omega arith)
 raised_within levels top from (suc n) k le lt room =
     go (λ p. raised_within (slice_set levels from top) top (from + 1) n k p (omega arith) (omega (arith, length-set levels from top))) (nat_lt from k) refl
   where
-    go : (from + 1 ≤ k → get_or (raised levels top from (suc n)) k 0 ≡ top) → (v : Bool) → nat_lt from k ≡ v → get_or (raised levels top from (suc n)) k 0 ≡ top
+    go : (from + 1 ≤ k → get_or (with_level levels top from (suc n)) k 0 ≡ top) → (v : Bool) → nat_lt from k ≡ v → get_or (with_level levels top from (suc n)) k 0 ≡ top
     go r true e = r (grind arith)
     go r false e = raised_before (slice_set levels from top) top (from + 1) n k (grind arith) ∙ get_or-set_at levels from k top 0 (grind arith) (omega arith)
 
@@ -192,10 +192,10 @@ next_levels_before d e levels k le = raised_before levels (get_or levels d 0 + 1
 pub next_levels_above : (d e : ℕ) (levels : List ℕ) (k : ℕ) → d < k → k ≤ e → e < length levels → get_or (next_levels d e levels) k 0 ≡ get_or levels d 0 + 1
 next_levels_above d e levels k lt le room = raised_within levels (get_or levels d 0 + 1) (d + 1) (e - d) k (omega arith) (omega arith) (omega arith)
 
-pub raised_more : (levels : List ℕ) (top from to : ℕ) → from < to → raised levels top from (to - from) ≡ raised (slice_set levels from top) top (from + 1) (to - (from + 1))
+pub raised_more : (levels : List ℕ) (top from to : ℕ) → from < to → with_level levels top from (to - from) ≡ with_level (slice_set levels from top) top (from + 1) (to - (from + 1))
 raised_more levels top from to lt =
     let one : to - from ≡ suc (to - (from + 1)) = omega arith in
-    ap (raised levels top from) one
+    ap (with_level levels top from) one
 
 pub next_levels_sound : (d e : ℕ) (levels new : List ℕ) → d < e → e ≤ max_open → Sound d levels → new ≡ next_levels d e levels → Sound e new
 next_levels_sound d e levels new lt low p q = (ap length q ∙ next_levels_length d e levels ∙ p.0, λ k le. go k le (nat_lt d k) refl)

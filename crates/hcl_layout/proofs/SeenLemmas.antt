@@ -9,7 +9,7 @@ use Rattle.hcl_grammar.specs.Items.{deepen}
 use Rattle.hcl_layout.specs.Cells.{is_assignment, is_multiline, is_trailing}
 use Rattle.hcl_layout.specs.Lines.{ends_line}
 use Rattle.hcl_layout.specs.Inner.Depths.{BalancedFrom}
-use Rattle.hcl_layout.specs.Inner.Survey.{IsLine, Survey, facts_in, facts_of, first_noted, marks, noted, survey_of, surveyed, takes_sign}
+use Rattle.hcl_layout.specs.Inner.Survey.{IsLine, Survey, facts_in, facts_of, survey_start, marks, survey_step, survey_of, survey_rest, takes_sign}
 use Rattle.hcl_layout.specs.declared.line.Line.{Line}
 use Rattle.hcl_layout.specs.declared.line.Seen.{Seen}
 use Rattle.hcl_spacing.proofs.KindLemmas.{each}
@@ -23,7 +23,7 @@ unmarked false false c h = (refl, refl, h)
 
 -- a token that isn't a cell and tears none
 pub seen_kept : (s : Seen) (t : Lexeme) (d first n : ℕ) → first ≤ n → is_trailing t ≡ false → is_multiline t ≡ false → is_assignment t ≡ false
-    → survey_of s (deepen d t.kind) first (n + 1) ≡ noted (survey_of s d first n) t
+    → survey_of s (deepen d t.kind) first (n + 1) ≡ survey_step (survey_of s d first n) t
 seen_kept s t d first n le trailing inline assign =
     let takes : takes_sign (survey_of s d first n) t ≡ false = rw assign (and_false (not (is_some (option_map (λ k. k - first) s.comment)) && not (is_trailing t) && not (is_some (option_map (λ k. k - first) s.sign)))) in
     go s.comment refl takes inline trailing
@@ -39,7 +39,7 @@ seen_kept s t d first n le trailing inline assign =
     len : (n + 1) - first ≡ (n - first) + 1
     len = omega (arith, le)
 
-    go : (c : Option ℕ) → s.comment ≡ c → takes_sign (survey_of s d first n) t ≡ false → is_multiline t ≡ false → is_trailing t ≡ false → survey_of s (deepen d t.kind) first (n + 1) ≡ noted (survey_of s d first n) t
+    go : (c : Option ℕ) → s.comment ≡ c → takes_sign (survey_of s d first n) t ≡ false → is_multiline t ≡ false → is_trailing t ≡ false → survey_of s (deepen d t.kind) first (n + 1) ≡ survey_step (survey_of s d first n) t
     go None e takes inline trailing =
         let made : ℕ → Bool → Survey = λ k b. record { len = k; depth = deepen d t.kind; multiline = b; comment = None; body_depth = deepen d t.kind; sign = option_map (λ j. j - first) s.sign; sign_depth = s.sign_depth } in
         rw (takes, inline, trailing, e) (ap₂ made len (or_false s.multiline))
@@ -48,7 +48,7 @@ seen_kept s t d first n le trailing inline assign =
         rw (takes, inline, trailing, e) (ap₂ made len (or_false s.multiline))
 
 -- a token of a kind that isn't a cell and tears none
-pub seen_noted : (s : Seen) (t : Lexeme) (d first n : ℕ) → first ≤ n → marks t.kind ≡ false → survey_of s (deepen d t.kind) first (n + 1) ≡ noted (survey_of s d first n) t
+pub seen_noted : (s : Seen) (t : Lexeme) (d first n : ℕ) → first ≤ n → marks t.kind ≡ false → survey_of s (deepen d t.kind) first (n + 1) ≡ survey_step (survey_of s d first n) t
 seen_noted s t d first n le m =
     let parts = unmarked (is LineComment t.kind) (is InlineComment t.kind) (is Assign t.kind) m in
     seen_kept s t d first n le (rw parts.0 refl) (rw parts.1 refl) (rw parts.2 refl)
@@ -61,10 +61,10 @@ end_unmarked t e = go (is Newline t.kind) refl e
     go true q h = passes (not (is Newline t.kind)) (marks t.kind) (each (λ j. not (is Newline j) || not (marks j)) refl t.kind) (ap not q)
     go false q h = cc
 
-pub seen_end : (s : Seen) (t : Lexeme) (d first n : ℕ) → first ≤ n → ends_line t ≡ true → survey_of s d first (n + 1) ≡ noted (survey_of s d first n) t
+pub seen_end : (s : Seen) (t : Lexeme) (d first n : ℕ) → first ≤ n → ends_line t ≡ true → survey_of s d first (n + 1) ≡ survey_step (survey_of s d first n) t
 seen_end s t d first n le e = ap (λ k. survey_of s k first (n + 1)) (sym (stopped_level t.kind d (end_stops t e))) ∙ seen_noted s t d first n le (end_unmarked t e)
 
 -- the line that was read
 pub line_read : (ts : List Lexeme) (first d : ℕ) (t : Lexeme) (l : Line) (s : Survey) → slice_get ts first ≡ Some t → length ts ≤ 2 ^ 22 → BalancedFrom d (drop first ts) → d ≤ max_open
-    → facts_in l ≡ facts_of s → s ≡ surveyed (first_noted d t) t (drop (first + 1) ts) → IsLine ts first d (facts_in l)
+    → facts_in l ≡ facts_of s → s ≡ survey_rest (survey_start d t) t (drop (first + 1) ts) → IsLine ts first d (facts_in l)
 line_read ts first d t l s e few p low f q = subst (IsLine ts first d) (sym f) (is_line ts first d t s e few p low q)

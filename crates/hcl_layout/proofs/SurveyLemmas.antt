@@ -14,7 +14,7 @@ use Rattle.hcl_grammar.specs.Items.{deepen}
 use Rattle.hcl_layout.specs.Inner.Depths.{BalancedFrom, Steps, depth_after}
 use Rattle.hcl_layout.specs.Levels.{Net, net_of}
 use Rattle.hcl_layout.specs.Lines.{Line, ends_line, lines, onto_line}
-use Rattle.hcl_layout.specs.Inner.Survey.{IsLine, assign_of, cell_if, facts_of, first_noted, going, noted, step_of, surveyed, takes_sign}
+use Rattle.hcl_layout.specs.Inner.Survey.{IsLine, assign_of, cell_if, facts_of, survey_start, survey_from, survey_step, step_of, survey_rest, takes_sign}
 use Rattle.hcl_layout.specs.Inner.Survey.{Survey}
 use Rattle.hcl_layout.proofs.NotedKindLemmas.{Stepped, steps_deepen}
 use Rattle.hcl_layout.proofs.StreamLemmas.{after_is, after_low, deepen_low}
@@ -38,13 +38,13 @@ left_of last (t ∷ ts) = if ends_line last then t ∷ ts else left_of t ts
 
 abbrev pub fold : Survey → Line → Survey
 fold s [] = s
-fold s (t ∷ l) = fold (noted s t) l
+fold s (t ∷ l) = fold (survey_step s t) l
 
-surveyed_fold : (ts : List Lexeme) (s : Survey) (last : Lexeme) → surveyed s last ts ≡ fold s (tail_of last ts)
+surveyed_fold : (ts : List Lexeme) (s : Survey) (last : Lexeme) → survey_rest s last ts ≡ fold s (tail_of last ts)
 surveyed_fold [] s last = refl
-surveyed_fold (t ∷ ts) s last = go (surveyed_fold ts (noted s t) t) (ends_line last) refl
+surveyed_fold (t ∷ ts) s last = go (surveyed_fold ts (survey_step s t) t) (ends_line last) refl
   where
-    go : surveyed (noted s t) t ts ≡ fold (noted s t) (tail_of t ts) → (v : Bool) → ends_line last ≡ v → surveyed s last (t ∷ ts) ≡ fold s (tail_of last (t ∷ ts))
+    go : survey_rest (survey_step s t) t ts ≡ fold (survey_step s t) (tail_of t ts) → (v : Bool) → ends_line last ≡ v → survey_rest s last (t ∷ ts) ≡ fold s (tail_of last (t ∷ ts))
     go r true e = rw e refl
     go r false e = rw e r
 
@@ -88,11 +88,11 @@ tail_short (u ∷ ts) t = go (tail_short ts u) (ends_line t) refl
 
 fold_len : (l : Line) (s : Survey) → (fold s l).len ≡ s.len + length l
 fold_len [] s = omega arith
-fold_len (t ∷ l) s = omega (arith, fold_len l (noted s t))
+fold_len (t ∷ l) s = omega (arith, fold_len l (survey_step s t))
 
 fold_depth : (l : Line) (s : Survey) → (fold s l).depth ≡ depth_after s.depth l
 fold_depth [] s = refl
-fold_depth (t ∷ l) s = fold_depth l (noted s t)
+fold_depth (t ∷ l) s = fold_depth l (survey_step s t)
 
 or_assoc : (a b c : Bool) → ((a || b) || c) ≡ (a || (b || c))
 or_assoc true b c = refl
@@ -104,7 +104,7 @@ fold_multiline [] s = go s.multiline
     go : (b : Bool) → b ≡ (b || false)
     go true = refl
     go false = refl
-fold_multiline (t ∷ l) s = fold_multiline l (noted s t) ∙ or_assoc s.multiline (is_multiline t) (list_any is_multiline l)
+fold_multiline (t ∷ l) s = fold_multiline l (survey_step s t) ∙ or_assoc s.multiline (is_multiline t) (list_any is_multiline l)
 
 -- after the trailing comment nothing changes
 record Same (s r : Survey) : Type 0 where
@@ -113,14 +113,14 @@ record Same (s r : Survey) : Type 0 where
   sign : r.sign ≡ s.sign
   sign_depth : r.sign_depth ≡ s.sign_depth
 
-same_noted : (s : Survey) (t : Lexeme) (i : ℕ) → s.comment ≡ Some i → Same s (noted s t)
+same_noted : (s : Survey) (t : Lexeme) (i : ℕ) → s.comment ≡ Some i → Same s (survey_step s t)
 same_noted s t i e = record { comment = rw e refl; body = rw e refl; sign = rw e refl; sign_depth = rw e refl }
 
 stays : (l : Line) (s : Survey) (i : ℕ) → s.comment ≡ Some i → Same s (fold s l)
 stays [] s i e = record { comment = refl; body = refl; sign = refl; sign_depth = refl }
 stays (t ∷ l) s i e =
     let one = same_noted s t i e in
-    let more = stays l (noted s t) i (one.comment ∙ e) in
+    let more = stays l (survey_step s t) i (one.comment ∙ e) in
     record { comment = more.comment ∙ one.comment; body = more.body ∙ one.body; sign = more.sign ∙ one.sign; sign_depth = more.sign_depth ∙ one.sign_depth }
 
 -- the comment, and the depth before it
@@ -128,20 +128,20 @@ found : (l : Line) (s : Survey) → s.comment ≡ None → s.body_depth ≡ s.de
     → ((fold s l).comment ≡ first_place_from is_trailing s.len l) × ((fold s l).body_depth ≡ depth_after s.depth (until is_trailing l))
 found [] s e f = (e, f)
 found (t ∷ l) s e f =
-    go (λ c. stays l (noted s t) s.len c) (λ c d. found l (noted s t) c d) (is_trailing t) refl
+    go (λ c. stays l (survey_step s t) s.len c) (λ c d. found l (survey_step s t) c d) (is_trailing t) refl
   where
-    go : ((noted s t).comment ≡ Some s.len → Same (noted s t) (fold (noted s t) l))
-        → ((noted s t).comment ≡ None → (noted s t).body_depth ≡ (noted s t).depth → ((fold (noted s t) l).comment ≡ first_place_from is_trailing (s.len + 1) l) × ((fold (noted s t) l).body_depth ≡ depth_after (deepen s.depth t.kind) (until is_trailing l)))
+    go : ((survey_step s t).comment ≡ Some s.len → Same (survey_step s t) (fold (survey_step s t) l))
+        → ((survey_step s t).comment ≡ None → (survey_step s t).body_depth ≡ (survey_step s t).depth → ((fold (survey_step s t) l).comment ≡ first_place_from is_trailing (s.len + 1) l) × ((fold (survey_step s t) l).body_depth ≡ depth_after (deepen s.depth t.kind) (until is_trailing l)))
         → (v : Bool) → is_trailing t ≡ v
         → ((fold s (t ∷ l)).comment ≡ first_place_from is_trailing s.len (t ∷ l)) × ((fold s (t ∷ l)).body_depth ≡ depth_after s.depth (until is_trailing (t ∷ l)))
     go a b true v =
-        let here : (noted s t).comment ≡ Some s.len = rw (e, v) refl in
-        let body : (noted s t).body_depth ≡ s.depth = rw (e, v) f in
+        let here : (survey_step s t).comment ≡ Some s.len = rw (e, v) refl in
+        let body : (survey_step s t).body_depth ≡ s.depth = rw (e, v) f in
         let same = a here in
         rw v (same.comment ∙ here, same.body ∙ body)
     go a b false v =
-        let here : (noted s t).comment ≡ None = rw (e, v) refl in
-        let body : (noted s t).body_depth ≡ (noted s t).depth = rw (e, v) refl in
+        let here : (survey_step s t).comment ≡ None = rw (e, v) refl in
+        let body : (survey_step s t).body_depth ≡ (survey_step s t).depth = rw (e, v) refl in
         rw v (b here body)
 
 some_same : (a b : ℕ) → Some a ≡ Some b → a ≡ b
@@ -160,9 +160,9 @@ kept : (l : Line) (s : Survey) (i : ℕ) → s.sign ≡ Some i → ((fold s l).s
 kept [] s i e = (e, refl)
 kept (t ∷ l) s i e =
     let no : takes_sign s t ≡ false = rw e (never (not (is_some s.comment)) (not (is_trailing t)) (is_assignment t)) in
-    let sign : (noted s t).sign ≡ Some i = rw no e in
-    let depth : (noted s t).sign_depth ≡ s.sign_depth = rw no refl in
-    let more = kept l (noted s t) i sign in
+    let sign : (survey_step s t).sign ≡ Some i = rw no e in
+    let depth : (survey_step s t).sign_depth ≡ s.sign_depth = rw no refl in
+    let more = kept l (survey_step s t) i sign in
     (more.0, more.1 ∙ depth)
   where
     never : (a b c : Bool) → (a && b && false && c) ≡ false
@@ -176,40 +176,40 @@ signed : (l : Line) (s : Survey) → s.comment ≡ None → s.sign ≡ None
     × ((i : ℕ) → first_place_from is_assignment s.len (until is_trailing l) ≡ Some (s.len + i) → (fold s l).sign_depth ≡ depth_after s.depth (take i (until is_trailing l)))
 signed [] s e f = (f, λ i p. cc)
 signed (t ∷ l) s e f =
-    go (λ c. stays l (noted s t) s.len c) (λ c. kept l (noted s t) s.len c) (λ c d. signed l (noted s t) c d) (is_trailing t) refl (is_assignment t) refl
+    go (λ c. stays l (survey_step s t) s.len c) (λ c. kept l (survey_step s t) s.len c) (λ c d. signed l (survey_step s t) c d) (is_trailing t) refl (is_assignment t) refl
   where
     b : Line
     b = until is_trailing l
 
-    go : ((noted s t).comment ≡ Some s.len → Same (noted s t) (fold (noted s t) l))
-        → ((noted s t).sign ≡ Some s.len → ((fold (noted s t) l).sign ≡ Some s.len) × ((fold (noted s t) l).sign_depth ≡ (noted s t).sign_depth))
-        → ((noted s t).comment ≡ None → (noted s t).sign ≡ None
-        → ((fold (noted s t) l).sign ≡ first_place_from is_assignment (s.len + 1) b) × ((i : ℕ) → first_place_from is_assignment (s.len + 1) b ≡ Some ((s.len + 1) + i) → (fold (noted s t) l).sign_depth ≡ depth_after (deepen s.depth t.kind) (take i b)))
+    go : ((survey_step s t).comment ≡ Some s.len → Same (survey_step s t) (fold (survey_step s t) l))
+        → ((survey_step s t).sign ≡ Some s.len → ((fold (survey_step s t) l).sign ≡ Some s.len) × ((fold (survey_step s t) l).sign_depth ≡ (survey_step s t).sign_depth))
+        → ((survey_step s t).comment ≡ None → (survey_step s t).sign ≡ None
+        → ((fold (survey_step s t) l).sign ≡ first_place_from is_assignment (s.len + 1) b) × ((i : ℕ) → first_place_from is_assignment (s.len + 1) b ≡ Some ((s.len + 1) + i) → (fold (survey_step s t) l).sign_depth ≡ depth_after (deepen s.depth t.kind) (take i b)))
         → (v : Bool) → is_trailing t ≡ v → (w : Bool) → is_assignment t ≡ w
         → ((fold s (t ∷ l)).sign ≡ first_place_from is_assignment s.len (until is_trailing (t ∷ l)))
         × ((i : ℕ) → first_place_from is_assignment s.len (until is_trailing (t ∷ l)) ≡ Some (s.len + i) → (fold s (t ∷ l)).sign_depth ≡ depth_after s.depth (take i (until is_trailing (t ∷ l))))
     go x y z true v w q =
-        let here : (noted s t).comment ≡ Some s.len = rw (e, v) refl in
-        let sign : (noted s t).sign ≡ None = rw (e, v) f in
+        let here : (survey_step s t).comment ≡ Some s.len = rw (e, v) refl in
+        let sign : (survey_step s t).sign ≡ None = rw (e, v) f in
         let same = x here in
         rw v (same.sign ∙ sign, λ i p. cc)
     go x y z false v true q =
-        let sign : (noted s t).sign ≡ Some s.len = rw (e, v, f, q) refl in
-        let depth : (noted s t).sign_depth ≡ s.depth = rw (e, v, f, q) refl in
+        let sign : (survey_step s t).sign ≡ Some s.len = rw (e, v, f, q) refl in
+        let depth : (survey_step s t).sign_depth ≡ s.depth = rw (e, v, f, q) refl in
         let same = y sign in
         let first : (i : ℕ) → Some s.len ≡ Some (s.len + i) → (fold s (t ∷ l)).sign_depth ≡ depth_after s.depth (take i (t ∷ b)) =
         λ i p. (let zero_is : i ≡ zero = omega (arith, some_same s.len (s.len + i) p) in same.1 ∙ depth ∙ ap (λ k. depth_after s.depth (take k (t ∷ b))) (sym zero_is)) in
         rw (v, q) (same.0, first)
     go x y z false v false q =
-        let here : (noted s t).comment ≡ None = rw (e, v) refl in
-        let sign : (noted s t).sign ≡ None = rw (e, v, f, q) refl in
+        let here : (survey_step s t).comment ≡ None = rw (e, v) refl in
+        let sign : (survey_step s t).sign ≡ None = rw (e, v, f, q) refl in
         let more = z here sign in
         let later : (i : ℕ) → first_place_from is_assignment (s.len + 1) b ≡ Some (s.len + i) → (fold s (t ∷ l)).sign_depth ≡ depth_after s.depth (take i (t ∷ b)) =
         λ i p. later_by i p more.1 in
         rw (v, q) (more.0, later)
       where
         later_by : (i : ℕ) → first_place_from is_assignment (s.len + 1) b ≡ Some (s.len + i)
-            → ((j : ℕ) → first_place_from is_assignment (s.len + 1) b ≡ Some ((s.len + 1) + j) → (fold (noted s t) l).sign_depth ≡ depth_after (deepen s.depth t.kind) (take j b))
+            → ((j : ℕ) → first_place_from is_assignment (s.len + 1) b ≡ Some ((s.len + 1) + j) → (fold (survey_step s t) l).sign_depth ≡ depth_after (deepen s.depth t.kind) (take j b))
             → (fold s (t ∷ l)).sign_depth ≡ depth_after s.depth (take i (t ∷ b))
         later_by zero p r = absurd (omega (arith, place_within is_assignment (s.len + 1) b (s.len + 0) p))
         later_by (suc i) p r = r i (p ∙ ap (λ (k : ℕ). Some k) (omega arith))
@@ -268,9 +268,9 @@ cell_multiline true x y b e = none y
 cell_multiline false x y b e = sym e
 
 -- the assign cell of the line that begins with the token
-cell_is : (l : Line) (d : ℕ) (t : Lexeme) → BalancedFrom d (t ∷ l) → assign_of (fold (first_noted d t) l) ≡ assign_cell (t ∷ l)
+cell_is : (l : Line) (d : ℕ) (t : Lexeme) → BalancedFrom d (t ∷ l) → assign_of (fold (survey_start d t) l) ≡ assign_cell (t ∷ l)
 cell_is l d t p =
-    let s : Survey = first_noted d t in
+    let s : Survey = survey_start d t in
     let b : Line = until is_trailing l in
     let depth = found l s refl refl in
     let sign = signed l s refl refl in
@@ -281,33 +281,33 @@ cell_is l d t p =
     (cell_same (t ∷ b) (first_place_from is_assignment 1 b) ((fold s l).sign_depth == (fold s l).body_depth) level ∙ ap (cell_if ((fold s l).sign_depth == (fold s l).body_depth)) (sym sign.0))
     ∙ ap (λ (v : Bool). if v then None else if_level (t ∷ b) (first_place_from is_assignment 1 b)) (fold_multiline l s)
   where
-    level_at_sign : (i : ℕ) → first_place_from is_assignment 1 (until is_trailing l) ≡ Some i → (fold (first_noted d t) l).body_depth ≡ depth_after (deepen d t.kind) (until is_trailing l)
-        → ((j : ℕ) → first_place_from is_assignment 1 (until is_trailing l) ≡ Some (1 + j) → (fold (first_noted d t) l).sign_depth ≡ depth_after (deepen d t.kind) (take j (until is_trailing l)))
+    level_at_sign : (i : ℕ) → first_place_from is_assignment 1 (until is_trailing l) ≡ Some i → (fold (survey_start d t) l).body_depth ≡ depth_after (deepen d t.kind) (until is_trailing l)
+        → ((j : ℕ) → first_place_from is_assignment 1 (until is_trailing l) ≡ Some (1 + j) → (fold (survey_start d t) l).sign_depth ≡ depth_after (deepen d t.kind) (take j (until is_trailing l)))
         → BalancedFrom d (t ∷ until is_trailing l)
-        → is_level (net_of (drop i (t ∷ until is_trailing l))) ≡ ((fold (first_noted d t) l).sign_depth == (fold (first_noted d t) l).body_depth)
+        → is_level (net_of (drop i (t ∷ until is_trailing l))) ≡ ((fold (survey_start d t) l).sign_depth == (fold (survey_start d t) l).body_depth)
     level_at_sign zero e p q r = absurd (omega (arith, place_within is_assignment 1 (until is_trailing l) 0 e))
     level_at_sign (suc i) e p q r =
         level_same (suc i) d (t ∷ until is_trailing l) r ∙ ap₂ nat_eq (sym (q i (e ∙ ap (λ (k : ℕ). Some k) (omega arith)))) (sym p)
 
 pub is_line : (ts : List Lexeme) (at d : ℕ) (t : Lexeme) (s : Survey) → slice_get ts at ≡ Some t → length ts ≤ 2 ^ 22 → BalancedFrom d (drop at ts) → d ≤ max_open
-    → s ≡ surveyed (first_noted d t) t (drop (at + 1) ts) → IsLine ts at d (facts_of s)
+    → s ≡ survey_rest (survey_start d t) t (drop (at + 1) ts) → IsLine ts at d (facts_of s)
 is_line ts at d t s e few p low q =
     let rest : List Lexeme = drop (at + 1) ts in
     let l : Line = tail_of t rest in
     let n : ℕ = length l in
-    let f : Survey = fold (first_noted d t) l in
+    let f : Survey = fold (survey_start d t) l in
     let cut : drop at ts ≡ t ∷ rest = drop_at ts at t e in
-    let same : s ≡ f = q ∙ surveyed_fold rest (first_noted d t) t in
-    let len : s.len ≡ suc n = ap (λ (x : Survey). x.len) same ∙ fold_len l (first_noted d t) ∙ omega arith in
+    let same : s ≡ f = q ∙ surveyed_fold rest (survey_start d t) t in
+    let len : s.len ≡ suc n = ap (λ (x : Survey). x.len) same ∙ fold_len l (survey_start d t) ∙ omega arith in
     let within : at < length ts = slice_get_within ts at t e in
     let short : n ≤ length rest = tail_short rest t in
     let all : length rest ≡ length ts - (at + 1) = grind (arith, common_steps) in
     let line : take s.len (drop at ts) ≡ t ∷ l = ap₂ take len cut ∙ ap (λ x. t ∷ x) (tail_take rest t) in
     let after : drop (at + s.len) ts ≡ left_of t rest = ap (λ k. drop (at + k) ts) len ∙ there at n ∙ left_drop rest t in
     let balanced : BalancedFrom d (t ∷ l) = subst (BalancedFrom d) line (balanced_take s.len d (drop at ts) p) in
-    let depth : s.depth ≡ depth_after d (t ∷ l) = ap (λ (x : Survey). x.depth) same ∙ fold_depth l (first_noted d t) in
-    let comment : s.comment ≡ trailing_comment (t ∷ l) = ap (λ (x : Survey). x.comment) same ∙ (found l (first_noted d t) refl refl).0 in
-    let multiline : s.multiline ≡ has_multiline (t ∷ l) = ap (λ (x : Survey). x.multiline) same ∙ fold_multiline l (first_noted d t) in
+    let depth : s.depth ≡ depth_after d (t ∷ l) = ap (λ (x : Survey). x.depth) same ∙ fold_depth l (survey_start d t) in
+    let comment : s.comment ≡ trailing_comment (t ∷ l) = ap (λ (x : Survey). x.comment) same ∙ (found l (survey_start d t) refl refl).0 in
+    let multiline : s.multiline ≡ has_multiline (t ∷ l) = ap (λ (x : Survey). x.multiline) same ∙ fold_multiline l (survey_start d t) in
     record {
       some = omega arith;
       within = omega arith;
@@ -340,23 +340,23 @@ rest_at ts i d t e p = (subst (BalancedFrom d) (drop_at ts i t e) p).1
 pub low_at : (ts : List Lexeme) (i d : ℕ) (t : Lexeme) → slice_get ts i ≡ Some t → BalancedFrom d (drop i ts) → d ≤ max_open → deepen d t.kind ≤ max_open
 low_at ts i d t e p low = deepen_low t.kind d (steps_at ts i d t e p) low
 
-pub surveyed_going : (ts : List Lexeme) (s : Survey) (last : Lexeme) → ends_line last ≡ false → surveyed s last ts ≡ going s ts
+pub surveyed_going : (ts : List Lexeme) (s : Survey) (last : Lexeme) → ends_line last ≡ false → survey_rest s last ts ≡ survey_from s ts
 surveyed_going [] s last e = refl
 surveyed_going (t ∷ ts) s last e = rw e refl
 
-pub going_more : (ts : List Lexeme) (i : ℕ) (t : Lexeme) (s whole : Survey) → slice_get ts i ≡ Some t → whole ≡ going s (drop i ts) → whole ≡ surveyed (noted s t) t (drop (i + 1) ts)
-going_more ts i t s whole e p = p ∙ ap (going s) (drop_at ts i t e)
+pub going_more : (ts : List Lexeme) (i : ℕ) (t : Lexeme) (s whole : Survey) → slice_get ts i ≡ Some t → whole ≡ survey_from s (drop i ts) → whole ≡ survey_rest (survey_step s t) t (drop (i + 1) ts)
+going_more ts i t s whole e p = p ∙ ap (survey_from s) (drop_at ts i t e)
 
 -- another token of a line that continues after it
-pub going_on : (ts : List Lexeme) (i : ℕ) (t : Lexeme) (s new whole : Survey) → slice_get ts i ≡ Some t → new ≡ noted s t → ends_line t ≡ false → whole ≡ going s (drop i ts) → whole ≡ going new (drop (i + 1) ts)
-going_on ts i t s new whole e same goes p = going_more ts i t s whole e p ∙ surveyed_going (drop (i + 1) ts) (noted s t) t goes ∙ ap (λ u. going u (drop (i + 1) ts)) (sym same)
+pub going_on : (ts : List Lexeme) (i : ℕ) (t : Lexeme) (s new whole : Survey) → slice_get ts i ≡ Some t → new ≡ survey_step s t → ends_line t ≡ false → whole ≡ survey_from s (drop i ts) → whole ≡ survey_from new (drop (i + 1) ts)
+going_on ts i t s new whole e same goes p = going_more ts i t s whole e p ∙ surveyed_going (drop (i + 1) ts) (survey_step s t) t goes ∙ ap (λ u. survey_from u (drop (i + 1) ts)) (sym same)
 
-pub surveyed_end : (xs : List Lexeme) (last : Lexeme) (s whole : Survey) → ends_line last ≡ true → whole ≡ surveyed s last xs → s ≡ whole
+pub surveyed_end : (xs : List Lexeme) (last : Lexeme) (s whole : Survey) → ends_line last ≡ true → whole ≡ survey_rest s last xs → s ≡ whole
 surveyed_end [] last s whole e p = sym p
 surveyed_end (x ∷ xs) last s whole e p = sym (p ∙ rw e refl)
 
-pub going_out : (ts : List Lexeme) (i : ℕ) (s whole : Survey) → length ts ≤ i → whole ≡ going s (drop i ts) → s ≡ whole
-going_out ts i s whole le p = sym (p ∙ ap (going s) (drop_of_length-le ts le))
+pub going_out : (ts : List Lexeme) (i : ℕ) (s whole : Survey) → length ts ≤ i → whole ≡ survey_from s (drop i ts) → s ≡ whole
+going_out ts i s whole le p = sym (p ∙ ap (survey_from s) (drop_of_length-le ts le))
 
 pub same_token : (ts : List Lexeme) (i : ℕ) (t u : Lexeme) → slice_get ts i ≡ Some t → slice_get ts i ≡ Some u → t ≡ u
 same_token ts i t u p q = some_is t u (sym p ∙ q)
@@ -371,7 +371,7 @@ step_at ts i d step t k e same is more p = steps_deepen t.kind d step (is ∙ ap
 -- ---- a token that needs a closer look, and the tokens after it
 
 module _ (ts : List Lexeme) (at : ℕ) (t : Lexeme) (s new : Survey) where
-  further : new ≡ noted s t → at + s.len + 1 ≡ at + new.len
+  further : new ≡ survey_step s t → at + s.len + 1 ≡ at + new.len
   further same = let len : new.len ≡ s.len + 1 = ap (λ (x : Survey). x.len) same in omega (arith, len)
 
 -- there is a token there

@@ -16,7 +16,7 @@
 //! ```
 ghost use Rattle.std.specs.Prelude.{◌≡◌, ◌≤◌, ◌+◌, ◌*◌, ◌-◌};
 ghost use Rattle.hcl_tokens.specs.Balanced.{max_open};
-ghost use Rattle.hcl_layout.specs.Inner.Depths.{Sound, level_at, next_levels, raised};
+ghost use Rattle.hcl_layout.specs.Inner.Depths.{Sound, level_at, next_levels, with_level};
 
 use hcl_tokens::MAX_OPEN;
 
@@ -27,7 +27,7 @@ pub const DEPTHS: usize = MAX_OPEN + 1;
 fn raise(levels: &mut [u32; DEPTHS], level: u32, from: u32, to: u32)
     requires order { from ≤ to }
     requires within { to ≤ max_open + 1 }
-    ensures { levels.new ≡ raised levels.old level from (to - from) }
+    ensures { levels.new ≡ with_level levels.old level from (to - from) }
 {
     for depth in from..to {
         levels[depth as usize] = level;

@@ -6,7 +6,7 @@ ghost use Rattle.hcl_tokens.specs.declared.token.Kind.TheVariants.{Assign, Inlin
 ghost use Rattle.hcl_tokens.specs.Balanced.{max_open};
 ghost use Rattle.hcl_layout.specs.Cells.{is_multiline};
 ghost use Rattle.hcl_layout.specs.Inner.Depths.{BalancedFrom};
-ghost use Rattle.hcl_layout.specs.Inner.Survey.{AsksMore, IsLine, Notes, NotesAt, NotesFirst, PassesSteps, TellsEnd, body_of, facts_in, facts_of, seen_cell, step_of, survey_of, unseen};
+ghost use Rattle.hcl_layout.specs.Inner.Survey.{AsksMore, IsLine, Notes, NotesAt, NotesFirst, PassesSteps, TellsEnd, body_of, facts_in, facts_of, seen_cell, step_of, survey_of, seen_at_start};
 
 use crate::measured::Measured;
 use hcl_tokens::Kind;
@@ -39,7 +39,7 @@ impl Line {
 
 /// By kind, the depth after a token at depth 1, as a digit: `2` opens, `0` closes, and `1` does neither. A point marks
 /// the kinds that need a closer look.
-static STEPS: [u8; 256] = *b"\
+static DEPTH_STEPS: [u8; 256] = *b"\
     ...111112220000111111.1111111111\
     1111112211......................\
     ................................\
@@ -49,14 +49,14 @@ static STEPS: [u8; 256] = *b"\
     ................................\
     ................................";
 
-pub const MORE: u8 = b'.';
+pub const SPECIAL: u8 = b'.';
 
 /// The effect of a token of the kind on the depth.
 #[inline(always)]
 pub fn step_of(kind: Kind) -> u8
     ensures { result ≡ step_of kind }
 {
-    STEPS[kind as usize]
+    DEPTH_STEPS[kind as usize]
 }
 
 #[inline(always)]
@@ -214,8 +214,8 @@ fn is_torn_by(tokens: &Measured<'_, '_>, number: usize) -> bool
 }
 
 /// The state of a line before a token that needs a closer look.
-fn nothing_seen(multiline: bool) -> Seen
-    ensures { result ≡ unseen multiline }
+fn seen_at_start(multiline: bool) -> Seen
+    ensures { result ≡ seen_at_start multiline }
 {
     Seen {
         sign: None,
@@ -236,13 +236,13 @@ fn read_first(tokens: &Measured<'_, '_>, first: usize, before: u32) -> (Seen, u3
     ensures end { TellsEnd tokens.now.tokens first result.2 }
 {
     let step = step_of(tokens.kind(first));
-    if step != MORE {
-        return (nothing_seen(false), depth_after(before, step), false);
+    if step != SPECIAL {
+        return (seen_at_start(false), depth_after(before, step), false);
     }
     if is_line_end(tokens, first) {
-        return (nothing_seen(false), before, true);
+        return (seen_at_start(false), before, true);
     }
-    (nothing_seen(is_torn_by(tokens, first)), before, false)
+    (seen_at_start(is_torn_by(tokens, first)), before, false)
 }
 
 /// Steps over tokens from a number on that open, close or do neither, and need no closer look. Returns the number of
@@ -260,7 +260,7 @@ fn pass_steps(tokens: &Measured<'_, '_>, from: usize, before: u32) -> (usize, u3
     let mut depth = before;
     while number < count {
         let step = step_of(tokens.kind(number));
-        if step == MORE {
+        if step == SPECIAL {
             return (number, depth);
         }
         depth = depth_after(depth, step);

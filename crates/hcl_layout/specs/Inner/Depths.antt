@@ -33,13 +33,13 @@ abbrev pub level_at : ℕ → ℕ → List ℕ → ℕ
 level_at before now levels = get_or levels (min before now) 0
 
 -- from a depth on, this many depths have this level
-abbrev pub raised : List ℕ → ℕ → ℕ → ℕ → List ℕ
-raised levels level from zero = levels
-raised levels level from (suc n) = raised (slice_set levels from level) level (from + 1) n
+abbrev pub with_level : List ℕ → ℕ → ℕ → ℕ → List ℕ
+with_level levels level from zero = levels
+with_level levels level from (suc n) = with_level (slice_set levels from level) level (from + 1) n
 
 -- the levels after a line
 abbrev pub next_levels : ℕ → ℕ → List ℕ → List ℕ
-next_levels before now levels = raised levels (get_or levels before 0 + 1) (before + 1) (now - before)
+next_levels before now levels = with_level levels (get_or levels before 0 + 1) (before + 1) (now - before)
 
 -- no level is more than its depth
 abbrev pub Sound : ℕ → List ℕ → Type 0

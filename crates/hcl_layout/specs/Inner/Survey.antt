@@ -46,16 +46,16 @@ abbrev pub step_of : Kind → ℕ
 step_of k = if stops k then 46 else 48 + deepen 1 k
 
 -- after the line's first token
-abbrev pub first_noted : ℕ → Lexeme → Survey
-first_noted d t = record { len = 1; depth = deepen d t.kind; multiline = is_multiline t; comment = None; body_depth = deepen d t.kind; sign = None; sign_depth = 0 }
+abbrev pub survey_start : ℕ → Lexeme → Survey
+survey_start d t = record { len = 1; depth = deepen d t.kind; multiline = is_multiline t; comment = None; body_depth = deepen d t.kind; sign = None; sign_depth = 0 }
 
 -- the token is the first sign before the trailing comment
 abbrev pub takes_sign : Survey → Lexeme → Bool
 takes_sign s t = not (is_some s.comment) && not (is_trailing t) && not (is_some s.sign) && is_assignment t
 
 -- after one more token
-abbrev pub noted : Survey → Lexeme → Survey
-noted s t = record {
+abbrev pub survey_step : Survey → Lexeme → Survey
+survey_step s t = record {
   len = s.len + 1;
   depth = deepen s.depth t.kind;
   multiline = s.multiline || is_multiline t;
@@ -66,14 +66,14 @@ noted s t = record {
 }
 
 -- after the rest of the line; `last` is the token before
-abbrev pub surveyed : Survey → Lexeme → List Lexeme → Survey
-surveyed s last [] = s
-surveyed s last (t ∷ ts) = if ends_line last then s else surveyed (noted s t) t ts
+abbrev pub survey_rest : Survey → Lexeme → List Lexeme → Survey
+survey_rest s last [] = s
+survey_rest s last (t ∷ ts) = if ends_line last then s else survey_rest (survey_step s t) t ts
 
 -- after the rest of the line, if the line continues after the token before
-abbrev pub going : Survey → List Lexeme → Survey
-going s [] = s
-going s (t ∷ ts) = surveyed (noted s t) t ts
+abbrev pub survey_from : Survey → List Lexeme → Survey
+survey_from s [] = s
+survey_from s (t ∷ ts) = survey_rest (survey_step s t) t ts
 
 -- the place of the sign, if it begins a cell
 abbrev pub cell_if : Bool → Option ℕ → Option ℕ
@@ -140,12 +140,12 @@ abbrev pub seen_cell : Seen → ℕ → Option ℕ
 seen_cell s depth = cell_if (not s.multiline && (s.sign_depth == body_of s depth)) s.sign
 
 -- only whether the first token holds a newline
-abbrev pub unseen : Bool → Seen
-unseen multiline = record { sign = None; sign_depth = 0; comment = None; body_depth = 0; multiline = multiline }
+abbrev pub seen_at_start : Bool → Seen
+seen_at_start multiline = record { sign = None; sign_depth = 0; comment = None; body_depth = 0; multiline = multiline }
 
 -- another token was passed
 abbrev pub Notes : Seen → ℕ → ℕ → Lexeme → Seen → Type 0
-Notes old number depth t new = (first : ℕ) → first ≤ number → survey_of new depth first (number + 1) ≡ noted (survey_of old depth first number) t
+Notes old number depth t new = (first : ℕ) → first ≤ number → survey_of new depth first (number + 1) ≡ survey_step (survey_of old depth first number) t
 
 -- the token of that number was passed
 abbrev pub NotesAt : List Lexeme → Seen → ℕ → ℕ → Seen → Type 0
@@ -153,7 +153,7 @@ NotesAt ts old number depth new = (t : Lexeme) → slice_get ts number ≡ Some 
 
 -- the first token was passed
 abbrev pub NotesFirst : List Lexeme → ℕ → ℕ → Seen → ℕ → Type 0
-NotesFirst ts first before seen depth = (t : Lexeme) → slice_get ts first ≡ Some t → survey_of seen depth first (first + 1) ≡ first_noted before t
+NotesFirst ts first before seen depth = (t : Lexeme) → slice_get ts first ≡ Some t → survey_of seen depth first (first + 1) ≡ survey_start before t
 
 -- the tokens from one number up to another were passed; none is a cell, tears one or ends the line
 pub record PassesSteps (ts : List Lexeme) (from before number depth : ℕ) : Type 0 where
@@ -161,7 +161,7 @@ pub record PassesSteps (ts : List Lexeme) (from before number depth : ℕ) : Typ
   pub within : number ≤ length ts
   pub balanced : BalancedFrom depth (drop number ts)
   pub low : depth ≤ max_open
-  pub same : (seen : Seen) (first : ℕ) → first ≤ from → going (survey_of seen before first from) (drop from ts) ≡ going (survey_of seen depth first number) (drop number ts)
+  pub same : (seen : Seen) (first : ℕ) → first ≤ from → survey_from (survey_of seen before first from) (drop from ts) ≡ survey_from (survey_of seen depth first number) (drop number ts)
 
 -- the token there needs a closer look
 abbrev pub AsksMore : List Lexeme → ℕ → Type 0

@@ -2,7 +2,7 @@ use Rattle.std.proofs.Common.{◌≡◌, ◌∙◌, ◌+◌, ◌≤◌, ℕ, ap,
 use Rattle.hcl_tokens.specs.Balanced.{max_open}
 use Rattle.hcl_grammar.specs.Items.{deepen}
 use Rattle.hcl_layout.specs.Inner.Depths.{BalancedFrom}
-use Rattle.hcl_layout.specs.Inner.Survey.{Survey, first_noted, noted, survey_of, surveyed}
+use Rattle.hcl_layout.specs.Inner.Survey.{Survey, survey_start, survey_step, survey_of, survey_rest}
 use Rattle.hcl_layout.proofs.NotedKindLemmas.{stopped_level}
 use Rattle.hcl_layout.proofs.SeenLemmas.{line_read, seen_end}
 use Rattle.hcl_layout.proofs.SurveyLemmas.{going_more, going_on, going_out, low_at, rest_at, surveyed_end, surveyed_going, token_at}
@@ -16,9 +16,9 @@ returns-then-ends-clause-line c =
     let found = token_at ts at c.requires.within in
     let t = found.0 in
     let s : Survey = survey_of c.read_first-depth.result.0 c.read_first-depth.result.1 at (at + 1) in
-    let seen : s ≡ first_noted c.args.before t = c.read_first-depth.ensures.seen t found.1 in
+    let seen : s ≡ survey_start c.args.before t = c.read_first-depth.ensures.seen t found.1 in
     line_read ts at c.args.before t c.line.result s found.1 c.len-count.ensures.bounded.tokens c.requires.balanced c.requires.fits c.line.ensures.facts
-    (surveyed_end rest t s (surveyed (first_noted c.args.before t) t rest) (sym (c.read_first-depth.ensures.end t found.1) ∙ c.if-ends.true) (ap (λ x. surveyed x t rest) (sym seen)))
+    (surveyed_end rest t s (survey_rest (survey_start c.args.before t) t rest) (sym (c.read_first-depth.ensures.end t found.1) ∙ c.if-ends.true) (ap (λ x. survey_rest x t rest) (sym seen)))
 
 pub loop-number-init : goal.loop-number-init
 loop-number-init c =
@@ -31,7 +31,7 @@ loop-number-init c =
     let depth : c.read_first-depth.result.1 ≡ deepen d found.0.kind = ap (λ (x : Survey). x.depth) (c.read_first-depth.ensures.seen found.0 found.1) in
     let p = c.pass_steps-number.ensures.passes in
     record {
-      same = λ u e. ap (λ x. surveyed x u rest) (sym (c.read_first-depth.ensures.seen u e)) ∙ surveyed_going rest s u (sym (c.read_first-depth.ensures.end u e) ∙ c.if-ends.false) ∙ p.same c.read_first-depth.result.0 at (omega arith);
+      same = λ u e. ap (λ x. survey_rest x u rest) (sym (c.read_first-depth.ensures.seen u e)) ∙ surveyed_going rest s u (sym (c.read_first-depth.ensures.end u e) ∙ c.if-ends.false) ∙ p.same c.read_first-depth.result.0 at (omega arith);
       more = c.pass_steps-number.ensures.more;
       balanced = p.balanced;
       low = p.low;
@@ -63,11 +63,11 @@ returns-then-is_line_end-clause-line c =
     let here = token_at ts i (omega arith) in
     let u = here.0 in
     let found = token_at ts at c.requires.within in
-    let whole = surveyed (first_noted c.args.before found.0) found.0 (drop (at + 1) ts) in
+    let whole = survey_rest (survey_start c.args.before found.0) found.0 (drop (at + 1) ts) in
     let ends = sym (c.is_line_end.ensures u here.1) ∙ c.if-is_line_end.true in
     line_read ts at c.args.before found.0 c.line-then-is_line_end.result (survey_of seen d at (i + 1)) found.1 c.len-count.ensures.bounded.tokens c.requires.balanced c.requires.fits c.line-then-is_line_end.ensures.facts
     (seen_end seen u d at i (omega (arith, c.loop-number.invariant.order)) ends
-    ∙ surveyed_end (drop (i + 1) ts) u (noted (survey_of seen d at i) u) whole ends (going_more ts i u (survey_of seen d at i) whole here.1 (c.loop-number.invariant.same found.0 found.1)))
+    ∙ surveyed_end (drop (i + 1) ts) u (survey_step (survey_of seen d at i) u) whole ends (going_more ts i u (survey_of seen d at i) whole here.1 (c.loop-number.invariant.same found.0 found.1)))
 
 pub with-seen-requires-clause-on : goal.with-seen-requires-clause-on
 with-seen-requires-clause-on c = λ t e. sym c.if-is_line_end.false ∙ c.is_line_end.ensures t e
@@ -91,7 +91,7 @@ loop-number-preserved c =
     let new : Survey = survey_of c.with-seen.result d at (i + 1) in
     let p = c.pass_steps-here.ensures.passes in
     record {
-      same = λ v e. going_on ts i u old new (surveyed (first_noted c.args.before v) v (drop (at + 1) ts)) here.1 (c.with-seen.ensures u here.1 at (omega (arith, c.loop-number.invariant.order))) (sym (c.is_line_end.ensures u here.1) ∙ c.if-is_line_end.false) (c.loop-number.invariant.same v e)
+      same = λ v e. going_on ts i u old new (survey_rest (survey_start c.args.before v) v (drop (at + 1) ts)) here.1 (c.with-seen.ensures u here.1 at (omega (arith, c.loop-number.invariant.order))) (sym (c.is_line_end.ensures u here.1) ∙ c.if-is_line_end.false) (c.loop-number.invariant.same v e)
           ∙ p.same c.with-seen.result at (omega (arith, c.loop-number.invariant.order));
       more = c.pass_steps-here.ensures.more;
       balanced = p.balanced;
@@ -105,7 +105,7 @@ returns-clause-line c =
     let ts = c.args.tokens.now.tokens in
     let at : ℕ = c.args.first in
     let found = token_at ts at c.requires.within in
-    let whole = surveyed (first_noted c.args.before found.0) found.0 (drop (at + 1) ts) in
+    let whole = survey_rest (survey_start c.args.before found.0) found.0 (drop (at + 1) ts) in
     let s : Survey = survey_of c.loop-number.seen c.loop-number.depth at c.loop-number.number in
     line_read ts at c.args.before found.0 c.line-2.result s found.1 c.len-count.ensures.bounded.tokens c.requires.balanced c.requires.fits c.line-2.ensures.facts
     (going_out ts c.loop-number.number s whole (omega arith) (c.loop-number.invariant.same found.0 found.1))

@@ -5,4 +5,4 @@ pub depth_after-requires-clause-stays : goal.depth_after-requires-clause-stays
 depth_after-requires-clause-stays c =
     let ts = c.args.tokens.now.tokens in
     let found = token_at ts c.args.first c.requires.within in
-    (step_at ts c.args.first c.args.before c.step_of-step.result found.0 c.kind.result found.1 (c.kind.ensures found.0 found.1) c.step_of-step.ensures c.if-step-ne-MORE.true c.requires.balanced).stays
+    (step_at ts c.args.first c.args.before c.step_of-step.result found.0 c.kind.result found.1 (c.kind.ensures found.0 found.1) c.step_of-step.ensures c.if-step-ne-SPECIAL.true c.requires.balanced).stays
