@@ -15,8 +15,8 @@ use Rattle.hcl_layout.specs.Print.{print, printed_text}
 use Rattle.hcl_layout.specs.Inner.Depths.{BalancedFrom, Sound, depth_after, fresh, level_at, next_levels, with_level}
 use Rattle.hcl_layout.specs.Inner.Bounds.{AreApart}
 use Rattle.hcl_layout.specs.Inner.LineGaps.{len_with_blanks}
-use Rattle.hcl_layout.specs.Inner.Rooms.{cells_of, nothing, room_before, room_of, start_of, taken, with_cells, with_line, with_lines}
-use Rattle.hcl_layout.specs.Inner.Stream.{assign_column, assign_widths, comment_column, comment_widths, commented, next_of, plain}
+use Rattle.hcl_layout.specs.Inner.Rooms.{cells_of, no_extent, room_before, room_of, start_of, taken, with_cells, with_line, with_lines}
+use Rattle.hcl_layout.specs.Inner.Stream.{assign_column, assign_widths, comment_column, comment_widths, comment_stream, next_of, plain}
 use Rattle.hcl_layout.specs.declared.bound.Extent.{Extent}
 use Rattle.hcl_layout.proofs.ClusterLemmas.{clusters_few}
 use Rattle.hcl_layout.proofs.LevelLemmas.{next_levels_sound, sound_less}
@@ -303,7 +303,7 @@ cost_more (Some i) (Some j) indent room e g = omega (arith, add-mul e.cells 3 (g
 
 lines_excess : (ls : List Line) (d : ℕ) (levels : List ℕ) (column comment : Option ℕ) (e : Extent) → Fair d levels ls
     → UpTo (last d e.width ls) column → UpTo (2 * last d e.width ls) comment
-    → excess (flat_map (λ g. g) (commented d levels column comment ls)) + cost (last d e.width ls) e ≤ cost (with_lines d ls e).width (with_lines d ls e)
+    → excess (flat_map (λ g. g) (comment_stream d levels column comment ls)) + cost (last d e.width ls) e ≤ cost (with_lines d ls e).width (with_lines d ls e)
 lines_excess [] d levels column comment e p q r = omega arith
 lines_excess (l ∷ ls) d levels column comment e p q r =
     let now = depth_after d l in
@@ -324,7 +324,7 @@ lines_excess (l ∷ ls) d levels column comment e p q r =
     let takes = share b (2 * most) in
     omega (
       arith,
-      excess_append set (flat_map (λ g. g) (commented now then here there ls)),
+      excess_append set (flat_map (λ g. g) (comment_stream now then here there ls)),
       cell_excess takes (trailing_comment l) gs l there (beside h (comment_widths now then here ls) b comment (2 * most) over),
       share_most (trailing_comment l) takes,
       signed_excess d levels l here most p.sound within,
@@ -341,11 +341,11 @@ fresh_sound = (length-replicate {A = ℕ} (max_open + 1) 0, low)
     low zero le = omega arith
     low (suc k) le = absurd (omega arith)
 
-pub print_within : (ts : List Lexeme) → BalancedFrom 0 ts → AreApart 0 ts → length (print ts) ≤ len_with_blanks ts + ((with_lines 0 (lines ts) nothing).passed + taken (with_lines 0 (lines ts) nothing))
+pub print_within : (ts : List Lexeme) → BalancedFrom 0 ts → AreApart 0 ts → length (print ts) ≤ len_with_blanks ts + ((with_lines 0 (lines ts) no_extent).passed + taken (with_lines 0 (lines ts) no_extent))
 print_within ts p q =
     omega (
       arith,
       printed_excess (gaps ts) ts,
       ap excess (gaps_all ts p),
-      lines_excess (lines ts) 0 fresh None None nothing (record { sound = fresh_sound; low = omega arith; balanced = balanced_lines ts 0 p; apart = lines_apart ts 0 q }) tt tt,
+      lines_excess (lines ts) 0 fresh None None no_extent (record { sound = fresh_sound; low = omega arith; balanced = balanced_lines ts 0 p; apart = lines_apart ts 0 q }) tt tt,
     )

@@ -16,9 +16,9 @@ Appends-then (Some a) None c xs ys p q = absurd p
 Appends-then (Some a) (Some b) None xs ys p q = absurd q
 Appends-then (Some a) (Some b) (Some c) xs ys p q = q ∙ ap (λ l. l ++ ys) p ∙ append_assoc a xs ys
 
-pub Appends-nothing : (a : Option (List ℕ)) → Appends a a []
-Appends-nothing None = tt
-Appends-nothing (Some a) = sym (append-nil a)
+pub Appends-no_extent : (a : Option (List ℕ)) → Appends a a []
+Appends-no_extent None = tt
+Appends-no_extent (Some a) = sym (append-nil a)
 
 held_none : (b : Buffer) → b.len ≡ 0 → held b ≡ []
 held_none b e = ap (λ n. take n b.bytes) e
@@ -54,7 +54,7 @@ pub out_all : (base now : Option (List ℕ)) (b : Buffer) (front : List ℕ) →
 out_all base now b front e p = subst (Appends base now) (sym (p.whole ∙ ap (λ l. p.sent ++ l) (held_none b e) ∙ append-nil p.sent)) p.out
 
 pub out_none : (base : Option (List ℕ)) (b : Buffer) → b.len ≡ 0 → b.sent ≡ 0 → Out base base b []
-out_none base b e f = record { sent = []; whole = sym (held_none b e); count = f; out = Appends-nothing base }
+out_none base b e f = record { sent = []; whole = sym (held_none b e); count = f; out = Appends-no_extent base }
 
 pub held_length : (b : Buffer) → b.len ≤ length b.bytes → length (held b) ≡ b.len
 held_length b le = length-take-le b.len b.bytes le

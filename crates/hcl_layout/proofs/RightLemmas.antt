@@ -12,7 +12,7 @@ use Rattle.hcl_layout.specs.Inner.Depths.{next_levels}
 use Rattle.hcl_layout.specs.Inner.Laid.{AreRight, Grows, IsRight, Moves, RunsGrow, column_of, ends_wrong, ends_wrong_at, gaps_after, gaps_on, laid_gaps, shape, signed_gaps, text_of}
 use Rattle.hcl_layout.specs.Inner.Left.{token_before}
 use Rattle.hcl_layout.specs.Inner.LineGaps.{gaps_from, gaps_in}
-use Rattle.hcl_layout.specs.Inner.Stream.{assign_column, assign_widths, assigned_line, comment_column, comment_widths, commented, next_of, plain}
+use Rattle.hcl_layout.specs.Inner.Stream.{assign_column, assign_widths, assign_line, comment_column, comment_widths, comment_stream, next_of, plain}
 use Rattle.hcl_layout.specs.Inner.Survey.{IsLine, facts_in}
 use Rattle.hcl_layout.specs.declared.line.Line.{Line as LineRead}
 use Rattle.hcl_layout.specs.declared.lines.LaidLine.{LaidLine}
@@ -57,7 +57,7 @@ module _ (ts : List Lexeme) (old new : Lines) (r : LineRead) (p : IsLine ts r.fi
   levels' = next_levels old.depth r.depth old.levels
 
   comment_step : (column : Option ℕ) → comment_widths old.depth old.levels column (lines (drop r.first ts))
-      ≡ option_map (λ i. width i (assigned_line old.depth old.levels column t (lines (drop r.first ts))) t) (running_comment t)
+      ≡ option_map (λ i. width i (assign_line old.depth old.levels column t (lines (drop r.first ts))) t) (running_comment t)
       ∷ comment_widths r.depth levels' (assign_column old.depth old.levels column (lines (drop r.first ts))) after
   comment_step column =
       let cut = read_cut ts old.depth r p in
@@ -71,10 +71,10 @@ module _ (ts : List Lexeme) (old new : Lines) (r : LineRead) (p : IsLine ts r.fi
   comment_widths_new : (c : Option ℕ) → comment_widths new.depth new.levels c (lines (drop new.next ts)) ≡ comment_widths r.depth levels' c after
   comment_widths_new c = ap₂ (λ (d : ℕ) (v : List ℕ). comment_widths d v c (lines (drop new.next ts))) m.depth m.levels ∙ ap (λ n. comment_widths r.depth levels' c (lines (drop n ts))) m.next
 
-  gaps_new : gaps_after ts new ≡ flat_map (λ g. g) (commented r.depth levels' (column_of new.signs) (column_of new.comments) after)
+  gaps_new : gaps_after ts new ≡ flat_map (λ g. g) (comment_stream r.depth levels' (column_of new.signs) (column_of new.comments) after)
   gaps_new =
-      ap₂ (λ (d : ℕ) (v : List ℕ). flat_map (λ g. g) (commented d v (column_of new.signs) (column_of new.comments) (lines (drop new.next ts)))) m.depth m.levels
-      ∙ ap (λ n. flat_map (λ g. g) (commented r.depth levels' (column_of new.signs) (column_of new.comments) (lines (drop n ts)))) m.next
+      ap₂ (λ (d : ℕ) (v : List ℕ). flat_map (λ g. g) (comment_stream d v (column_of new.signs) (column_of new.comments) (lines (drop new.next ts)))) m.depth m.levels
+      ∙ ap (λ n. flat_map (λ g. g) (comment_stream r.depth levels' (column_of new.signs) (column_of new.comments) (lines (drop n ts)))) m.next
 
   -- the rest of the print, if the columns are those of the definition
   left_step : column_of new.signs ≡ assign_column old.depth old.levels (column_of old.signs) (lines (drop r.first ts))
@@ -82,11 +82,11 @@ module _ (ts : List Lexeme) (old new : Lines) (r : LineRead) (p : IsLine ts r.fi
       → gaps_after ts old ≡ laid_gaps old new t ++ gaps_after ts new
   left_step c k =
       let cut = read_cut ts old.depth r p in
-      ap (λ n. flat_map (λ g. g) (commented old.depth old.levels (column_of old.signs) (column_of old.comments) (lines (drop n ts)))) (sym at)
-      ∙ ap (λ ls. flat_map (λ g. g) (commented old.depth old.levels (column_of old.signs) (column_of old.comments) ls)) cut
+      ap (λ n. flat_map (λ g. g) (comment_stream old.depth old.levels (column_of old.signs) (column_of old.comments) (lines (drop n ts)))) (sym at)
+      ∙ ap (λ ls. flat_map (λ g. g) (comment_stream old.depth old.levels (column_of old.signs) (column_of old.comments) ls)) cut
       ∙ ap (λ d. align trailing_comment (align assign_cell (plain old.depth old.levels t) t (assign_column old.depth old.levels (column_of old.signs) (t ∷ after))) t (comment_column old.depth old.levels (column_of old.signs) (column_of old.comments) (t ∷ after))
-      ++ flat_map (λ g. g) (commented d (next_levels old.depth d old.levels) (assign_column old.depth old.levels (column_of old.signs) (t ∷ after)) (comment_column old.depth old.levels (column_of old.signs) (column_of old.comments) (t ∷ after)) after)) (sym p.depth)
-      ∙ ap₂ (λ (x y : Option ℕ). align trailing_comment (align assign_cell (plain old.depth old.levels t) t x) t y ++ flat_map (λ g. g) (commented r.depth levels' x y after))
+      ++ flat_map (λ g. g) (comment_stream d (next_levels old.depth d old.levels) (assign_column old.depth old.levels (column_of old.signs) (t ∷ after)) (comment_column old.depth old.levels (column_of old.signs) (column_of old.comments) (t ∷ after)) after)) (sym p.depth)
+      ∙ ap₂ (λ (x y : Option ℕ). align trailing_comment (align assign_cell (plain old.depth old.levels t) t x) t y ++ flat_map (λ g. g) (comment_stream r.depth levels' x y after))
       (sym (c ∙ ap (assign_column old.depth old.levels (column_of old.signs)) cut)) (sym (k ∙ ap (comment_column old.depth old.levels (column_of old.signs) (column_of old.comments)) cut))
       ∙ ap (λ gs. laid_gaps old new t ++ gs) (sym gaps_new)
 

@@ -13,7 +13,7 @@ use Rattle.hcl_layout.specs.Gaps.{aligned_gaps, aligned_gaps_by, align, gaps, in
 use Rattle.hcl_tokens.specs.Balanced.{is_closer, is_opener, max_open}
 use Rattle.hcl_layout.specs.Levels.{Net, is_above, levels, net_of, no_net, plus}
 use Rattle.hcl_layout.specs.Lines.{Line, ends_line, lines, onto_line}
-use Rattle.hcl_layout.specs.Inner.Stream.{assign_column, assign_widths, assigned, comment_column, comment_widths, commented, leveled, plain}
+use Rattle.hcl_layout.specs.Inner.Stream.{assign_column, assign_widths, assign_stream, comment_column, comment_widths, comment_stream, level_stream, plain}
 use Rattle.hcl_layout.proofs.BalanceLemmas.{disjoint}
 use Rattle.hcl_layout.proofs.ColumnLemmas.{columns_at, before_run}
 use Rattle.hcl_layout.proofs.LevelLemmas.{Counted, Is, above_is, count, deeper_is, filter_higher, filter_lower, groups_then, is_deeper, levels_from, levels_of_state, next_levels_above, next_levels_before, next_levels_length}
@@ -141,7 +141,7 @@ level_is d e sum now groups levels p q c = go (nat_lt d e) refl
         c.below e now q (grind arith) ∙ ap (λ k. get_or levels k 0) (sym least)
 
 leveled_is : (ls : List Line) (d : ℕ) (s : Net) (groups : List Net) (levels : List ℕ) → Is d s → Counted d groups levels → d ≤ max_open → BalancedLines d ls
-    → zip_with plain_gaps (levels_from s groups (map net_of ls)) ls ≡ leveled d levels ls
+    → zip_with plain_gaps (levels_from s groups (map net_of ls)) ls ≡ level_stream d levels ls
 leveled_is [] d s groups levels p c low r = refl
 leveled_is (l ∷ ls) d s groups levels p c low r =
     let now : Is (depth_after d l) (plus s (net_of l)) = after_is l d s p r.0 in
@@ -155,7 +155,7 @@ zeros_get zero k = refl
 zeros_get (suc n) zero = refl
 zeros_get (suc n) (suc k) = zeros_get n k
 
-pub leveled_all : (ls : List Line) → BalancedLines 0 ls → indented_gaps ls ≡ leveled 0 fresh ls
+pub leveled_all : (ls : List Line) → BalancedLines 0 ls → indented_gaps ls ≡ level_stream 0 fresh ls
 leveled_all ls p =
     ap (λ k. zip_with plain_gaps k ls) (levels_of_state [] (map net_of ls))
     ∙ leveled_is ls 0 no_net [] fresh refl (record { room = length-replicate {A = ℕ} (max_open + 1) 0; below = λ k m r low. sym (zeros_get (max_open + 1) k); all = λ k m r high. refl }) (omega arith) p
@@ -163,31 +163,31 @@ leveled_all ls p =
 -- ---- runs
 
 assigned_is : (ls : List Line) (d : ℕ) (levels : List ℕ) (column : Option ℕ)
-    → aligned_gaps_by assign_cell (leveled d levels ls) ls (columns_at column (assign_widths d levels ls)) ≡ assigned d levels column ls
+    → aligned_gaps_by assign_cell (level_stream d levels ls) ls (columns_at column (assign_widths d levels ls)) ≡ assign_stream d levels column ls
 assigned_is [] d levels column = refl
 assigned_is (l ∷ ls) d levels column =
     ap (λ r. align assign_cell (plain d levels l) l (assign_column d levels column (l ∷ ls)) ∷ r)
     (assigned_is ls (depth_after d l) (next_levels d (depth_after d l) levels) (assign_column d levels column (l ∷ ls)))
 
 commented_is : (ls : List Line) (d : ℕ) (levels : List ℕ) (column comment : Option ℕ)
-    → aligned_gaps_by trailing_comment (assigned d levels column ls) ls (columns_at comment (comment_widths d levels column ls)) ≡ commented d levels column comment ls
+    → aligned_gaps_by trailing_comment (assign_stream d levels column ls) ls (columns_at comment (comment_widths d levels column ls)) ≡ comment_stream d levels column comment ls
 commented_is [] d levels column comment = refl
 commented_is (l ∷ ls) d levels column comment =
     ap (λ r. align trailing_comment (align assign_cell (plain d levels l) l (assign_column d levels column (l ∷ ls))) l (comment_column d levels column comment (l ∷ ls)) ∷ r)
     (commented_is ls (depth_after d l) (next_levels d (depth_after d l) levels) (assign_column d levels column (l ∷ ls)) (comment_column d levels column comment (l ∷ ls)))
 
-assigned_all : (ls : List Line) → BalancedLines 0 ls → aligned_gaps assign_cell assign_cell (indented_gaps ls) ls ≡ assigned 0 fresh None ls
+assigned_all : (ls : List Line) → BalancedLines 0 ls → aligned_gaps assign_cell assign_cell (indented_gaps ls) ls ≡ assign_stream 0 fresh None ls
 assigned_all ls p =
     ap (λ g. aligned_gaps assign_cell assign_cell g ls) (leveled_all ls p)
-    ∙ ap (λ c. aligned_gaps_by assign_cell (leveled 0 fresh ls) ls c) (before_run (assign_widths 0 fresh ls))
+    ∙ ap (λ c. aligned_gaps_by assign_cell (level_stream 0 fresh ls) ls c) (before_run (assign_widths 0 fresh ls))
     ∙ assigned_is ls 0 fresh None
 
-commented_all : (ls : List Line) → BalancedLines 0 ls → line_gaps ls ≡ commented 0 fresh None None ls
+commented_all : (ls : List Line) → BalancedLines 0 ls → line_gaps ls ≡ comment_stream 0 fresh None None ls
 commented_all ls p =
     ap (λ g. aligned_gaps trailing_comment running_comment g ls) (assigned_all ls p)
-    ∙ ap (λ c. aligned_gaps_by trailing_comment (assigned 0 fresh None ls) ls c) (before_run (comment_widths 0 fresh None ls))
+    ∙ ap (λ c. aligned_gaps_by trailing_comment (assign_stream 0 fresh None ls) ls c) (before_run (comment_widths 0 fresh None ls))
     ∙ commented_is ls 0 fresh None None
 
 -- the gaps of the text are those of the remaining lines at its beginning
-pub gaps_all : (ts : List Lexeme) → BalancedFrom 0 ts → gaps ts ≡ flat_map (λ g. g) (commented 0 fresh None None (lines ts))
+pub gaps_all : (ts : List Lexeme) → BalancedFrom 0 ts → gaps ts ≡ flat_map (λ g. g) (comment_stream 0 fresh None None (lines ts))
 gaps_all ts p = ap (flat_map (λ g. g)) (commented_all (lines ts) (balanced_lines ts 0 p))

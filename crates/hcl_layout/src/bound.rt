@@ -118,7 +118,7 @@ fn bound(tokens: &Measured<'_, '_>) -> u64
 pub fn fits(accepted: &Accepted<'_, '_>, most: u64) -> bool
     ensures { IsTrue result ↔ (length (print accepted.now.tokens) ≤ most) }
 {
-    let tokens = Measured::unmeasured(accepted);
+    let tokens = Measured::without_widths(accepted);
     if tokens.len_bound() <= most && bound(&tokens) <= most {
         return true;
     }

@@ -81,7 +81,7 @@ fn is_wrong(run: Option<Run>) -> bool
 }
 
 /// The run with another line, by the width before its cell.
-fn widened(column: u64, run: Option<Run>, width: u64) -> Run
+fn run_with(column: u64, run: Option<Run>, width: u64) -> Run
     ensures column { result.column ≡ column }
     ensures greatest { result.greatest ≡ greatest_of run width }
 {
@@ -443,7 +443,7 @@ impl Lines {
         };
         let width = laid.sign_width(tokens, number);
         let column = self.sign_column(tokens, number, width);
-        self.signs = Some(widened(column, self.signs, width));
+        self.signs = Some(run_with(column, self.signs, width));
         laid.with_sign(number, width, column)
     }
 
@@ -533,7 +533,7 @@ impl Lines {
             return laid.with_comment(number, width, width);
         }
         let column = self.comment_column(tokens, number, width);
-        self.comments = Some(widened(column, self.comments, width));
+        self.comments = Some(run_with(column, self.comments, width));
         laid.with_comment(number, width, column)
     }
 

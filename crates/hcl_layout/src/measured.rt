@@ -163,7 +163,7 @@ impl<'t, 's> Measured<'t, 's> {
     }
 
     /// The tokens for a caller that needs no width, and so no look at the source.
-    pub fn unmeasured(accepted: &Accepted<'t, 's>) -> Measured<'t, 's>
+    pub fn without_widths(accepted: &Accepted<'t, 's>) -> Measured<'t, 's>
         ensures same { result ≡ accepted.now }
         ensures balanced { IsBalanced accepted.now.tokens }
     {

@@ -11,9 +11,9 @@ use Rattle.hcl_layout.specs.Print.{printed_text}
 use Rattle.hcl_layout.specs.Inner.Depths.{fresh, level_at, next_levels}
 use Rattle.hcl_layout.specs.Inner.Left.{gap_before, token_before}
 use Rattle.hcl_layout.specs.Inner.LineGaps.{Cell, LineGaps, gaps_from, gaps_in}
-use Rattle.hcl_layout.specs.Inner.Stream.{assign_column, assign_width, assign_widths, comment_column, comment_widths, commented, next_of, plain}
+use Rattle.hcl_layout.specs.Inner.Stream.{assign_column, assign_width, assign_widths, comment_column, comment_widths, comment_stream, next_of, plain}
 use Rattle.hcl_layout.specs.Inner.Survey.{IsLine, facts_in}
-use Rattle.hcl_layout.specs.Inner.Walks.{HasCome, Walk, comment_widths_at, sign_widths_at}
+use Rattle.hcl_layout.specs.Inner.Walks.{IsWalkAt, Walk, comment_widths_at, sign_widths_at}
 use Rattle.hcl_layout.specs.declared.line.Line.{Line as LineRead}
 use Rattle.hcl_layout.specs.declared.lines.Cell.{Cell as CellLaid}
 use Rattle.hcl_layout.specs.declared.lines.Columns.{Columns}
@@ -100,7 +100,7 @@ no_lines columns = record { next = 0; depth = 0; levels = fresh; signs = None; c
 
 -- the passed lines end before the next token
 pub record IsAt (ts : List Lexeme) (s : Lines) : Type 0 where
-  pub come : HasCome ts s.next (walk_of s)
+  pub come : IsWalkAt ts s.next (walk_of s)
   pub within : s.next ≤ length ts
   pub few : length ts ≤ 2 ^ 22
 
@@ -228,7 +228,7 @@ pub record RunsGrow (old : Lines) (l : Line) (new : Lines) : Type 0 where
 
 -- the gaps of the following lines
 abbrev pub gaps_after : List Lexeme → Lines → List ℕ
-gaps_after ts s = flat_map (λ g. g) (commented s.depth s.levels (column_of s.signs) (column_of s.comments) (lines (drop s.next ts)))
+gaps_after ts s = flat_map (λ g. g) (comment_stream s.depth s.levels (column_of s.signs) (column_of s.comments) (lines (drop s.next ts)))
 
 abbrev pub left_after : List Lexeme → Lines → List ℕ
 left_after ts s = printed_text (gaps_after ts s) (drop s.next ts)

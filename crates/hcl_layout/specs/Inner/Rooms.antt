@@ -55,8 +55,8 @@ abbrev pub with_line_at : List Lexeme → ℕ → LineRead → Extent → Extent
 with_line_at ts d r e = with_line d (text_at ts r.first (facts_in r)) e
 
 -- without a line
-abbrev pub nothing : Extent
-nothing = record { passed = 0; cells = 0; width = 0 }
+abbrev pub no_extent : Extent
+no_extent = record { passed = 0; cells = 0; width = 0 }
 
 -- no wider than a source can have it
 abbrev pub widest_room : ℕ

@@ -21,38 +21,38 @@ next_of (Some column) (Some width ∷ rest) = Some column
 abbrev pub plain : ℕ → List ℕ → Line → List ℕ
 plain d levels l = plain_gaps (level_at d (depth_after d l) levels) l
 
-abbrev pub leveled : ℕ → List ℕ → List Line → List (List ℕ)
-leveled d levels [] = []
-leveled d levels (l ∷ ls) = plain d levels l ∷ leveled (depth_after d l) (next_levels d (depth_after d l) levels) ls
+abbrev pub level_stream : ℕ → List ℕ → List Line → List (List ℕ)
+level_stream d levels [] = []
+level_stream d levels (l ∷ ls) = plain d levels l ∷ level_stream (depth_after d l) (next_levels d (depth_after d l) levels) ls
 
 abbrev pub assign_widths : ℕ → List ℕ → List Line → List (Option ℕ)
-assign_widths d levels ls = widths assign_cell (leveled d levels ls) ls
+assign_widths d levels ls = widths assign_cell (level_stream d levels ls) ls
 
 -- the column of the first line's assign cell
 abbrev pub assign_column : ℕ → List ℕ → Option ℕ → List Line → Option ℕ
 assign_column d levels column ls = next_of column (assign_widths d levels ls)
 
 -- the first line with its assign cell in that column
-abbrev pub assigned_line : ℕ → List ℕ → Option ℕ → Line → List Line → List ℕ
-assigned_line d levels column l ls = align assign_cell (plain d levels l) l (assign_column d levels column ls)
+abbrev pub assign_line : ℕ → List ℕ → Option ℕ → Line → List Line → List ℕ
+assign_line d levels column l ls = align assign_cell (plain d levels l) l (assign_column d levels column ls)
 
-abbrev pub assigned : ℕ → List ℕ → Option ℕ → List Line → List (List ℕ)
-assigned d levels column [] = []
-assigned d levels column (l ∷ ls) =
+abbrev pub assign_stream : ℕ → List ℕ → Option ℕ → List Line → List (List ℕ)
+assign_stream d levels column [] = []
+assign_stream d levels column (l ∷ ls) =
     align assign_cell (plain d levels l) l (assign_column d levels column (l ∷ ls))
-    ∷ assigned (depth_after d l) (next_levels d (depth_after d l) levels) (assign_column d levels column (l ∷ ls)) ls
+    ∷ assign_stream (depth_after d l) (next_levels d (depth_after d l) levels) (assign_column d levels column (l ∷ ls)) ls
 
 abbrev pub comment_widths : ℕ → List ℕ → Option ℕ → List Line → List (Option ℕ)
-comment_widths d levels column ls = widths running_comment (assigned d levels column ls) ls
+comment_widths d levels column ls = widths running_comment (assign_stream d levels column ls) ls
 
 abbrev pub comment_column : ℕ → List ℕ → Option ℕ → Option ℕ → List Line → Option ℕ
 comment_column d levels column comment ls = next_of comment (comment_widths d levels column ls)
 
-abbrev pub commented : ℕ → List ℕ → Option ℕ → Option ℕ → List Line → List (List ℕ)
-commented d levels column comment [] = []
-commented d levels column comment (l ∷ ls) =
+abbrev pub comment_stream : ℕ → List ℕ → Option ℕ → Option ℕ → List Line → List (List ℕ)
+comment_stream d levels column comment [] = []
+comment_stream d levels column comment (l ∷ ls) =
     align trailing_comment (align assign_cell (plain d levels l) l (assign_column d levels column (l ∷ ls))) l (comment_column d levels column comment (l ∷ ls))
-    ∷ commented (depth_after d l) (next_levels d (depth_after d l) levels) (assign_column d levels column (l ∷ ls)) (comment_column d levels column comment (l ∷ ls)) ls
+    ∷ comment_stream (depth_after d l) (next_levels d (depth_after d l) levels) (assign_column d levels column (l ∷ ls)) (comment_column d levels column comment (l ∷ ls)) ls
 
 -- ---- the widths of the first line
 
@@ -62,4 +62,4 @@ assign_width d levels l = option_map (λ i. width i (plain d levels l) l) (assig
 
 -- the width before the comment, if the line is part of runs of comments
 abbrev pub comment_width : ℕ → List ℕ → Option ℕ → Line → List Line → Option ℕ
-comment_width d levels column l ls = option_map (λ i. width i (assigned_line d levels column l ls) l) (running_comment l)
+comment_width d levels column l ls = option_map (λ i. width i (assign_line d levels column l ls) l) (running_comment l)

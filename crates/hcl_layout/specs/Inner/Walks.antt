@@ -14,14 +14,14 @@ pub record Walk : Type 0 where
   pub comments : Option ℕ
 
 -- the rest is balanced from the current depth on, and the levels fit it
-pub record Stands (ts : List Lexeme) (at d : ℕ) (levels : List ℕ) : Type 0 where
+pub record IsBalancedAt (ts : List Lexeme) (at d : ℕ) (levels : List ℕ) : Type 0 where
   pub balanced : BalancedFrom d (drop at ts)
   pub low : d ≤ max_open
   pub sound : Sound d levels
 
 -- a walk has reached a token, and its columns are no wider than a source can have them
-pub record HasCome (ts : List Lexeme) (at : ℕ) (w : Walk) : Type 0 where
-  pub stands : Stands ts at w.depth w.levels
+pub record IsWalkAt (ts : List Lexeme) (at : ℕ) (w : Walk) : Type 0 where
+  pub stands : IsBalancedAt ts at w.depth w.levels
   pub signs : IfSome w.signs (λ c. c < 2 ^ 33)
   pub comments : IfSome w.comments (λ c. c < 2 ^ 34)
 

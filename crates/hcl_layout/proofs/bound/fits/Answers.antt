@@ -6,4 +6,4 @@ use Rattle.hcl_layout.proofs.bound.fits.Goals as goal
 
 pub bound-requires : goal.bound-requires
 bound-requires c =
-    record { balanced = balanced_from c.unmeasured-tokens.result.tokens (subst (λ (s : Scanned). IsBalanced s.tokens) (sym c.unmeasured-tokens.ensures.same) c.unmeasured-tokens.ensures.balanced) }
+    record { balanced = balanced_from c.without_widths-tokens.result.tokens (subst (λ (s : Scanned). IsBalanced s.tokens) (sym c.without_widths-tokens.ensures.same) c.without_widths-tokens.ensures.balanced) }

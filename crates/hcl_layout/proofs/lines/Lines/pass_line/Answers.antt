@@ -92,7 +92,7 @@ returns-clause-gaps c =
     let e = c.pass_sign-laid.ensures in
     let text : List _ = text_of ts b in
     let here : n < b.end = omega (arith, e.spans.1, comment_in ts s.depth r p n c.in-Some.is) in
-    subst (λ (x : LaidLine). gaps_in (shape x) (text_of ts x) ≡ align trailing_comment (signed_gaps s c.pass_sign-laid.new.self (text_of ts x)) (text_of ts x) (Some c.widened.result.column)) (sym c.with_comment-2.ensures)
+    subst (λ (x : LaidLine). gaps_in (shape x) (text_of ts x) ≡ align trailing_comment (signed_gaps s c.pass_sign-laid.new.self (text_of ts x)) (text_of ts x) (Some c.run_with.result.column)) (sym c.with_comment-2.ensures)
     (commented_gaps ts b n w (column - w + 1) (Some column) e.signed here (comment_at ts s.depth r b n p e.spans.0 e.spans.1 c.in-Some.is) (ap (λ k. column - k + 1) c.comment_width-width.ensures.value)
     ∙ ap (λ (gs : List ℕ). align trailing_comment gs text (Some column)) e.gaps
-    ∙ ap (λ (k : ℕ). align trailing_comment (signed_gaps s c.pass_sign-laid.new.self text) text (Some k)) (sym c.widened.ensures.column))
+    ∙ ap (λ (k : ℕ). align trailing_comment (signed_gaps s c.pass_sign-laid.new.self text) text (Some k)) (sym c.run_with.ensures.column))

@@ -102,6 +102,6 @@ returns-clause-gaps c =
     let column = c.sign_column-column.result in
     let gap : ℕ = column - w + 1 in
     let own = c.sign_width-width.ensures.value ∙ ap (λ (b : LaidLine). width (n - b.first) (plain_gaps b.level (text_of ts b)) (text_of ts b)) laid in
-    subst (λ (x : LaidLine). gaps_in (shape x) (text_of ts x) ≡ align assign_cell (plain s.depth s.levels (text_of ts x)) (text_of ts x) (Some c.widened.result.column)) (sym (c.with_sign.ensures ∙ ap (λ (b : LaidLine). with_sign_at b n w gap) laid))
+    subst (λ (x : LaidLine). gaps_in (shape x) (text_of ts x) ≡ align assign_cell (plain s.depth s.levels (text_of ts x)) (text_of ts x) (Some c.run_with.result.column)) (sym (c.with_sign.ensures ∙ ap (λ (b : LaidLine). with_sign_at b n w gap) laid))
     (set_gaps ts s.depth r p s.levels level low refl n w gap c.in-Some.is own column refl
-    ∙ ap (λ (k : ℕ). align assign_cell (plain s.depth s.levels (text_in ts r)) (text_in ts r) (Some k)) (sym c.widened.ensures.column))
+    ∙ ap (λ (k : ℕ). align assign_cell (plain s.depth s.levels (text_in ts r)) (text_in ts r) (Some k)) (sym c.run_with.ensures.column))

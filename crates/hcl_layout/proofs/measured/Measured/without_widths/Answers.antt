@@ -1,6 +1,6 @@
 use Rattle.std.proofs.Common.{rules, ap, arith, length}
 use Rattle.hcl_layout.proofs.SizeLemmas.{scanned_apart, scanned_len_with_blanks}
-use Rattle.hcl_layout.proofs.measured.Measured.unmeasured.Goals as goal
+use Rattle.hcl_layout.proofs.measured.Measured.without_widths.Goals as goal
 
 pub invariant_of-result : goal.invariant_of-result
 invariant_of-result c =
