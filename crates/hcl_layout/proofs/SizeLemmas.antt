@@ -20,54 +20,54 @@ hidden_length (h ∷ hidden) = length h.closer + length h.after + hidden_length 
 abbrev left_length : State → ℕ
 left_length s = length s.seen + hidden_length s.hidden
 
-goes_on : (rest : List ℕ) (hidden : List Hidden) (seen : List ℕ) (after : List Hidden) → (seen ≡ rest) × (after ≡ hidden) → length seen + hidden_length after ≡ length rest + hidden_length hidden
-goes_on rest hidden seen after p = omega (arith, ap length p.0, ap hidden_length p.1)
+stays_in_place : (rest : List ℕ) (hidden : List Hidden) (seen : List ℕ) (after : List Hidden) → (seen ≡ rest) × (after ≡ hidden) → length seen + hidden_length after ≡ length rest + hidden_length hidden
+stays_in_place rest hidden seen after p = omega (arith, ap length p.0, ap hidden_length p.1)
 
 shows_length : (k : Kind) (text rest : List ℕ) (hidden : List Hidden) (seen : List ℕ) (after : List Hidden) → Leaves k text rest hidden seen after
     → length seen + hidden_length after ≡ length rest + hidden_length hidden
-shows_length kind.Newline text rest hidden seen after p = goes_on rest hidden seen after p
-shows_length kind.LineComment text rest hidden seen after p = goes_on rest hidden seen after p
-shows_length kind.InlineComment text rest hidden seen after p = goes_on rest hidden seen after p
-shows_length kind.Blank text rest hidden seen after p = goes_on rest hidden seen after p
-shows_length kind.Ident text rest hidden seen after p = goes_on rest hidden seen after p
-shows_length kind.Number text rest hidden seen after p = goes_on rest hidden seen after p
+shows_length kind.Newline text rest hidden seen after p = stays_in_place rest hidden seen after p
+shows_length kind.LineComment text rest hidden seen after p = stays_in_place rest hidden seen after p
+shows_length kind.InlineComment text rest hidden seen after p = stays_in_place rest hidden seen after p
+shows_length kind.Blank text rest hidden seen after p = stays_in_place rest hidden seen after p
+shows_length kind.Ident text rest hidden seen after p = stays_in_place rest hidden seen after p
+shows_length kind.Number text rest hidden seen after p = stays_in_place rest hidden seen after p
 shows_length kind.HeredocOpen text rest hidden seen after p =
     omega (arith, ap length p.2, ap hidden_length p.3, cut_length p.0 rest, cut_length (closer_len (marker_of text) (drop p.0 rest)) (drop p.0 rest))
-shows_length kind.QuoteOpen text rest hidden seen after p = goes_on rest hidden seen after p
-shows_length kind.ParenOpen text rest hidden seen after p = goes_on rest hidden seen after p
-shows_length kind.BracketOpen text rest hidden seen after p = goes_on rest hidden seen after p
-shows_length kind.BraceOpen text rest hidden seen after p = goes_on rest hidden seen after p
-shows_length kind.ParenClose text rest hidden seen after p = goes_on rest hidden seen after p
-shows_length kind.BracketClose text rest hidden seen after p = goes_on rest hidden seen after p
-shows_length kind.SeqClose text rest hidden seen after p = goes_on rest hidden seen after p
-shows_length kind.BraceClose text rest hidden seen after p = goes_on rest hidden seen after p
-shows_length kind.Dot text rest hidden seen after p = goes_on rest hidden seen after p
-shows_length kind.Comma text rest hidden seen after p = goes_on rest hidden seen after p
-shows_length kind.Ellipsis text rest hidden seen after p = goes_on rest hidden seen after p
-shows_length kind.Question text rest hidden seen after p = goes_on rest hidden seen after p
-shows_length kind.Colon text rest hidden seen after p = goes_on rest hidden seen after p
-shows_length kind.ColonColon text rest hidden seen after p = goes_on rest hidden seen after p
-shows_length kind.Assign text rest hidden seen after p = goes_on rest hidden seen after p
-shows_length kind.Arrow text rest hidden seen after p = goes_on rest hidden seen after p
-shows_length kind.Not text rest hidden seen after p = goes_on rest hidden seen after p
-shows_length kind.Minus text rest hidden seen after p = goes_on rest hidden seen after p
-shows_length kind.Plus text rest hidden seen after p = goes_on rest hidden seen after p
-shows_length kind.Star text rest hidden seen after p = goes_on rest hidden seen after p
-shows_length kind.Slash text rest hidden seen after p = goes_on rest hidden seen after p
-shows_length kind.Percent text rest hidden seen after p = goes_on rest hidden seen after p
-shows_length kind.And text rest hidden seen after p = goes_on rest hidden seen after p
-shows_length kind.Or text rest hidden seen after p = goes_on rest hidden seen after p
-shows_length kind.Equal text rest hidden seen after p = goes_on rest hidden seen after p
-shows_length kind.NotEqual text rest hidden seen after p = goes_on rest hidden seen after p
-shows_length kind.Less text rest hidden seen after p = goes_on rest hidden seen after p
-shows_length kind.Greater text rest hidden seen after p = goes_on rest hidden seen after p
-shows_length kind.LessEqual text rest hidden seen after p = goes_on rest hidden seen after p
-shows_length kind.GreaterEqual text rest hidden seen after p = goes_on rest hidden seen after p
-shows_length kind.Lit text rest hidden seen after p = goes_on rest hidden seen after p
-shows_length kind.InterpOpen text rest hidden seen after p = goes_on rest hidden seen after p
-shows_length kind.ControlOpen text rest hidden seen after p = goes_on rest hidden seen after p
-shows_length kind.QuoteClose text rest hidden seen after p = goes_on rest hidden seen after p
-shows_length kind.HeredocClose text rest hidden seen after p = goes_on rest hidden seen after p
+shows_length kind.QuoteOpen text rest hidden seen after p = stays_in_place rest hidden seen after p
+shows_length kind.ParenOpen text rest hidden seen after p = stays_in_place rest hidden seen after p
+shows_length kind.BracketOpen text rest hidden seen after p = stays_in_place rest hidden seen after p
+shows_length kind.BraceOpen text rest hidden seen after p = stays_in_place rest hidden seen after p
+shows_length kind.ParenClose text rest hidden seen after p = stays_in_place rest hidden seen after p
+shows_length kind.BracketClose text rest hidden seen after p = stays_in_place rest hidden seen after p
+shows_length kind.SeqClose text rest hidden seen after p = stays_in_place rest hidden seen after p
+shows_length kind.BraceClose text rest hidden seen after p = stays_in_place rest hidden seen after p
+shows_length kind.Dot text rest hidden seen after p = stays_in_place rest hidden seen after p
+shows_length kind.Comma text rest hidden seen after p = stays_in_place rest hidden seen after p
+shows_length kind.Ellipsis text rest hidden seen after p = stays_in_place rest hidden seen after p
+shows_length kind.Question text rest hidden seen after p = stays_in_place rest hidden seen after p
+shows_length kind.Colon text rest hidden seen after p = stays_in_place rest hidden seen after p
+shows_length kind.ColonColon text rest hidden seen after p = stays_in_place rest hidden seen after p
+shows_length kind.Assign text rest hidden seen after p = stays_in_place rest hidden seen after p
+shows_length kind.Arrow text rest hidden seen after p = stays_in_place rest hidden seen after p
+shows_length kind.Not text rest hidden seen after p = stays_in_place rest hidden seen after p
+shows_length kind.Minus text rest hidden seen after p = stays_in_place rest hidden seen after p
+shows_length kind.Plus text rest hidden seen after p = stays_in_place rest hidden seen after p
+shows_length kind.Star text rest hidden seen after p = stays_in_place rest hidden seen after p
+shows_length kind.Slash text rest hidden seen after p = stays_in_place rest hidden seen after p
+shows_length kind.Percent text rest hidden seen after p = stays_in_place rest hidden seen after p
+shows_length kind.And text rest hidden seen after p = stays_in_place rest hidden seen after p
+shows_length kind.Or text rest hidden seen after p = stays_in_place rest hidden seen after p
+shows_length kind.Equal text rest hidden seen after p = stays_in_place rest hidden seen after p
+shows_length kind.NotEqual text rest hidden seen after p = stays_in_place rest hidden seen after p
+shows_length kind.Less text rest hidden seen after p = stays_in_place rest hidden seen after p
+shows_length kind.Greater text rest hidden seen after p = stays_in_place rest hidden seen after p
+shows_length kind.LessEqual text rest hidden seen after p = stays_in_place rest hidden seen after p
+shows_length kind.GreaterEqual text rest hidden seen after p = stays_in_place rest hidden seen after p
+shows_length kind.Lit text rest hidden seen after p = stays_in_place rest hidden seen after p
+shows_length kind.InterpOpen text rest hidden seen after p = stays_in_place rest hidden seen after p
+shows_length kind.ControlOpen text rest hidden seen after p = stays_in_place rest hidden seen after p
+shows_length kind.QuoteClose text rest hidden seen after p = stays_in_place rest hidden seen after p
+shows_length kind.HeredocClose text rest hidden seen after p = stays_in_place rest hidden seen after p
 
 reads_length : (s : State) (t : Lexeme) (next : State) → Reads s t next → length t.text + left_length next ≤ left_length s
 reads_length s t next p =

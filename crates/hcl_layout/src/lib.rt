@@ -34,5 +34,5 @@ mod writer;
 
 pub use bound::fits;
 pub use hcl_spacing::space_between;
-pub use print::{is_formatted, is_found_formatted, printed_len, prints_nothing};
+pub use print::{is_formatted, is_surely_formatted, printed_len, prints_nothing};
 pub use writer::emit;

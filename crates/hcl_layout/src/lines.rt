@@ -98,7 +98,7 @@ fn run_with(column: u64, run: Option<Run>, width: u64) -> Run
 }
 
 /// The column of a cell in the source, from the width before it.
-fn found_column(tokens: &Measured<'_, '_>, number: usize, width: u64) -> u64
+fn column_in_source(tokens: &Measured<'_, '_>, number: usize, width: u64) -> u64
     requires within { number < length tokens.now.tokens }
     requires after { 0 < number }
     requires narrow { width < 2 ^ 34 }
@@ -420,7 +420,7 @@ impl Lines {
         }
         match self.columns {
             Columns::Ahead => width.max(self.signs_ahead(tokens)),
-            Columns::Found => found_column(tokens, number, width),
+            Columns::Found => column_in_source(tokens, number, width),
         }
     }
 
@@ -484,7 +484,7 @@ impl Lines {
         }
         match self.columns {
             Columns::Ahead => width.max(self.comments_ahead(tokens)),
-            Columns::Found => found_column(tokens, number, width),
+            Columns::Found => column_in_source(tokens, number, width),
         }
     }
 

@@ -47,7 +47,7 @@ pub fn are_spaces(bytes: &[u8]) -> bool
 
 /// Whether the source has a piece where the text before it ends.
 #[inline(always)]
-pub fn goes_on(source: &[u8], at: usize, piece: Piece<'_>) -> bool
+pub fn stays_in_place(source: &[u8], at: usize, piece: Piece<'_>) -> bool
     requires within { at ≤ length source.now }
     requires source { IsFrom source.now piece.token.start piece.token.text.now }
     requires gap { piece.gap ≤ 2 ^ 34 }
@@ -80,7 +80,7 @@ fn begins_blank(bytes: &[u8], gap: u64) -> bool
 
 /// Whether the source has the text of a piece at a place. If nothing changed before, that is the piece's own place, and
 /// nothing is compared.
-fn stands_at(bytes: &[u8], at: usize, piece: Piece<'_>) -> bool
+fn has_text_at(bytes: &[u8], at: usize, piece: Piece<'_>) -> bool
     requires within { at ≤ length bytes.now }
     requires source { IsFrom bytes.now piece.token.start piece.token.text.now }
     ensures { result ≡ starts_with nat_eq (drop at bytes.now) piece.entry.token.text.now }
@@ -94,7 +94,7 @@ fn stands_at(bytes: &[u8], at: usize, piece: Piece<'_>) -> bool
 
 /// The end of a piece of the source at a place, if it is there. Its text is compared with the text there.
 #[inline(never)]
-fn moved_end(bytes: &[u8], at: usize, piece: Piece<'_>) -> Option<usize>
+fn end_if_found(bytes: &[u8], at: usize, piece: Piece<'_>) -> Option<usize>
     requires within { at ≤ length bytes.now }
     requires source { IsFrom bytes.now piece.token.start piece.token.text.now }
     ensures found { EndsAt bytes.now at piece.entry result }
@@ -105,7 +105,7 @@ fn moved_end(bytes: &[u8], at: usize, piece: Piece<'_>) -> Option<usize>
         return None;
     }
     let front = at + piece.gap as usize;
-    if !stands_at(bytes, front, piece) {
+    if !has_text_at(bytes, front, piece) {
         return None;
     }
     Some(front + piece.token.text.len())
@@ -120,10 +120,10 @@ fn piece_end(bytes: &[u8], at: usize, piece: Piece<'_>) -> Option<usize>
     ensures found { EndsAt bytes.now at piece.entry result }
     ensures within { IfSome result (λ end. end ≤ length bytes.now) }
 {
-    if goes_on(bytes, at, piece) {
+    if stays_in_place(bytes, at, piece) {
         return Some(piece.token.start + piece.token.text.len());
     }
-    moved_end(bytes, at, piece)
+    end_if_found(bytes, at, piece)
 }
 
 /// Whether the print is the source, comparing them piece by piece up to the first difference.
@@ -167,7 +167,7 @@ fn stands_in_place(tokens: &Measured<'_, '_>) -> bool
         for number in line.first..line.end {
             let (piece, next) = line.piece(tokens, number, stop);
             stop = next;
-            if !goes_on(source, at, piece) {
+            if !stays_in_place(source, at, piece) {
                 return false;
             }
             at = piece.token.start + piece.token.text.len();
@@ -177,7 +177,7 @@ fn stands_in_place(tokens: &Measured<'_, '_>) -> bool
 }
 
 /// Whether the print is found to be the source without reading ahead, as for a formatted file.
-pub fn is_found_formatted(accepted: &Accepted<'_, '_>) -> bool
+pub fn is_surely_formatted(accepted: &Accepted<'_, '_>) -> bool
     ensures { IsTrue result → print accepted.now.tokens ≡ accepted.now.text }
 {
     stands_in_place(&Measured::new(accepted))

@@ -9,7 +9,7 @@ ghost use Rattle.hcl_layout.specs.Print.{print};
 use crate::buffer::{Buffer, Stretch};
 use crate::lines::{Columns, Lines, Piece};
 use crate::measured::Measured;
-use crate::print::goes_on;
+use crate::print::stays_in_place;
 use hcl_grammar::Accepted;
 use hcl_tokens::{ByteSink, WriteFault, write_fully};
 
@@ -337,7 +337,7 @@ pub fn emit<W: ByteSink>(accepted: &Accepted<'_, '_>, to: &mut W) -> Result<(), 
             let (piece, next) = line.piece(&tokens, number, stop);
             stop = next;
             let alone = stretch_of(source, piece);
-            if goes_on(source, waiting.end, piece) {
+            if stays_in_place(source, waiting.end, piece) {
                 waiting.end = alone.end;
                 continue;
             }

@@ -11,7 +11,7 @@ ghost use Rattle.tffmt_command.specs.Answer.{fault_line, refusal_row, usage_line
 
 use crate::options::{FmtOptions, Usage, options};
 use command_line::Program;
-use hcl_layout::{emit, fits, is_formatted, is_found_formatted, prints_nothing};
+use hcl_layout::{emit, fits, is_formatted, is_surely_formatted, prints_nothing};
 use hcl_scan::{
     ByteSink, ByteSource, Fault, FaultKind, LoadError, MAX_SOURCE, Position, ScanError, Source,
     scan,
@@ -150,7 +150,7 @@ fn is_known_formatted(options: &FmtOptions, accepted: &Accepted<'_, '_>) -> bool
     if options.check {
         return is_formatted(accepted);
     }
-    is_found_formatted(accepted)
+    is_surely_formatted(accepted)
 }
 
 /// Shows the result for an accepted file. A formatted file, which most are, is walked once and not printed anew.

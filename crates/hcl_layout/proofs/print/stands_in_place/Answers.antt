@@ -50,7 +50,7 @@ loop-number-preserved c =
     record {
       stops = c.piece-next.ensures.stops;
       step = λ right left. i.step right (left_piece ts c.in-Some.line (gaps_after ts c.next.new.self) n p.gap (lexeme p.token) c.piece-next.ensures.token i.order c.loop-number-test.true c.piece-next.ensures.gap
-          ∙ ap (λ (xs : List ℕ). bytes_of p ++ xs) left ∙ sym (c.goes_on.ensures.goes c.if-not-goes_on.false));
+          ∙ ap (λ (xs : List ℕ). bytes_of p ++ xs) left ∙ sym (c.stays_in_place.ensures.goes c.if-not-stays_in_place.false));
       order = omega (arith, i.order);
       inside = omega (arith, ap length from.0, length-take (length p.token.text.now) (drop p.token.start c.args.tokens.now.text), length-drop p.token.start c.args.tokens.now.text, from.1, ap length c.source-source.ensures.text);
     }

@@ -57,8 +57,8 @@ loop-number-init g c =
       flushes = i.flushes;
     }
 
-pub loop-number-preserved-then-goes_on : goal.loop-number-preserved-then-goes_on
-loop-number-preserved-then-goes_on g c =
+pub loop-number-preserved-then-stays_in_place : goal.loop-number-preserved-then-stays_in_place
+loop-number-preserved-then-stays_in_place g c =
     let ts = c.new-tokens.result.tokens in
     let i = c.loop-number.invariant in
     let o = i.out in
@@ -70,9 +70,9 @@ loop-number-preserved-then-goes_on g c =
     let n = c.loop-number.number in
     let piece : List ℕ = bytes_of p in
     let left = left_piece ts l rest n p.gap (lexeme p.token) c.piece-next.ensures.token i.order c.loop-number-test.true c.piece-next.ensures.gap in
-    let at = c.goes_on.ensures.end c.if-goes_on.true in
+    let at = c.stays_in_place.ensures.end c.if-stays_in_place.true in
     let end : c.stretch_of-alone.result.end ≡ w.end + length piece = omega (arith, at, c.stretch_of-alone.ensures.end, length-append (replicate p.gap 32) p.token.text.now, length-replicate {A = ℕ} p.gap 32) in
-    let there = c.goes_on.ensures.goes c.if-goes_on.true ∙ ap (λ k. piece ++ drop k source) (sym c.stretch_of-alone.ensures.end) in
+    let there = c.stays_in_place.ensures.goes c.if-stays_in_place.true ∙ ap (λ k. piece ++ drop k source) (sym c.stretch_of-alone.ensures.end) in
     record {
       stops = c.piece-next.ensures.stops;
       order = omega (arith, i.order);

@@ -1,6 +1,6 @@
 use Rattle.std.proofs.Common.{◌∙◌, ap, drop, length, sym, take}
 use Rattle.hcl_layout.proofs.FormatLemmas.{front_text}
-use Rattle.hcl_layout.proofs.print.stands_at.Goals as goal
+use Rattle.hcl_layout.proofs.print.has_text_at.Goals as goal
 
 pub returns-then-piece-at : goal.returns-then-piece-at
 returns-then-piece-at c =

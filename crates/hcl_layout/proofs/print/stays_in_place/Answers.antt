@@ -3,7 +3,7 @@ use Rattle.std.specs.List.{list_all}
 use Rattle.std.proofs.lemmas.Bool.{eqb-true}
 use Rattle.std.proofs.lemmas.List.{get_or-drop}
 use Rattle.hcl_layout.proofs.FormatLemmas.{blank_front, piece_there}
-use Rattle.hcl_layout.proofs.print.goes_on.Goals as goal
+use Rattle.hcl_layout.proofs.print.stays_in_place.Goals as goal
 
 none_front : (xs : List ℕ) (gap : ℕ) → gap ≡ 0 → xs ≡ replicate gap 32 ++ drop gap xs
 none_front xs gap e = rw e refl
