@@ -15,15 +15,15 @@ use Rattle.hcl_layout.proofs.SurveyLemmas.{drop_at}
 
 -- ---- cell by cell
 
-abbrev put : Option Cell → ℕ → List ℕ → List ℕ
-put c k [] = []
-put c k (x ∷ xs) = cell_gap c k x ∷ put c (k + 1) xs
+abbrev push : Option Cell → ℕ → List ℕ → List ℕ
+push c k [] = []
+push c k (x ∷ xs) = cell_gap c k x ∷ push c (k + 1) xs
 
 abbrev plain_from : ℕ → Option Lexeme → Option Lexeme → Line → List ℕ
 plain_from level before subject [] = []
 plain_from level before subject (t ∷ line) = plain_gap level before subject t ∷ plain_from level subject (Some t) line
 
-from_puts : (line : Line) (g : LineGaps) (k : ℕ) (b s : Option Lexeme) → gaps_from g k b s line ≡ put g.comment k (put g.assign k (plain_from g.level b s line))
+from_puts : (line : Line) (g : LineGaps) (k : ℕ) (b s : Option Lexeme) → gaps_from g k b s line ≡ push g.comment k (push g.assign k (plain_from g.level b s line))
 from_puts [] g k b s = refl
 from_puts (t ∷ line) g k b s = ap (λ l. gap_of g k b s t ∷ l) (from_puts line g (k + 1) s (Some t))
 
@@ -35,17 +35,17 @@ plain_all : (line : Line) (level : ℕ) → plain_from level None None line ≡ 
 plain_all [] level = refl
 plain_all (t ∷ line) level = ap (λ l. indent level t ∷ l) (plain_after line level None t)
 
-put_none : (xs : List ℕ) (k : ℕ) → put None k xs ≡ xs
+put_none : (xs : List ℕ) (k : ℕ) → push None k xs ≡ xs
 put_none [] k = refl
 put_none (x ∷ xs) k = ap (λ l. x ∷ l) (put_none xs (k + 1))
 
-put_past : (c : Cell) (xs : List ℕ) (k : ℕ) → c.place < k → put (Some c) k xs ≡ xs
+put_past : (c : Cell) (xs : List ℕ) (k : ℕ) → c.place < k → push (Some c) k xs ≡ xs
 put_past c [] k lt = refl
 put_past c (x ∷ xs) k lt =
     let other : nat_eq c.place k ≡ false = grind arith in
     ap₂ (λ (a : ℕ) (l : List ℕ). a ∷ l) (rw other refl) (put_past c xs (k + 1) (omega arith))
 
-put_at : (c : Cell) (xs : List ℕ) (k i : ℕ) → c.place ≡ k + i → put (Some c) k xs ≡ slice_set xs i c.gap
+put_at : (c : Cell) (xs : List ℕ) (k i : ℕ) → c.place ≡ k + i → push (Some c) k xs ≡ slice_set xs i c.gap
 put_at c [] k zero e = refl
 put_at c [] k (suc i) e = refl
 put_at c (x ∷ xs) k zero e =
@@ -55,14 +55,14 @@ put_at c (x ∷ xs) k (suc i) e =
     let other : nat_eq c.place k ≡ false = grind arith in
     ap₂ (λ (a : ℕ) (l : List ℕ). a ∷ l) (rw other refl) (put_at c xs (k + 1) i (omega arith))
 
-put_cell : (c : Option Cell) (xs : List ℕ) → put c 0 xs ≡ set_cell c xs
+put_cell : (c : Option Cell) (xs : List ℕ) → push c 0 xs ≡ set_cell c xs
 put_cell None xs = put_none xs 0
 put_cell (Some c) xs = put_at c xs 0 c.place (omega arith)
 
 pub gaps_in_is : (g : LineGaps) (line : Line) → gaps_in g line ≡ set_cell g.comment (set_cell g.assign (plain_gaps g.level line))
 gaps_in_is g line =
-    from_puts line g 0 None None ∙ ap (λ l. put g.comment 0 (put g.assign 0 l)) (plain_all line g.level)
-    ∙ ap (put g.comment 0) (put_cell g.assign (plain_gaps g.level line)) ∙ put_cell g.comment (set_cell g.assign (plain_gaps g.level line))
+    from_puts line g 0 None None ∙ ap (λ l. push g.comment 0 (push g.assign 0 l)) (plain_all line g.level)
+    ∙ ap (push g.comment 0) (put_cell g.assign (plain_gaps g.level line)) ∙ put_cell g.comment (set_cell g.assign (plain_gaps g.level line))
 
 -- ---- widths are small
 

@@ -5,7 +5,7 @@ use Rattle.std.proofs.lemmas.List.{append-nil, length-take-le, take-append-le}
 use Rattle.std.specs.Prelude.{IfErr, OnOk, Result, Ok, Err}
 use Rattle.std.specs.Io.KnownBytes.{Appends}
 use Rattle.hcl_source.specs.declared.device.WriteFault.{WriteFault}
-use Rattle.hcl_layout.specs.Inner.Out.{Out, CutShort, held, stretched}
+use Rattle.hcl_layout.specs.Inner.Out.{Out, CutShort, buffered, stretch_text}
 use Rattle.hcl_layout.specs.declared.buffer.Buffer.{Buffer}
 use Rattle.hcl_layout.specs.declared.buffer.Stretch.{Stretch}
 use Rattle.hcl_layout.proofs.FormatLemmas.{after}
@@ -20,17 +20,17 @@ pub Appends-no_extent : (a : Option (List ℕ)) → Appends a a []
 Appends-no_extent None = tt
 Appends-no_extent (Some a) = sym (append-nil a)
 
-held_none : (b : Buffer) → b.len ≡ 0 → held b ≡ []
+held_none : (b : Buffer) → b.len ≡ 0 → buffered b ≡ []
 held_none b e = ap (λ n. take n b.bytes) e
 
 -- the buffer was written
-pub out_sent : (base now new : Option (List ℕ)) (b b' : Buffer) (front : List ℕ) → b'.len ≡ 0 → b'.sent ≡ b.sent + b.len → length (held b) ≡ b.len → Appends now new (held b)
+pub out_sent : (base now new : Option (List ℕ)) (b b' : Buffer) (front : List ℕ) → b'.len ≡ 0 → b'.sent ≡ b.sent + b.len → length (buffered b) ≡ b.len → Appends now new (buffered b)
     → Out base now b front → Out base new b' front
 out_sent base now new b b' front e f long q p = record {
-  sent = p.sent ++ held b;
-  whole = p.whole ∙ sym (append-nil (p.sent ++ held b)) ∙ ap (λ l. (p.sent ++ held b) ++ l) (sym (held_none b' e));
-  count = omega (arith, f, p.count, length-append p.sent (held b), long);
-  out = Appends-then base now new p.sent (held b) p.out q;
+  sent = p.sent ++ buffered b;
+  whole = p.whole ∙ sym (append-nil (p.sent ++ buffered b)) ∙ ap (λ l. (p.sent ++ buffered b) ++ l) (sym (held_none b' e));
+  count = omega (arith, f, p.count, length-append p.sent (buffered b), long);
+  out = Appends-then base now new p.sent (buffered b) p.out q;
 }
 
 -- more bytes were written past the empty buffer
@@ -56,7 +56,7 @@ out_all base now b front e p = subst (Appends base now) (sym (p.whole ∙ ap (λ
 pub out_none : (base : Option (List ℕ)) (b : Buffer) → b.len ≡ 0 → b.sent ≡ 0 → Out base base b []
 out_none base b e f = record { sent = []; whole = sym (held_none b e); count = f; out = Appends-no_extent base }
 
-pub held_length : (b : Buffer) → b.len ≤ length b.bytes → length (held b) ≡ b.len
+pub held_length : (b : Buffer) → b.len ≤ length b.bytes → length (buffered b) ≡ b.len
 held_length b le = length-take-le b.len b.bytes le
 
 pub err_by : (r : Result (Unit {0}) WriteFault) (P Q : WriteFault → Type 0) → ((fault : WriteFault) → P fault → Q fault) → IfErr r P → IfErr r Q
@@ -90,7 +90,7 @@ cut_short_blanks base new front k gap fault lt p =
 
 -- the waiting stretch continues with the next piece
 pub grown : (source : List ℕ) (s : Stretch) (piece : List ℕ) (end : ℕ) → s.start ≤ s.end → end ≡ s.end + length piece → drop s.end source ≡ piece ++ drop end source
-    → stretched source (record { gap = s.gap; start = s.start; end = end }) ≡ stretched source s ++ piece
+    → stretch_text source (record { gap = s.gap; start = s.start; end = end }) ≡ stretch_text source s ++ piece
 grown source s piece end le e f =
     let left : List ℕ = drop s.start source in
     let n : ℕ = s.end - s.start in

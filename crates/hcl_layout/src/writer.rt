@@ -2,7 +2,7 @@
 ghost use Rattle.std.specs.Prelude.{◌≡◌, ◌<◌, ◌≤◌, ◌+◌, ◌-◌, ◌^◌, ◌++◌, IsTrue, false, length, take, drop, replicate, is_err, IfErr, IfSome, OnOk};
 ghost use Rattle.std.specs.Io.KnownBytes.{Appends};
 ghost use Rattle.hcl_layout.specs.Inner.Left.{bytes_of};
-ghost use Rattle.hcl_layout.specs.Inner.Out.{BeginsWith, Fails, FailsBefore, Finishes, Keeps, Lies, Puts, held, passed, stretch_len, stretched};
+ghost use Rattle.hcl_layout.specs.Inner.Out.{BeginsWith, Fails, FailsBefore, Finishes, Keeps, Lies, Pushes, buffered, passed, stretch_len, stretch_text};
 ghost use Rattle.hcl_layout.specs.Inner.Simple.{IsFrom};
 ghost use Rattle.hcl_layout.specs.Print.{print};
 
@@ -14,7 +14,7 @@ use hcl_grammar::Accepted;
 use hcl_tokens::{ByteSink, WriteFault, write_fully};
 
 /// Writes a block over another. As arrays the two are known not to overlap; a copy of slices would test it.
-fn put_block(room: &mut [u8], block: &[u8; 32])
+fn push_block(room: &mut [u8], block: &[u8; 32])
     requires { length room.old ≡ 32 }
     ensures len { length room.new ≡ length room.old }
     ensures after { room.new ≡ block.now }
@@ -53,7 +53,7 @@ impl Buffer {
     /// Appends bytes for which there is room.
     fn hold(&mut self, text: &[u8])
         requires { self.old.len + length text.now ≤ 8192 }
-        ensures held { held self.new ≡ held self.old ++ text.now }
+        ensures buffered { buffered self.new ≡ buffered self.old ++ text.now }
         ensures len { self.new.len ≡ self.old.len + length text.now }
         ensures sent { self.new.sent ≡ self.old.sent }
     {
@@ -65,7 +65,7 @@ impl Buffer {
     /// Appends a number of spaces, for which there is room.
     fn hold_blanks(&mut self, count: usize)
         requires { self.old.len + count ≤ 8192 }
-        ensures held { held self.new ≡ held self.old ++ replicate count 32 }
+        ensures buffered { buffered self.new ≡ buffered self.old ++ replicate count 32 }
         ensures len { self.new.len ≡ self.old.len + count }
         ensures sent { self.new.sent ≡ self.old.sent }
     {
@@ -78,7 +78,7 @@ impl Buffer {
     fn hold_few_blanks(&mut self, count: usize)
         requires few { count ≤ 16 }
         requires room { self.old.len + 16 ≤ 8192 }
-        ensures held { held self.new ≡ held self.old ++ replicate count 32 }
+        ensures buffered { buffered self.new ≡ buffered self.old ++ replicate count 32 }
         ensures len { self.new.len ≡ self.old.len + count }
         ensures sent { self.new.sent ≡ self.old.sent }
     {
@@ -91,12 +91,12 @@ impl Buffer {
     fn hold_front(&mut self, block: &[u8; 32], count: usize)
         requires few { count ≤ 32 }
         requires room { self.old.len + 32 ≤ 8192 }
-        ensures held { held self.new ≡ held self.old ++ take count block.now }
+        ensures buffered { buffered self.new ≡ buffered self.old ++ take count block.now }
         ensures len { self.new.len ≡ self.old.len + count }
         ensures sent { self.new.sent ≡ self.old.sent }
     {
         let at = self.len;
-        put_block(&mut self.bytes[at..at + 32], block);
+        push_block(&mut self.bytes[at..at + 32], block);
         self.len = at + count;
     }
 
@@ -138,7 +138,7 @@ fn send_past<W: ByteSink>(to: &mut W, buffer: &mut Buffer, text: &[u8]) -> Resul
     requires empty { buffer.old.len ≡ 0 }
     requires room { buffer.old.sent + length text.now < 2 ^ 63 }
     ensures ok { OnOk result
-        (Puts (W.taken to.old) (W.taken to.new) buffer.old buffer.new text.now) }
+        (Pushes (W.taken to.old) (W.taken to.new) buffer.old buffer.new text.now) }
     ensures err { IfErr result (Fails (W.taken to.old) (W.taken to.new) buffer.old text.now) }
     ensures failed { W.failed to.new ≡ is_err result }
     ensures flushes { W.flushes to.new ≡ W.flushes to.old }
@@ -155,11 +155,11 @@ fn send_past<W: ByteSink>(to: &mut W, buffer: &mut Buffer, text: &[u8]) -> Resul
 
 /// Writes bytes after those before, or lets them wait in the buffer.
 #[inline(always)]
-fn put<W: ByteSink>(to: &mut W, buffer: &mut Buffer, text: &[u8]) -> Result<(), WriteFault>
+fn push<W: ByteSink>(to: &mut W, buffer: &mut Buffer, text: &[u8]) -> Result<(), WriteFault>
     requires fresh { W.failed to.old ≡ false }
     requires room { passed buffer.old + length text.now < 2 ^ 63 }
     ensures ok { OnOk result
-        (Puts (W.taken to.old) (W.taken to.new) buffer.old buffer.new text.now) }
+        (Pushes (W.taken to.old) (W.taken to.new) buffer.old buffer.new text.now) }
     ensures err { IfErr result (Fails (W.taken to.old) (W.taken to.new) buffer.old text.now) }
     ensures failed { W.failed to.new ≡ is_err result }
     ensures flushes { W.flushes to.new ≡ W.flushes to.old }
@@ -180,11 +180,11 @@ fn put<W: ByteSink>(to: &mut W, buffer: &mut Buffer, text: &[u8]) -> Result<(), 
 }
 
 /// Writes a number of spaces.
-fn put_blanks<W: ByteSink>(to: &mut W, buffer: &mut Buffer, gap: u64) -> Result<(), WriteFault>
+fn push_blanks<W: ByteSink>(to: &mut W, buffer: &mut Buffer, gap: u64) -> Result<(), WriteFault>
     requires fresh { W.failed to.old ≡ false }
     requires room { passed buffer.old + gap < 2 ^ 63 }
     ensures ok { OnOk result
-        (Puts (W.taken to.old) (W.taken to.new) buffer.old buffer.new (replicate gap 32)) }
+        (Pushes (W.taken to.old) (W.taken to.new) buffer.old buffer.new (replicate gap 32)) }
     ensures err { IfErr result
         (Fails (W.taken to.old) (W.taken to.new) buffer.old (replicate gap 32)) }
     ensures failed { W.failed to.new ≡ is_err result }
@@ -204,7 +204,7 @@ fn put_blanks<W: ByteSink>(to: &mut W, buffer: &mut Buffer, gap: u64) -> Result<
         return Ok(());
     }
     for _ in 0..gap {
-        if let Err(fault) = put(to, buffer, b" ") {
+        if let Err(fault) = push(to, buffer, b" ") {
             return Err(fault);
         }
     }
@@ -213,7 +213,7 @@ fn put_blanks<W: ByteSink>(to: &mut W, buffer: &mut Buffer, gap: u64) -> Result<
 
 /// Writes a text, with a number of spaces before it.
 #[cold]
-fn put_text<W: ByteSink>(
+fn push_text<W: ByteSink>(
     to: &mut W,
     buffer: &mut Buffer,
     gap: u64,
@@ -222,7 +222,7 @@ fn put_text<W: ByteSink>(
     requires fresh { W.failed to.old ≡ false }
     requires room { passed buffer.old + gap + length text.now < 2 ^ 63 }
     ensures ok { OnOk result
-        (Puts (W.taken to.old) (W.taken to.new) buffer.old buffer.new
+        (Pushes (W.taken to.old) (W.taken to.new) buffer.old buffer.new
         (replicate gap 32 ++ text.now)) }
     ensures err { IfErr result
         (Fails (W.taken to.old) (W.taken to.new) buffer.old (replicate gap 32 ++ text.now)) }
@@ -230,16 +230,16 @@ fn put_text<W: ByteSink>(
     ensures flushes { W.flushes to.new ≡ W.flushes to.old }
     ensures count { OnOk result (passed buffer.new ≡ passed buffer.old + gap + length text.now) }
 {
-    if let Err(fault) = put_blanks(to, buffer, gap) {
+    if let Err(fault) = push_blanks(to, buffer, gap) {
         return Err(fault);
     }
-    put(to, buffer, text)
+    push(to, buffer, text)
 }
 
 /// Writes a stretch of the source. Most are a few bytes: blocks of a fixed length are written quicker than so few
 /// bytes, and the surplus is overwritten by the next ones.
 #[inline(always)]
-fn put_stretch<W: ByteSink>(
+fn push_stretch<W: ByteSink>(
     to: &mut W,
     buffer: &mut Buffer,
     source: &[u8],
@@ -249,20 +249,20 @@ fn put_stretch<W: ByteSink>(
     requires lies { Lies source.now stretch }
     requires room { passed buffer.old + stretch_len stretch < 2 ^ 63 }
     ensures ok { OnOk result
-        (Puts (W.taken to.old) (W.taken to.new) buffer.old buffer.new
-        (stretched source.now stretch)) }
+        (Pushes (W.taken to.old) (W.taken to.new) buffer.old buffer.new
+        (stretch_text source.now stretch)) }
     ensures err { IfErr result
-        (Fails (W.taken to.old) (W.taken to.new) buffer.old (stretched source.now stretch)) }
+        (Fails (W.taken to.old) (W.taken to.new) buffer.old (stretch_text source.now stretch)) }
     ensures failed { W.failed to.new ≡ is_err result }
     ensures flushes { W.flushes to.new ≡ W.flushes to.old }
     ensures count { OnOk result (passed buffer.new ≡ passed buffer.old + stretch_len stretch) }
 {
     let (start, end) = (stretch.start, stretch.end);
     if !buffer.has_room(stretch) {
-        return put_text(to, buffer, stretch.gap, &source[start..end]);
+        return push_text(to, buffer, stretch.gap, &source[start..end]);
     }
     let Some(block) = block_at(source, stretch) else {
-        return put_text(to, buffer, stretch.gap, &source[start..end]);
+        return push_text(to, buffer, stretch.gap, &source[start..end]);
     };
     buffer.hold_few_blanks(stretch.gap as usize);
     buffer.hold_front(block, end - start);
@@ -280,13 +280,13 @@ fn finish<W: ByteSink>(
     requires lies { Lies source.now stretch }
     requires room { passed buffer.old + stretch_len stretch < 2 ^ 62 }
     ensures ok { OnOk result
-        (Finishes (W.taken to.old) (W.taken to.new) buffer.old (stretched source.now stretch)) }
+        (Finishes (W.taken to.old) (W.taken to.new) buffer.old (stretch_text source.now stretch)) }
     ensures err { IfErr result
-        (Fails (W.taken to.old) (W.taken to.new) buffer.old (stretched source.now stretch)) }
+        (Fails (W.taken to.old) (W.taken to.new) buffer.old (stretch_text source.now stretch)) }
     ensures failed { W.failed to.new ≡ is_err result }
     ensures flushes { W.flushes to.new ≡ W.flushes to.old }
 {
-    if let Err(fault) = put_stretch(to, buffer, source, stretch) {
+    if let Err(fault) = push_stretch(to, buffer, source, stretch) {
         return Err(fault);
     }
     send(to, buffer)
@@ -295,7 +295,7 @@ fn finish<W: ByteSink>(
 /// A piece by itself.
 fn stretch_of(source: &[u8], piece: Piece<'_>) -> Stretch
     requires source { IsFrom source.now piece.token.start piece.token.text.now }
-    ensures same { stretched source.now result ≡ bytes_of piece.entry }
+    ensures same { stretch_text source.now result ≡ bytes_of piece.entry }
     ensures lies { Lies source.now result }
     ensures gap { result.gap ≡ piece.entry.gap }
     ensures end { result.end ≡ piece.entry.token.start + length piece.entry.token.text.now }
@@ -341,7 +341,7 @@ pub fn emit<W: ByteSink>(accepted: &Accepted<'_, '_>, to: &mut W) -> Result<(), 
                 waiting.end = alone.end;
                 continue;
             }
-            if let Err(fault) = put_stretch(to, &mut buffer, source, waiting) {
+            if let Err(fault) = push_stretch(to, &mut buffer, source, waiting) {
                 return Err(fault);
             }
             waiting = alone;

@@ -6,13 +6,13 @@ use Rattle.hcl_layout.specs.declared.buffer.Buffer.{Buffer}
 use Rattle.hcl_layout.specs.declared.buffer.Stretch.{Stretch}
 
 -- the bytes waiting in the buffer
-abbrev pub held : Buffer → List ℕ
-held b = take b.len b.bytes
+abbrev pub buffered : Buffer → List ℕ
+buffered b = take b.len b.bytes
 
 -- a front of the text: a part is in the sink, the rest in the buffer
 pub record Out (base now : Option (List ℕ)) (b : Buffer) (front : List ℕ) : Type 0 where
   pub sent : List ℕ
-  pub whole : front ≡ sent ++ held b
+  pub whole : front ≡ sent ++ buffered b
   pub count : b.sent ≡ length sent
   pub out : Appends base now sent
 
@@ -21,8 +21,8 @@ abbrev pub CutShort : Option (List ℕ) → Option (List ℕ) → List ℕ → W
 CutShort base now front fault = (fault.written < length front) × Appends base now (take fault.written front)
 
 -- whatever front was out before, the text goes out after it
-abbrev pub Puts : Option (List ℕ) → Option (List ℕ) → Buffer → Buffer → List ℕ → Type 0
-Puts now new old b text = (base : Option (List ℕ)) (front : List ℕ) → Out base now old front → Out base new b (front ++ text)
+abbrev pub Pushes : Option (List ℕ) → Option (List ℕ) → Buffer → Buffer → List ℕ → Type 0
+Pushes now new old b text = (base : Option (List ℕ)) (front : List ℕ) → Out base now old front → Out base new b (front ++ text)
 
 -- a write failed within such a front and the text
 abbrev pub Fails : Option (List ℕ) → Option (List ℕ) → Buffer → List ℕ → WriteFault → Type 0
@@ -41,8 +41,8 @@ abbrev pub Finishes : Option (List ℕ) → Option (List ℕ) → Buffer → Lis
 Finishes now new old text = (base : Option (List ℕ)) (front : List ℕ) → Out base now old front → Appends base new (front ++ text)
 
 -- the print of a stretch of the source
-abbrev pub stretched : List ℕ → Stretch → List ℕ
-stretched source s = replicate s.gap 32 ++ take (s.end - s.start) (drop s.start source)
+abbrev pub stretch_text : List ℕ → Stretch → List ℕ
+stretch_text source s = replicate s.gap 32 ++ take (s.end - s.start) (drop s.start source)
 
 -- a stretch of the source lies in it
 abbrev pub Lies : List ℕ → Stretch → Type 0

@@ -8,35 +8,35 @@ use Rattle.hcl_layout.proofs.measured.count_alone.Goals as goal
 
 pub overflow_add-count : goal.overflow_add-count
 overflow_add-count c =
-    let held = c.loop-c.invariant in
-    let step = chars_past_char _ _ c.in-Some.c held.0 c.in-Some.ensures.steps.0 in
+    let buffered = c.loop-c.invariant in
+    let step = chars_past_char _ _ c.in-Some.c buffered.0 c.in-Some.ensures.steps.0 in
     let sum = ap length step in
-    let all = held.2 in
+    let all = buffered.2 in
     let few = chars_few c.args.text.now in
     record { fits = grind (arith, common_steps, sum, all, few) }
 
 pub loop-c-preserved : goal.loop-c-preserved
 loop-c-preserved c =
-    let held = c.loop-c.invariant in
+    let buffered = c.loop-c.invariant in
     let parts = c.in-Some.ensures.steps.0 in
-    let step = chars_past_char _ _ c.in-Some.c held.0 parts in
+    let step = chars_past_char _ _ c.in-Some.c buffered.0 parts in
     let alone = sym c.is_alone.ensures ∙ c.if-not-is_alone.false in
-    (IsUtf8-past_char _ _ c.in-Some.c held.0 parts, rw (step, alone) at held.1, omega (arith, ap length step, held.2))
+    (IsUtf8-past_char _ _ c.in-Some.c buffered.0 parts, rw (step, alone) at buffered.1, omega (arith, ap length step, buffered.2))
 
 pub returns-clause-alone : goal.returns-clause-alone
 returns-clause-alone c =
-    let held = c.loop-c.invariant in
+    let buffered = c.loop-c.invariant in
     let end = chars_of_empty _ c.in-None.ensures.steps.0.0 in
-    sym held.1 ∙ ap are_alone end
+    sym buffered.1 ∙ ap are_alone end
 
 pub returns-clause-count : goal.returns-clause-count
 returns-clause-count c =
-    let held = c.loop-c.invariant in
+    let buffered = c.loop-c.invariant in
     let end = chars_of_empty _ c.in-None.ensures.steps.0.0 in
-    omega (arith, ap length end, held.2)
+    omega (arith, ap length end, buffered.2)
 
 pub returns-clause-within : goal.returns-clause-within
 returns-clause-within c =
-    let held = c.loop-c.invariant in
+    let buffered = c.loop-c.invariant in
     let end = chars_of_empty _ c.in-None.ensures.steps.0.0 in
-    omega (arith, ap length end, held.2, chars_few c.args.text.now)
+    omega (arith, ap length end, buffered.2, chars_few c.args.text.now)

@@ -6,7 +6,7 @@ use Rattle.hcl_tokens.specs.Balanced.{IsBalanced}
 use Rattle.hcl_layout.specs.Inner.Depths.{BalancedFrom}
 use Rattle.hcl_layout.specs.Inner.Laid.{gaps_after, left_after, left_on}
 use Rattle.hcl_layout.specs.Inner.Left.{bytes_of}
-use Rattle.hcl_layout.specs.Inner.Out.{Out, CutShort, stretched}
+use Rattle.hcl_layout.specs.Inner.Out.{Out, CutShort, stretch_text}
 use Rattle.hcl_layout.specs.Print.{print}
 use Rattle.hcl_layout.specs.declared.lines.Lines.{Lines}
 use Rattle.hcl_layout.proofs.BalanceLemmas.{balanced_from}
@@ -49,7 +49,7 @@ loop-number-init g c =
       fresh = i.fresh;
       out = (
         o.0,
-        o.1 ∙ ap (λ xs. o.0 ++ (stretched c.source-source.result.now c.loop-line.waiting ++ xs)) (left_line ts c.loop-line.lines c.next.new.self l (c.in-Some.ensures.left i.ahead) c.in-Some.ensures.laid.1),
+        o.1 ∙ ap (λ xs. o.0 ++ (stretch_text c.source-source.result.now c.loop-line.waiting ++ xs)) (left_line ts c.loop-line.lines c.next.new.self l (c.in-Some.ensures.left i.ahead) c.in-Some.ensures.laid.1),
         o.2,
       );
       lies = i.lies;
@@ -79,7 +79,7 @@ loop-number-preserved-then-stays_in_place g c =
       fresh = i.fresh;
       out = (
         o.0,
-        print_grown (print ts) o.0 (stretched source w) _ piece (left_on ts l rest n) (left_on ts l rest (n + 1)) o.1 left
+        print_grown (print ts) o.0 (stretch_text source w) _ piece (left_on ts l rest n) (left_on ts l rest (n + 1)) o.1 left
             (grown source w piece c.stretch_of-alone.result.end i.lies.0 end there),
         o.2,
       );
@@ -99,20 +99,20 @@ loop-number-preserved g c =
     let rest = gaps_after ts c.next.new.self in
     let n = c.loop-number.number in
     let alone = c.stretch_of-alone.result in
-    let text : List ℕ = stretched source c.loop-number.waiting in
+    let text : List ℕ = stretch_text source c.loop-number.waiting in
     let left = left_piece ts l rest n p.gap (lexeme p.token) c.piece-next.ensures.token i.order c.loop-number-test.true c.piece-next.ensures.gap in
     record {
       stops = c.piece-next.ensures.stops;
       order = omega (arith, i.order);
-      fresh = c.in_default-put_stretch.ensures.failed;
+      fresh = c.in_default-push_stretch.ensures.failed;
       out = (
         o.0 ++ text,
-        print_put (print ts) o.0 text (stretched source alone) (bytes_of p) (left_on ts l rest n) (left_on ts l rest (n + 1)) o.1 left c.stretch_of-alone.ensures.same,
-        c.in_default-put_stretch.ensures.ok (g.W.ByteSink.taken c.args.to.now) o.0 o.2,
+        print_put (print ts) o.0 text (stretch_text source alone) (bytes_of p) (left_on ts l rest n) (left_on ts l rest (n + 1)) o.1 left c.stretch_of-alone.ensures.same,
+        c.in_default-push_stretch.ensures.ok (g.W.ByteSink.taken c.args.to.now) o.0 o.2,
       );
       lies = c.stretch_of-alone.ensures.lies;
-      small = omega (arith, c.in_default-put_stretch.ensures.count, c.stretch_of-alone.ensures.gap, c.stretch_of-alone.ensures.len, c.piece-next.ensures.small, c.piece-next.ensures.text, i.small);
-      flushes = c.in_default-put_stretch.ensures.flushes ∙ i.flushes;
+      small = omega (arith, c.in_default-push_stretch.ensures.count, c.stretch_of-alone.ensures.gap, c.stretch_of-alone.ensures.len, c.piece-next.ensures.small, c.piece-next.ensures.text, i.small);
+      flushes = c.in_default-push_stretch.ensures.flushes ∙ i.flushes;
     }
 
 pub returns-in-Err-clause-err : goal.returns-in-Err-clause-err
@@ -120,15 +120,15 @@ returns-in-Err-clause-err g c =
     let ts = c.new-tokens.result.tokens in
     let o = c.loop-number.invariant.out in
     let base = g.W.ByteSink.taken c.args.to.now in
-    let stop = cut_short_print base (g.W.ByteSink.taken c.put_stretch.new.to) (print ts) o.0 (stretched c.source-source.result.now c.loop-number.waiting) (left_on ts c.in-Some.line (gaps_after ts c.next.new.self) c.loop-number.number) c.in-Err.fault o.1 (c.in-Err.ensures.err base o.0 o.2) in
-    subst (λ (s : Scanned). Appends base (g.W.ByteSink.taken c.put_stretch.new.to) (take c.in-Err.fault.written (print s.tokens))) c.new-tokens.ensures.same stop.1
+    let stop = cut_short_print base (g.W.ByteSink.taken c.push_stretch.new.to) (print ts) o.0 (stretch_text c.source-source.result.now c.loop-number.waiting) (left_on ts c.in-Some.line (gaps_after ts c.next.new.self) c.loop-number.number) c.in-Err.fault o.1 (c.in-Err.ensures.err base o.0 o.2) in
+    subst (λ (s : Scanned). Appends base (g.W.ByteSink.taken c.push_stretch.new.to) (take c.in-Err.fault.written (print s.tokens))) c.new-tokens.ensures.same stop.1
 
 pub returns-in-Err-clause-written : goal.returns-in-Err-clause-written
 returns-in-Err-clause-written g c =
     let ts = c.new-tokens.result.tokens in
     let o = c.loop-number.invariant.out in
     let base = g.W.ByteSink.taken c.args.to.now in
-    let stop = cut_short_print base (g.W.ByteSink.taken c.put_stretch.new.to) (print ts) o.0 (stretched c.source-source.result.now c.loop-number.waiting) (left_on ts c.in-Some.line (gaps_after ts c.next.new.self) c.loop-number.number) c.in-Err.fault o.1 (c.in-Err.ensures.err base o.0 o.2) in
+    let stop = cut_short_print base (g.W.ByteSink.taken c.push_stretch.new.to) (print ts) o.0 (stretch_text c.source-source.result.now c.loop-number.waiting) (left_on ts c.in-Some.line (gaps_after ts c.next.new.self) c.loop-number.number) c.in-Err.fault o.1 (c.in-Err.ensures.err base o.0 o.2) in
     subst (λ (s : Scanned). c.in-Err.fault.written < length (print s.tokens)) c.new-tokens.ensures.same stop.0
 
 pub loop-line-preserved : goal.loop-line-preserved
@@ -143,7 +143,7 @@ loop-line-preserved g c =
       fresh = i.fresh;
       out = (
         o.0,
-        o.1 ∙ ap (λ xs. o.0 ++ (stretched c.source-source.result.now c.loop-number.waiting ++ xs)) (left_done ts c.next.new.self c.in-Some.line c.loop-number.number (omega arith) (omega (arith, e.laid.0.some, e.laid.2))),
+        o.1 ∙ ap (λ xs. o.0 ++ (stretch_text c.source-source.result.now c.loop-number.waiting ++ xs)) (left_done ts c.next.new.self c.in-Some.line c.loop-number.number (omega arith) (omega (arith, e.laid.0.some, e.laid.2))),
         o.2,
       );
       lies = i.lies;
@@ -156,7 +156,7 @@ returns-clause-ok g c =
     let ts = c.new-tokens.result.tokens in
     let o = c.loop-line.invariant.out in
     let base = g.W.ByteSink.taken c.args.to.now in
-    let text : List ℕ = stretched c.source-source.result.now c.loop-line.waiting in
+    let text : List ℕ = stretch_text c.source-source.result.now c.loop-line.waiting in
     let all : o.0 ++ text ≡ print c.args.accepted.now.tokens = print_end (print ts) o.0 text (left_after ts c.loop-line.lines) o.1 c.in_default.ensures.done ∙ ap (λ (s : Scanned). print s.tokens) c.new-tokens.ensures.same in
     ok_to c.finish.result
     ((base : Option (List ℕ)) (front : List ℕ) → Out base (g.W.ByteSink.taken c.loop-line.to) c.loop-line.buffer front → Appends base (g.W.ByteSink.taken c.finish.new.to) (front ++ text))
@@ -168,7 +168,7 @@ returns-clause-err g c =
     let ts = c.new-tokens.result.tokens in
     let o = c.loop-line.invariant.out in
     let base = g.W.ByteSink.taken c.args.to.now in
-    let text : List ℕ = stretched c.source-source.result.now c.loop-line.waiting in
+    let text : List ℕ = stretch_text c.source-source.result.now c.loop-line.waiting in
     let all : o.0 ++ text ≡ print c.args.accepted.now.tokens = print_end (print ts) o.0 text (left_after ts c.loop-line.lines) o.1 c.in_default.ensures.done ∙ ap (λ (s : Scanned). print s.tokens) c.new-tokens.ensures.same in
     err_by c.finish.result
     (λ fault. (base : Option (List ℕ)) (front : List ℕ) → Out base (g.W.ByteSink.taken c.loop-line.to) c.loop-line.buffer front → CutShort base (g.W.ByteSink.taken c.finish.new.to) (front ++ text) fault)
@@ -180,7 +180,7 @@ returns-clause-written g c =
     let ts = c.new-tokens.result.tokens in
     let o = c.loop-line.invariant.out in
     let base = g.W.ByteSink.taken c.args.to.now in
-    let text : List ℕ = stretched c.source-source.result.now c.loop-line.waiting in
+    let text : List ℕ = stretch_text c.source-source.result.now c.loop-line.waiting in
     let all : o.0 ++ text ≡ print c.args.accepted.now.tokens = print_end (print ts) o.0 text (left_after ts c.loop-line.lines) o.1 c.in_default.ensures.done ∙ ap (λ (s : Scanned). print s.tokens) c.new-tokens.ensures.same in
     err_by c.finish.result
     (λ fault. (base : Option (List ℕ)) (front : List ℕ) → Out base (g.W.ByteSink.taken c.loop-line.to) c.loop-line.buffer front → CutShort base (g.W.ByteSink.taken c.finish.new.to) (front ++ text) fault)

@@ -1,6 +1,6 @@
 use Rattle.std.proofs.Common.{◌≡◌, ◌≤◌, ◌+◌, ◌++◌, ℕ, List, Option, false, replicate}
 use Rattle.hcl_layout.specs.Inner.Out.{Out}
-use Rattle.hcl_layout.proofs.writer.put_blanks.Given as goal
+use Rattle.hcl_layout.proofs.writer.push_blanks.Given as goal
 
 abbrev pub invariant-loop : goal.invariant-loop
 invariant-loop g l = record {

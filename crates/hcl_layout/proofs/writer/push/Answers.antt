@@ -1,7 +1,7 @@
 use Rattle.std.proofs.Common.{◌++◌, ℕ, List, Option}
 use Rattle.hcl_layout.specs.Inner.Out.{Out, CutShort}
 use Rattle.hcl_layout.proofs.OutLemmas.{err_by, cut_short_more}
-use Rattle.hcl_layout.proofs.writer.put.Goals as goal
+use Rattle.hcl_layout.proofs.writer.push.Goals as goal
 
 pub returns-in-Err-clause-err : goal.returns-in-Err-clause-err
 returns-in-Err-clause-err g c base front p = cut_short_more base _ front c.args.text.now c.in-Err.fault (c.in-Err.ensures.err base front p)
