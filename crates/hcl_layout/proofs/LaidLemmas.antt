@@ -8,7 +8,7 @@ use Rattle.hcl_layout.specs.Gaps.{clusters, plain_gaps, width}
 use Rattle.hcl_layout.specs.Lines.{Line}
 use Rattle.hcl_layout.specs.Inner.Laid.{HasOwnGap, IsPlainOn, Laid, Stops, cell_of, rest_of, shape, text_of, width_on}
 use Rattle.hcl_layout.specs.Inner.Left.{gap_before, plain_gap_before, token_before}
-use Rattle.hcl_layout.specs.Inner.LineGaps.{Cell, IsSigned, LineGaps, cell_gap, gap_of, gaps_from, gaps_in, known_place, known_width, len_with_blanks, plain_of}
+use Rattle.hcl_layout.specs.Inner.LineGaps.{Cell, HasAssignSet, LineGaps, cell_gap, gap_of, gaps_from, gaps_in, known_place, known_width, len_with_blanks, plain_of}
 use Rattle.hcl_layout.specs.declared.lines.Cell.{Cell as CellLaid}
 use Rattle.hcl_layout.specs.declared.lines.LaidLine.{LaidLine}
 use Rattle.hcl_layout.proofs.LeftLemmas.{plain_small, printed_after, width_known, width_none}
@@ -41,11 +41,11 @@ cell_elsewhere l c n x lt le apart = go (nat_lt c.number l.end) refl
     go true e = rw (e, there) refl
     go false e = rw e refl
 
-pub gap_plain : (ts : List Lexeme) (l : LaidLine) (n : ℕ) (t : Lexeme) → Laid ts l → l.first ≤ n → (n ≡ l.comment.number → ⊥) → (n ≡ l.sign.number → ⊥)
+pub gap_plain : (ts : List Lexeme) (l : LaidLine) (n : ℕ) (t : Lexeme) → Laid ts l → l.first ≤ n → (n ≡ l.comment.number → ⊥) → (n ≡ l.assign.number → ⊥)
     → plain_gap_before ts l.level l.first n t ≡ gap_before ts (shape l) l.first n t
 gap_plain ts l n t p le apart other =
-    sym (cell_elsewhere l l.comment n (cell_gap (cell_of l l.sign) (n - l.first) (plain_gap_before ts l.level l.first n t)) p.comment_front le apart
-    ∙ cell_elsewhere l l.sign n (plain_gap_before ts l.level l.first n t) p.sign_front le other)
+    sym (cell_elsewhere l l.comment n (cell_gap (cell_of l l.assign) (n - l.first) (plain_gap_before ts l.level l.first n t)) p.comment_front le apart
+    ∙ cell_elsewhere l l.assign n (plain_gap_before ts l.level l.first n t) p.sign_front le other)
 
 pub plain_before_small : (ts : List Lexeme) (level first n : ℕ) (t : Lexeme) → level ≤ max_open → plain_gap_before ts level first n t ≤ 2 * max_open
 plain_before_small ts level first n t low = plain_small level (token_before ts first (n - 1)) (token_before ts first n) t low
@@ -54,7 +54,7 @@ plain_before_small ts level first n t low = plain_small level (token_before ts f
 
 -- no cell is before the stop at this token
 pub stops_here : (l : LaidLine) (n : ℕ) → HasOwnGap l n → Stops l n n
-stops_here l n own = record { order = omega arith; first = λ lt. absurd (omega (arith, lt)); sign = λ le. le; comment = λ le. le; own = λ lt. own }
+stops_here l n own = record { order = omega arith; first = λ lt. absurd (omega (arith, lt)); assign = λ le. le; comment = λ le. le; own = λ lt. own }
 
 -- a missing cell has the number of the line's end
 cell_none : (l : LaidLine) (c : CellLaid) → cell_of l c ≡ None → l.end ≤ c.number
@@ -70,10 +70,10 @@ cell_none l c e = go (nat_lt c.number l.end) refl
 pub bare_plain : (l : LaidLine) (from stop : ℕ) → shape l ≡ plain_of l.level → stop ≤ l.end → IsPlainOn l from stop
 bare_plain l from stop bare within k lt le =
     let comment = cell_none l l.comment (ap (λ (g : LineGaps). g.comment) bare) in
-    let sign = cell_none l l.sign (ap (λ (g : LineGaps). g.assign) bare) in
-    (λ e. omega (arith, comment, within, le, e), λ e. omega (arith, sign, within, le, e))
+    let assign = cell_none l l.assign (ap (λ (g : LineGaps). g.assign) bare) in
+    (λ e. omega (arith, comment, within, le, e), λ e. omega (arith, assign, within, le, e))
 
-pub signed_plain : (ts : List Lexeme) (l : LaidLine) (from stop : ℕ) → IsSigned (shape l) (text_of ts l) → stop ≤ l.end → (l.sign.number < stop → from ≡ l.sign.number) → IsPlainOn l from stop
+pub signed_plain : (ts : List Lexeme) (l : LaidLine) (from stop : ℕ) → HasAssignSet (shape l) (text_of ts l) → stop ≤ l.end → (l.assign.number < stop → from ≡ l.assign.number) → IsPlainOn l from stop
 signed_plain ts l from stop p within known k lt le =
     let comment = cell_none l l.comment p.plain in
     (λ e. omega (arith, comment, within, le, e), λ e. omega (arith, e, le, lt, known (omega (arith, e, le))))
@@ -131,11 +131,11 @@ bare_narrow ts l n p bare le within few =
     omega (arith, bare_width ts l n p bare le within, plain_low ts l.first (l.end - l.first) l.level (n - l.first) p.level, few)
 
 -- before a comment, with the sign set
-pub signed_low : (ts : List Lexeme) (l : LaidLine) (n : ℕ) → IsSigned (shape l) (text_of ts l) → len_with_blanks ts ≤ 2 ^ 23 → width n (gaps_in (shape l) (text_of ts l)) (text_of ts l) ≤ 2 ^ 33 + 2 ^ 24
+pub signed_low : (ts : List Lexeme) (l : LaidLine) (n : ℕ) → HasAssignSet (shape l) (text_of ts l) → len_with_blanks ts ≤ 2 ^ 23 → width n (gaps_in (shape l) (text_of ts l)) (text_of ts l) ≤ 2 ^ 33 + 2 ^ 24
 signed_low ts l n p few = omega (arith, signed_narrow ts l.first (l.end - l.first) (shape l) n (2 ^ 33) p.level p.plain p.gap, few)
 
-pub sign_known : (ts : List Lexeme) (l : LaidLine) → l.sign.number < l.end → IsSigned (shape l) (text_of ts l) → l.sign.width ≡ width (l.sign.number - l.first) (gaps_in (shape l) (text_of ts l)) (text_of ts l)
+pub sign_known : (ts : List Lexeme) (l : LaidLine) → l.assign.number < l.end → HasAssignSet (shape l) (text_of ts l) → l.assign.width ≡ width (l.assign.number - l.first) (gaps_in (shape l) (text_of ts l)) (text_of ts l)
 sign_known ts l lt p =
-    let in_line : nat_lt l.sign.number l.end ≡ true = less l.sign.number l.end lt in
-    let cell : cell_of l l.sign ≡ Some (record { place = l.sign.number - l.first; width = l.sign.width; gap = l.sign.gap }) = rw in_line refl in
+    let in_line : nat_lt l.assign.number l.end ≡ true = less l.assign.number l.end lt in
+    let cell : cell_of l l.assign ≡ Some (record { place = l.assign.number - l.first; width = l.assign.width; gap = l.assign.gap }) = rw in_line refl in
     ap known_width (sym cell) ∙ p.known ∙ ap (λ (o : Option Cell). width (known_place o) (gaps_in (shape l) (text_of ts l)) (text_of ts l)) cell

@@ -9,7 +9,7 @@ use Rattle.hcl_layout.specs.Gaps.{align, gap_to, plain_gaps, width}
 use Rattle.hcl_layout.specs.Lines.{Line, lines}
 use Rattle.hcl_layout.specs.Inner.Depths.{level_at, next_levels}
 use Rattle.hcl_layout.specs.Inner.Laid.{Laid, bare_line, cell_of, shape, text_of}
-use Rattle.hcl_layout.specs.Inner.LineGaps.{IsSigned, LineGaps, gaps_in, plain_of}
+use Rattle.hcl_layout.specs.Inner.LineGaps.{HasAssignSet, LineGaps, gaps_in, plain_of}
 use Rattle.hcl_layout.specs.Inner.Stream.{assign_column, assign_width, assign_widths, next_of, plain}
 use Rattle.hcl_layout.specs.Inner.Survey.{IsLine, facts_in}
 use Rattle.hcl_layout.specs.declared.line.Line.{Line as LineRead}
@@ -28,7 +28,7 @@ text_in ts r = take (r.end - r.first) (drop r.first ts)
 
 -- with its sign
 abbrev pub with_sign_at : LaidLine → ℕ → ℕ → ℕ → LaidLine
-with_sign_at b n w gap = record { first = b.first; end = b.end; level = b.level; sign = record { number = n; width = w; gap = gap }; comment = b.comment }
+with_sign_at b n w gap = record { first = b.first; end = b.end; level = b.level; assign = record { number = n; width = w; gap = gap }; comment = b.comment }
 
 module _ (ts : List Lexeme) (d : ℕ) (r : LineRead) (p : IsLine ts r.first d (facts_in r)) (levels : List ℕ) (level : ℕ) (low : level ≤ max_open) (is : level ≡ level_at d r.depth levels) where
   pub level_gaps : plain_gaps level (text_in ts r) ≡ plain d levels (text_in ts r)
@@ -38,20 +38,20 @@ module _ (ts : List Lexeme) (d : ℕ) (r : LineRead) (p : IsLine ts r.first d (f
   bare = rw (not_less r.end) refl
 
   -- a line without a sign
-  pub bare_gaps : (column : Option ℕ) → r.sign ≡ None → gaps_in (shape (bare_line r level)) (text_in ts r) ≡ align assign_cell (plain d levels (text_in ts r)) (text_in ts r) column
+  pub bare_gaps : (column : Option ℕ) → r.assign ≡ None → gaps_in (shape (bare_line r level)) (text_in ts r) ≡ align assign_cell (plain d levels (text_in ts r)) (text_in ts r) column
   bare_gaps column e =
       ap (λ (s : LineGaps). gaps_in s (text_in ts r)) bare ∙ plain_in level (text_in ts r) ∙ level_gaps ∙ aligned_none (plain d levels (text_in ts r)) (text_in ts r) column (sign_none ts d r p e)
 
   -- a line with a sign
-  module _ (n w gap : ℕ) (e : r.sign ≡ Some n) (own : w ≡ width (n - r.first) (plain_gaps level (text_in ts r)) (text_in ts r)) where
+  module _ (n w gap : ℕ) (e : r.assign ≡ Some n) (own : w ≡ width (n - r.first) (plain_gaps level (text_in ts r)) (text_in ts r)) where
     set : shape (with_sign_at (bare_line r level) n w gap) ≡ record { level = level; assign = Some (record { place = n - r.first; width = w; gap = gap }); comment = None }
     set = rw (less n r.end (sign_within ts d r p n e), not_less r.end) refl
 
     pub set_laid : length ts ≤ 2 ^ 22 → gap ≤ 2 ^ 33 → Laid ts (with_sign_at (bare_line r level) n w gap)
     set_laid few small = record { some = read_order ts d r p; within = read_within ts d r p; few = few; level = low; sign_front = sign_after ts d r p n e; comment_front = read_order ts d r p; sign_gap = small; comment_gap = omega arith }
 
-    pub set_signed : gap ≤ 2 ^ 33 → IsSigned (shape (with_sign_at (bare_line r level) n w gap)) (text_in ts r)
-    set_signed small = subst (λ (s : LineGaps). IsSigned s (text_in ts r)) (sym set) (signed_set level (n - r.first) w gap (text_in ts r) low (sign_is ts d r p n e) own small)
+    pub set_signed : gap ≤ 2 ^ 33 → HasAssignSet (shape (with_sign_at (bare_line r level) n w gap)) (text_in ts r)
+    set_signed small = subst (λ (s : LineGaps). HasAssignSet s (text_in ts r)) (sym set) (signed_set level (n - r.first) w gap (text_in ts r) low (sign_is ts d r p n e) own small)
 
     pub set_width : assign_width d levels (text_in ts r) ≡ Some w
     set_width =
@@ -75,18 +75,18 @@ module _ (ts : List Lexeme) (d : ℕ) (r : LineRead) (p : IsLine ts r.first d (f
 
 -- with its comment as well
 abbrev pub with_comment_at : LaidLine → ℕ → ℕ → ℕ → LaidLine
-with_comment_at b n w gap = record { first = b.first; end = b.end; level = b.level; sign = b.sign; comment = record { number = n; width = w; gap = gap } }
+with_comment_at b n w gap = record { first = b.first; end = b.end; level = b.level; assign = b.assign; comment = record { number = n; width = w; gap = gap } }
 
 pub commented_laid : (ts : List Lexeme) (b : LaidLine) (n w gap : ℕ) → Laid ts b → b.first < n → gap ≤ 2 ^ 34 → Laid ts (with_comment_at b n w gap)
 commented_laid ts b n w gap p lt small = record { some = p.some; within = p.within; few = p.few; level = p.level; sign_front = p.sign_front; comment_front = lt; sign_gap = p.sign_gap; comment_gap = small }
 
-pub commented_gaps : (ts : List Lexeme) (b : LaidLine) (n w gap : ℕ) (column : Option ℕ) → IsSigned (shape b) (text_of ts b) → n < b.end → trailing_comment (text_of ts b) ≡ Some (n - b.first)
+pub commented_gaps : (ts : List Lexeme) (b : LaidLine) (n w gap : ℕ) (column : Option ℕ) → HasAssignSet (shape b) (text_of ts b) → n < b.end → trailing_comment (text_of ts b) ≡ Some (n - b.first)
     → gap ≡ gap_to column (width (n - b.first) (gaps_in (shape b) (text_of ts b)) (text_of ts b))
     → gaps_in (shape (with_comment_at b n w gap)) (text_of ts b) ≡ align trailing_comment (gaps_in (shape b) (text_of ts b)) (text_of ts b) column
 commented_gaps ts b n w gap column p lt e g =
-    let set : shape (with_comment_at b n w gap) ≡ record { level = b.level; assign = cell_of b b.sign; comment = Some (record { place = n - b.first; width = w; gap = gap }) } = rw (less n b.end lt) refl in
+    let set : shape (with_comment_at b n w gap) ≡ record { level = b.level; assign = cell_of b b.assign; comment = Some (record { place = n - b.first; width = w; gap = gap }) } = rw (less n b.end lt) refl in
     ap (λ (s : LineGaps). gaps_in s (text_of ts b)) set
-    ∙ commented_in b.level (cell_of b b.sign) (cell_of b b.comment) (n - b.first) w gap (text_of ts b) p.plain
+    ∙ commented_in b.level (cell_of b b.assign) (cell_of b b.comment) (n - b.first) w gap (text_of ts b) p.plain
     ∙ comment_cell (gaps_in (shape b) (text_of ts b)) (text_of ts b) column (n - b.first) gap e g
 
 -- its comment, if it is passed

@@ -33,5 +33,5 @@ piece_len xs text rest gap e =
     omega (arith, ap length e, length-append (replicate gap 32 ++ text) rest, length-append (replicate gap 32) text, length-replicate {A = ℕ} gap 32)
 
 -- before the first line
-pub left_all : (ts : List Lexeme) (s : Lines) → BalancedFrom 0 ts → s.next ≡ 0 → s.depth ≡ 0 → s.levels ≡ fresh → s.signs ≡ None → s.comments ≡ None → left_after ts s ≡ print ts
+pub left_all : (ts : List Lexeme) (s : Lines) → BalancedFrom 0 ts → s.next ≡ 0 → s.depth ≡ 0 → s.levels ≡ fresh → s.assigns ≡ None → s.comments ≡ None → left_after ts s ≡ print ts
 left_all ts s p n d v a b = rw (n, d, v, a, b) (ap (λ g. printed_text g ts) (start_all ts 0 fresh None None p refl refl refl refl))

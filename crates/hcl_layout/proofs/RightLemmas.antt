@@ -9,7 +9,7 @@ use Rattle.hcl_layout.specs.Cells.{assign_cell, running_comment, trailing_commen
 use Rattle.hcl_layout.specs.Gaps.{align, width}
 use Rattle.hcl_layout.specs.Lines.{Line, lines}
 use Rattle.hcl_layout.specs.Inner.Depths.{next_levels}
-use Rattle.hcl_layout.specs.Inner.Laid.{AreRight, Grows, IsRight, Moves, RunsGrow, column_of, ends_wrong, ends_wrong_at, gaps_after, gaps_on, laid_gaps, shape, signed_gaps, text_of}
+use Rattle.hcl_layout.specs.Inner.Laid.{AreRight, Grows, IsRight, Moves, RunsGrow, column_of, ends_wrong, ends_wrong_at, gaps_after, gaps_on, laid_gaps, shape, gaps_after_assign, text_of}
 use Rattle.hcl_layout.specs.Inner.Left.{token_before}
 use Rattle.hcl_layout.specs.Inner.LineGaps.{gaps_from, gaps_in}
 use Rattle.hcl_layout.specs.Inner.Stream.{assign_column, assign_widths, assign_line, comment_column, comment_widths, comment_stream, next_of, plain}
@@ -71,43 +71,43 @@ module _ (ts : List Lexeme) (old new : Lines) (r : LineRead) (p : IsLine ts r.fi
   comment_widths_new : (c : Option ℕ) → comment_widths new.depth new.levels c (lines (drop new.next ts)) ≡ comment_widths r.depth levels' c after
   comment_widths_new c = ap₂ (λ (d : ℕ) (v : List ℕ). comment_widths d v c (lines (drop new.next ts))) m.depth m.levels ∙ ap (λ n. comment_widths r.depth levels' c (lines (drop n ts))) m.next
 
-  gaps_new : gaps_after ts new ≡ flat_map (λ g. g) (comment_stream r.depth levels' (column_of new.signs) (column_of new.comments) after)
+  gaps_new : gaps_after ts new ≡ flat_map (λ g. g) (comment_stream r.depth levels' (column_of new.assigns) (column_of new.comments) after)
   gaps_new =
-      ap₂ (λ (d : ℕ) (v : List ℕ). flat_map (λ g. g) (comment_stream d v (column_of new.signs) (column_of new.comments) (lines (drop new.next ts)))) m.depth m.levels
-      ∙ ap (λ n. flat_map (λ g. g) (comment_stream r.depth levels' (column_of new.signs) (column_of new.comments) (lines (drop n ts)))) m.next
+      ap₂ (λ (d : ℕ) (v : List ℕ). flat_map (λ g. g) (comment_stream d v (column_of new.assigns) (column_of new.comments) (lines (drop new.next ts)))) m.depth m.levels
+      ∙ ap (λ n. flat_map (λ g. g) (comment_stream r.depth levels' (column_of new.assigns) (column_of new.comments) (lines (drop n ts)))) m.next
 
   -- the rest of the print, if the columns are those of the definition
-  left_step : column_of new.signs ≡ assign_column old.depth old.levels (column_of old.signs) (lines (drop r.first ts))
-      → column_of new.comments ≡ comment_column old.depth old.levels (column_of old.signs) (column_of old.comments) (lines (drop r.first ts))
+  left_step : column_of new.assigns ≡ assign_column old.depth old.levels (column_of old.assigns) (lines (drop r.first ts))
+      → column_of new.comments ≡ comment_column old.depth old.levels (column_of old.assigns) (column_of old.comments) (lines (drop r.first ts))
       → gaps_after ts old ≡ laid_gaps old new t ++ gaps_after ts new
   left_step c k =
       let cut = read_cut ts old.depth r p in
-      ap (λ n. flat_map (λ g. g) (comment_stream old.depth old.levels (column_of old.signs) (column_of old.comments) (lines (drop n ts)))) (sym at)
-      ∙ ap (λ ls. flat_map (λ g. g) (comment_stream old.depth old.levels (column_of old.signs) (column_of old.comments) ls)) cut
-      ∙ ap (λ d. align trailing_comment (align assign_cell (plain old.depth old.levels t) t (assign_column old.depth old.levels (column_of old.signs) (t ∷ after))) t (comment_column old.depth old.levels (column_of old.signs) (column_of old.comments) (t ∷ after))
-      ++ flat_map (λ g. g) (comment_stream d (next_levels old.depth d old.levels) (assign_column old.depth old.levels (column_of old.signs) (t ∷ after)) (comment_column old.depth old.levels (column_of old.signs) (column_of old.comments) (t ∷ after)) after)) (sym p.depth)
+      ap (λ n. flat_map (λ g. g) (comment_stream old.depth old.levels (column_of old.assigns) (column_of old.comments) (lines (drop n ts)))) (sym at)
+      ∙ ap (λ ls. flat_map (λ g. g) (comment_stream old.depth old.levels (column_of old.assigns) (column_of old.comments) ls)) cut
+      ∙ ap (λ d. align trailing_comment (align assign_cell (plain old.depth old.levels t) t (assign_column old.depth old.levels (column_of old.assigns) (t ∷ after))) t (comment_column old.depth old.levels (column_of old.assigns) (column_of old.comments) (t ∷ after))
+      ++ flat_map (λ g. g) (comment_stream d (next_levels old.depth d old.levels) (assign_column old.depth old.levels (column_of old.assigns) (t ∷ after)) (comment_column old.depth old.levels (column_of old.assigns) (column_of old.comments) (t ∷ after)) after)) (sym p.depth)
       ∙ ap₂ (λ (x y : Option ℕ). align trailing_comment (align assign_cell (plain old.depth old.levels t) t x) t y ++ flat_map (λ g. g) (comment_stream r.depth levels' x y after))
-      (sym (c ∙ ap (assign_column old.depth old.levels (column_of old.signs)) cut)) (sym (k ∙ ap (comment_column old.depth old.levels (column_of old.signs) (column_of old.comments)) cut))
+      (sym (c ∙ ap (assign_column old.depth old.levels (column_of old.assigns)) cut)) (sym (k ∙ ap (comment_column old.depth old.levels (column_of old.assigns) (column_of old.comments)) cut))
       ∙ ap (λ gs. laid_gaps old new t ++ gs) (sym gaps_new)
 
   -- columns that were right after the line are right before it, and its cells are in them
   pub right_step : RunsGrow old t new → new.wrong ≡ false → AreRight ts new → (old.wrong ≡ false) × AreRight ts old × (gaps_after ts old ≡ laid_gaps old new t ++ gaps_after ts new)
   right_step g wrong right =
-      let parts = or_false old.wrong (ends_wrong_at old.signs (assign_cell t)) (ends_wrong_at old.comments (running_comment t)) (sym g.wrong ∙ wrong) in
-      let c = column_of old.signs in
-      let signs = run_back old.signs new.signs (assign_cell t) (λ i. width i (plain old.depth old.levels t) t) (assign_widths r.depth levels' after) g.signs parts.1
-      (subst (λ (ws : List (Option ℕ)). IsRight new.signs ws) sign_widths_new right.0) in
+      let parts = or_false old.wrong (ends_wrong_at old.assigns (assign_cell t)) (ends_wrong_at old.comments (running_comment t)) (sym g.wrong ∙ wrong) in
+      let c = column_of old.assigns in
+      let assigns = run_back old.assigns new.assigns (assign_cell t) (λ i. width i (plain old.depth old.levels t) t) (assign_widths r.depth levels' after) g.assigns parts.1
+      (subst (λ (ws : List (Option ℕ)). IsRight new.assigns ws) sign_widths_new right.0) in
       let step = sign_step ts old.depth r p old.levels in
-      let column : column_of new.signs ≡ assign_column old.depth old.levels c (lines (drop r.first ts)) = signs.column ∙ ap (next_of c) (sym step) in
-      let own : ℕ → ℕ = λ i. width i (signed_gaps old new t) t in
-      let comments = run_back old.comments new.comments (running_comment t) own (comment_widths r.depth levels' (column_of new.signs) after) g.comments parts.2
-      (subst (λ (ws : List (Option ℕ)). IsRight new.comments ws) (comment_widths_new (column_of new.signs)) right.1) in
-      let more : comment_widths old.depth old.levels c (lines (drop r.first ts)) ≡ option_map own (running_comment t) ∷ comment_widths r.depth levels' (column_of new.signs) after =
+      let column : column_of new.assigns ≡ assign_column old.depth old.levels c (lines (drop r.first ts)) = assigns.column ∙ ap (next_of c) (sym step) in
+      let own : ℕ → ℕ = λ i. width i (gaps_after_assign old new t) t in
+      let comments = run_back old.comments new.comments (running_comment t) own (comment_widths r.depth levels' (column_of new.assigns) after) g.comments parts.2
+      (subst (λ (ws : List (Option ℕ)). IsRight new.comments ws) (comment_widths_new (column_of new.assigns)) right.1) in
+      let more : comment_widths old.depth old.levels c (lines (drop r.first ts)) ≡ option_map own (running_comment t) ∷ comment_widths r.depth levels' (column_of new.assigns) after =
       comment_step c ∙ ap (λ (x : Option ℕ). option_map (λ i. width i (align assign_cell (plain old.depth old.levels t) t x) t) (running_comment t) ∷ comment_widths r.depth levels' x after) (sym column) in
       let other : column_of new.comments ≡ comment_column old.depth old.levels c (column_of old.comments) (lines (drop r.first ts)) = comments.column ∙ ap (next_of (column_of old.comments)) (sym more) in (
         parts.0,
         (
-          subst (λ n. IsRight old.signs (assign_widths old.depth old.levels (lines (drop n ts)))) at (subst (λ (ws : List (Option ℕ)). IsRight old.signs ws) (sym step) signs.right),
+          subst (λ n. IsRight old.assigns (assign_widths old.depth old.levels (lines (drop n ts)))) at (subst (λ (ws : List (Option ℕ)). IsRight old.assigns ws) (sym step) assigns.right),
           subst (λ n. IsRight old.comments (comment_widths old.depth old.levels c (lines (drop n ts)))) at (subst (λ (ws : List (Option ℕ)). IsRight old.comments ws) (sym more) comments.right),
         ),
         left_step column other,
@@ -132,13 +132,13 @@ not_any false false true h = cc
 not_any false false false h = (refl, refl, refl)
 
 -- after the last line
-pub all_right : (ts : List Lexeme) (s : Lines) → length ts ≤ s.next → not (s.wrong || ends_wrong s.signs || ends_wrong s.comments) ≡ true → (s.wrong ≡ false) × AreRight ts s
+pub all_right : (ts : List Lexeme) (s : Lines) → length ts ≤ s.next → not (s.wrong || ends_wrong s.assigns || ends_wrong s.comments) ≡ true → (s.wrong ≡ false) × AreRight ts s
 all_right ts s le e =
-    let parts = not_any s.wrong (ends_wrong s.signs) (ends_wrong s.comments) e in
+    let parts = not_any s.wrong (ends_wrong s.assigns) (ends_wrong s.comments) e in
     let none = sym (drop_of_length-le ts le) in (
       parts.0,
       (
-        subst (λ (xs : List Lexeme). IsRight s.signs (assign_widths s.depth s.levels (lines xs))) none (run_end s.signs parts.1),
-        subst (λ (xs : List Lexeme). IsRight s.comments (comment_widths s.depth s.levels (column_of s.signs) (lines xs))) none (run_end s.comments parts.2),
+        subst (λ (xs : List Lexeme). IsRight s.assigns (assign_widths s.depth s.levels (lines xs))) none (run_end s.assigns parts.1),
+        subst (λ (xs : List Lexeme). IsRight s.comments (comment_widths s.depth s.levels (column_of s.assigns) (lines xs))) none (run_end s.comments parts.2),
       ),
     )

@@ -6,7 +6,7 @@ use Rattle.hcl_tokens.specs.Balanced.{max_open}
 use Rattle.hcl_layout.specs.Cells.{assign_cell, before_comment, has_multiline, if_level, is_level, is_assignment, is_trailing, first_place_from, trailing_comment, until}
 use Rattle.hcl_layout.specs.Gaps.{align, gap_to, plain_gaps, width}
 use Rattle.hcl_layout.specs.Levels.{net_of}
-use Rattle.hcl_layout.specs.Inner.LineGaps.{IsKnown, IsSigned, len_with_blanks, gaps_in, plain_of, set_cell}
+use Rattle.hcl_layout.specs.Inner.LineGaps.{IsKnown, HasAssignSet, len_with_blanks, gaps_in, plain_of, set_cell}
 use Rattle.hcl_layout.specs.Lines.{Line}
 use Rattle.hcl_layout.specs.Inner.LineGaps.{Cell}
 use Rattle.hcl_layout.specs.Inner.LineGaps.{LineGaps}
@@ -39,7 +39,7 @@ until_short test (t ∷ line) = go (until_short test line) (test t) refl
     go r true e = rw e (omega arith)
     go r false e = rw e (omega arith)
 
-level_some : (line : Line) (sign : Option ℕ) (i : ℕ) → if_level line sign ≡ Some i → sign ≡ Some i
+level_some : (line : Line) (assign : Option ℕ) (i : ℕ) → if_level line assign ≡ Some i → assign ≡ Some i
 level_some line None i e = e
 level_some line (Some j) i e = go (is_level (net_of (drop j line))) refl
   where
@@ -119,7 +119,7 @@ signed_narrow ts at len g k n low plain small =
 -- ---- a line with its sign
 
 pub signed_set : (level i own gap : ℕ) (line : Line) → level ≤ max_open → assign_cell line ≡ Some i → own ≡ width i (plain_gaps level line) line → gap ≤ 2 ^ 33
-    → IsSigned (record { level = level; assign = Some (record { place = i; width = own; gap = gap }); comment = None }) line
+    → HasAssignSet (record { level = level; assign = Some (record { place = i; width = own; gap = gap }); comment = None }) line
 signed_set level i own gap line low e w small = record {
   level = low;
   plain = refl;

@@ -9,7 +9,7 @@ use Rattle.hcl_grammar.specs.Items.{deepen}
 use Rattle.hcl_layout.specs.Cells.{is_assignment, is_multiline, is_trailing}
 use Rattle.hcl_layout.specs.Lines.{ends_line}
 use Rattle.hcl_layout.specs.Inner.Depths.{BalancedFrom}
-use Rattle.hcl_layout.specs.Inner.Survey.{IsLine, Survey, facts_in, facts_of, survey_start, marks, survey_step, survey_of, survey_rest, takes_sign}
+use Rattle.hcl_layout.specs.Inner.Survey.{IsLine, Survey, facts_in, facts_of, survey_start, marks, survey_step, survey_of, survey_rest, takes_assign}
 use Rattle.hcl_layout.specs.declared.line.Line.{Line}
 use Rattle.hcl_layout.specs.declared.line.Seen.{Seen}
 use Rattle.hcl_spacing.proofs.KindLemmas.{each}
@@ -25,7 +25,7 @@ unmarked false false c h = (refl, refl, h)
 pub seen_kept : (s : Seen) (t : Lexeme) (d first n : ℕ) → first ≤ n → is_trailing t ≡ false → is_multiline t ≡ false → is_assignment t ≡ false
     → survey_of s (deepen d t.kind) first (n + 1) ≡ survey_step (survey_of s d first n) t
 seen_kept s t d first n le trailing inline assign =
-    let takes : takes_sign (survey_of s d first n) t ≡ false = rw assign (and_false (not (is_some (option_map (λ k. k - first) s.comment)) && not (is_trailing t) && not (is_some (option_map (λ k. k - first) s.sign)))) in
+    let takes : takes_assign (survey_of s d first n) t ≡ false = rw assign (and_false (not (is_some (option_map (λ k. k - first) s.comment)) && not (is_trailing t) && not (is_some (option_map (λ k. k - first) s.assign)))) in
     go s.comment refl takes inline trailing
   where
     and_false : (b : Bool) → (b && false) ≡ false
@@ -39,12 +39,12 @@ seen_kept s t d first n le trailing inline assign =
     len : (n + 1) - first ≡ (n - first) + 1
     len = omega (arith, le)
 
-    go : (c : Option ℕ) → s.comment ≡ c → takes_sign (survey_of s d first n) t ≡ false → is_multiline t ≡ false → is_trailing t ≡ false → survey_of s (deepen d t.kind) first (n + 1) ≡ survey_step (survey_of s d first n) t
+    go : (c : Option ℕ) → s.comment ≡ c → takes_assign (survey_of s d first n) t ≡ false → is_multiline t ≡ false → is_trailing t ≡ false → survey_of s (deepen d t.kind) first (n + 1) ≡ survey_step (survey_of s d first n) t
     go None e takes inline trailing =
-        let made : ℕ → Bool → Survey = λ k b. record { len = k; depth = deepen d t.kind; multiline = b; comment = None; body_depth = deepen d t.kind; sign = option_map (λ j. j - first) s.sign; sign_depth = s.sign_depth } in
+        let made : ℕ → Bool → Survey = λ k b. record { len = k; depth = deepen d t.kind; multiline = b; comment = None; body_depth = deepen d t.kind; assign = option_map (λ j. j - first) s.assign; sign_depth = s.sign_depth } in
         rw (takes, inline, trailing, e) (ap₂ made len (or_false s.multiline))
     go (Some i) e takes inline trailing =
-        let made : ℕ → Bool → Survey = λ k b. record { len = k; depth = deepen d t.kind; multiline = b; comment = Some (i - first); body_depth = s.body_depth; sign = option_map (λ j. j - first) s.sign; sign_depth = s.sign_depth } in
+        let made : ℕ → Bool → Survey = λ k b. record { len = k; depth = deepen d t.kind; multiline = b; comment = Some (i - first); body_depth = s.body_depth; assign = option_map (λ j. j - first) s.assign; sign_depth = s.sign_depth } in
         rw (takes, inline, trailing, e) (ap₂ made len (or_false s.multiline))
 
 -- a token of a kind that isn't a cell and tears none

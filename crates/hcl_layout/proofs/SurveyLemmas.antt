@@ -14,7 +14,7 @@ use Rattle.hcl_grammar.specs.Items.{deepen}
 use Rattle.hcl_layout.specs.Inner.Depths.{BalancedFrom, Steps, depth_after}
 use Rattle.hcl_layout.specs.Levels.{Net, net_of}
 use Rattle.hcl_layout.specs.Lines.{Line, ends_line, lines, onto_line}
-use Rattle.hcl_layout.specs.Inner.Survey.{IsLine, assign_of, cell_if, facts_of, survey_start, survey_from, survey_step, step_of, survey_rest, takes_sign}
+use Rattle.hcl_layout.specs.Inner.Survey.{IsLine, assign_of, cell_if, facts_of, survey_start, survey_from, survey_step, step_of, survey_rest, takes_assign}
 use Rattle.hcl_layout.specs.Inner.Survey.{Survey}
 use Rattle.hcl_layout.proofs.NotedKindLemmas.{Stepped, steps_deepen}
 use Rattle.hcl_layout.proofs.StreamLemmas.{after_is, after_low, deepen_low}
@@ -110,18 +110,18 @@ fold_multiline (t ∷ l) s = fold_multiline l (survey_step s t) ∙ or_assoc s.m
 record Same (s r : Survey) : Type 0 where
   comment : r.comment ≡ s.comment
   body : r.body_depth ≡ s.body_depth
-  sign : r.sign ≡ s.sign
+  assign : r.assign ≡ s.assign
   sign_depth : r.sign_depth ≡ s.sign_depth
 
 same_noted : (s : Survey) (t : Lexeme) (i : ℕ) → s.comment ≡ Some i → Same s (survey_step s t)
-same_noted s t i e = record { comment = rw e refl; body = rw e refl; sign = rw e refl; sign_depth = rw e refl }
+same_noted s t i e = record { comment = rw e refl; body = rw e refl; assign = rw e refl; sign_depth = rw e refl }
 
 stays : (l : Line) (s : Survey) (i : ℕ) → s.comment ≡ Some i → Same s (fold s l)
-stays [] s i e = record { comment = refl; body = refl; sign = refl; sign_depth = refl }
+stays [] s i e = record { comment = refl; body = refl; assign = refl; sign_depth = refl }
 stays (t ∷ l) s i e =
     let one = same_noted s t i e in
     let more = stays l (survey_step s t) i (one.comment ∙ e) in
-    record { comment = more.comment ∙ one.comment; body = more.body ∙ one.body; sign = more.sign ∙ one.sign; sign_depth = more.sign_depth ∙ one.sign_depth }
+    record { comment = more.comment ∙ one.comment; body = more.body ∙ one.body; assign = more.assign ∙ one.assign; sign_depth = more.sign_depth ∙ one.sign_depth }
 
 -- the comment, and the depth before it
 found : (l : Line) (s : Survey) → s.comment ≡ None → s.body_depth ≡ s.depth
@@ -156,13 +156,13 @@ place_within test i (t ∷ line) j p = go (place_within test (i + 1) line j) (te
     go r false e = let h : first_place_from test (i + 1) line ≡ Some j = rw e at p in (omega (arith, (r h).0), omega (arith, (r h).1))
 
 -- a sign that was found stays
-kept : (l : Line) (s : Survey) (i : ℕ) → s.sign ≡ Some i → ((fold s l).sign ≡ Some i) × ((fold s l).sign_depth ≡ s.sign_depth)
+kept : (l : Line) (s : Survey) (i : ℕ) → s.assign ≡ Some i → ((fold s l).assign ≡ Some i) × ((fold s l).sign_depth ≡ s.sign_depth)
 kept [] s i e = (e, refl)
 kept (t ∷ l) s i e =
-    let no : takes_sign s t ≡ false = rw e (never (not (is_some s.comment)) (not (is_trailing t)) (is_assignment t)) in
-    let sign : (survey_step s t).sign ≡ Some i = rw no e in
+    let no : takes_assign s t ≡ false = rw e (never (not (is_some s.comment)) (not (is_trailing t)) (is_assignment t)) in
+    let assign : (survey_step s t).assign ≡ Some i = rw no e in
     let depth : (survey_step s t).sign_depth ≡ s.sign_depth = rw no refl in
-    let more = kept l (survey_step s t) i sign in
+    let more = kept l (survey_step s t) i assign in
     (more.0, more.1 ∙ depth)
   where
     never : (a b c : Bool) → (a && b && false && c) ≡ false
@@ -171,8 +171,8 @@ kept (t ∷ l) s i e =
     never false b c = refl
 
 -- the sign is the first before the trailing comment
-signed : (l : Line) (s : Survey) → s.comment ≡ None → s.sign ≡ None
-    → ((fold s l).sign ≡ first_place_from is_assignment s.len (until is_trailing l))
+signed : (l : Line) (s : Survey) → s.comment ≡ None → s.assign ≡ None
+    → ((fold s l).assign ≡ first_place_from is_assignment s.len (until is_trailing l))
     × ((i : ℕ) → first_place_from is_assignment s.len (until is_trailing l) ≡ Some (s.len + i) → (fold s l).sign_depth ≡ depth_after s.depth (take i (until is_trailing l)))
 signed [] s e f = (f, λ i p. cc)
 signed (t ∷ l) s e f =
@@ -182,28 +182,28 @@ signed (t ∷ l) s e f =
     b = until is_trailing l
 
     go : ((survey_step s t).comment ≡ Some s.len → Same (survey_step s t) (fold (survey_step s t) l))
-        → ((survey_step s t).sign ≡ Some s.len → ((fold (survey_step s t) l).sign ≡ Some s.len) × ((fold (survey_step s t) l).sign_depth ≡ (survey_step s t).sign_depth))
-        → ((survey_step s t).comment ≡ None → (survey_step s t).sign ≡ None
-        → ((fold (survey_step s t) l).sign ≡ first_place_from is_assignment (s.len + 1) b) × ((i : ℕ) → first_place_from is_assignment (s.len + 1) b ≡ Some ((s.len + 1) + i) → (fold (survey_step s t) l).sign_depth ≡ depth_after (deepen s.depth t.kind) (take i b)))
+        → ((survey_step s t).assign ≡ Some s.len → ((fold (survey_step s t) l).assign ≡ Some s.len) × ((fold (survey_step s t) l).sign_depth ≡ (survey_step s t).sign_depth))
+        → ((survey_step s t).comment ≡ None → (survey_step s t).assign ≡ None
+        → ((fold (survey_step s t) l).assign ≡ first_place_from is_assignment (s.len + 1) b) × ((i : ℕ) → first_place_from is_assignment (s.len + 1) b ≡ Some ((s.len + 1) + i) → (fold (survey_step s t) l).sign_depth ≡ depth_after (deepen s.depth t.kind) (take i b)))
         → (v : Bool) → is_trailing t ≡ v → (w : Bool) → is_assignment t ≡ w
-        → ((fold s (t ∷ l)).sign ≡ first_place_from is_assignment s.len (until is_trailing (t ∷ l)))
+        → ((fold s (t ∷ l)).assign ≡ first_place_from is_assignment s.len (until is_trailing (t ∷ l)))
         × ((i : ℕ) → first_place_from is_assignment s.len (until is_trailing (t ∷ l)) ≡ Some (s.len + i) → (fold s (t ∷ l)).sign_depth ≡ depth_after s.depth (take i (until is_trailing (t ∷ l))))
     go x y z true v w q =
         let here : (survey_step s t).comment ≡ Some s.len = rw (e, v) refl in
-        let sign : (survey_step s t).sign ≡ None = rw (e, v) f in
+        let assign : (survey_step s t).assign ≡ None = rw (e, v) f in
         let same = x here in
-        rw v (same.sign ∙ sign, λ i p. cc)
+        rw v (same.assign ∙ assign, λ i p. cc)
     go x y z false v true q =
-        let sign : (survey_step s t).sign ≡ Some s.len = rw (e, v, f, q) refl in
+        let assign : (survey_step s t).assign ≡ Some s.len = rw (e, v, f, q) refl in
         let depth : (survey_step s t).sign_depth ≡ s.depth = rw (e, v, f, q) refl in
-        let same = y sign in
+        let same = y assign in
         let first : (i : ℕ) → Some s.len ≡ Some (s.len + i) → (fold s (t ∷ l)).sign_depth ≡ depth_after s.depth (take i (t ∷ b)) =
         λ i p. (let zero_is : i ≡ zero = omega (arith, some_same s.len (s.len + i) p) in same.1 ∙ depth ∙ ap (λ k. depth_after s.depth (take k (t ∷ b))) (sym zero_is)) in
         rw (v, q) (same.0, first)
     go x y z false v false q =
         let here : (survey_step s t).comment ≡ None = rw (e, v) refl in
-        let sign : (survey_step s t).sign ≡ None = rw (e, v, f, q) refl in
-        let more = z here sign in
+        let assign : (survey_step s t).assign ≡ None = rw (e, v, f, q) refl in
+        let more = z here assign in
         let later : (i : ℕ) → first_place_from is_assignment (s.len + 1) b ≡ Some (s.len + i) → (fold s (t ∷ l)).sign_depth ≡ depth_after s.depth (take i (t ∷ b)) =
         λ i p. later_by i p more.1 in
         rw (v, q) (more.0, later)
@@ -251,7 +251,7 @@ level_same n d l p =
     equal : (a b o c : ℕ) → a + o ≡ b + c → nat_eq o c ≡ nat_eq a b
     equal a b o c e = grind arith
 
-cell_same : (line : Line) (sign : Option ℕ) (b : Bool) → ((i : ℕ) → sign ≡ Some i → is_level (net_of (drop i line)) ≡ b) → if_level line sign ≡ cell_if b sign
+cell_same : (line : Line) (assign : Option ℕ) (b : Bool) → ((i : ℕ) → assign ≡ Some i → is_level (net_of (drop i line)) ≡ b) → if_level line assign ≡ cell_if b assign
 cell_same line None true p = refl
 cell_same line None false p = refl
 cell_same line (Some i) b p = rw (p i refl) (go b)
@@ -273,12 +273,12 @@ cell_is l d t p =
     let s : Survey = survey_start d t in
     let b : Line = until is_trailing l in
     let depth = found l s refl refl in
-    let sign = signed l s refl refl in
+    let assign = signed l s refl refl in
     let whole : BalancedFrom d (t ∷ b) = (p.0, until_balanced l (deepen d t.kind) p.1) in
     let level : (i : ℕ) → first_place_from is_assignment 1 b ≡ Some i → is_level (net_of (drop i (t ∷ b))) ≡ ((fold s l).sign_depth == (fold s l).body_depth) =
-    λ i e. level_at_sign i e depth.1 sign.1 whole in
-    cell_multiline (fold s l).multiline (if_level (t ∷ b) (first_place_from is_assignment 1 b)) (fold s l).sign ((fold s l).sign_depth == (fold s l).body_depth)
-    (cell_same (t ∷ b) (first_place_from is_assignment 1 b) ((fold s l).sign_depth == (fold s l).body_depth) level ∙ ap (cell_if ((fold s l).sign_depth == (fold s l).body_depth)) (sym sign.0))
+    λ i e. level_at_sign i e depth.1 assign.1 whole in
+    cell_multiline (fold s l).multiline (if_level (t ∷ b) (first_place_from is_assignment 1 b)) (fold s l).assign ((fold s l).sign_depth == (fold s l).body_depth)
+    (cell_same (t ∷ b) (first_place_from is_assignment 1 b) ((fold s l).sign_depth == (fold s l).body_depth) level ∙ ap (cell_if ((fold s l).sign_depth == (fold s l).body_depth)) (sym assign.0))
     ∙ ap (λ (v : Bool). if v then None else if_level (t ∷ b) (first_place_from is_assignment 1 b)) (fold_multiline l s)
   where
     level_at_sign : (i : ℕ) → first_place_from is_assignment 1 (until is_trailing l) ≡ Some i → (fold (survey_start d t) l).body_depth ≡ depth_after (deepen d t.kind) (until is_trailing l)

@@ -42,16 +42,16 @@ module _ (ts : List Lexeme) (d : ℕ) (r : LineRead) (p : IsLine ts r.first d (f
   read_level levels = ap (λ k. plain_gaps (level_at d k levels) text) p.depth
 
   -- its sign
-  pub sign_is : (n : ℕ) → r.sign ≡ Some n → assign_cell (take (r.end - r.first) (drop r.first ts)) ≡ Some (n - r.first)
+  pub sign_is : (n : ℕ) → r.assign ≡ Some n → assign_cell (take (r.end - r.first) (drop r.first ts)) ≡ Some (n - r.first)
   sign_is n e = sym p.assign ∙ ap (option_map (λ k. k - r.first)) e
 
-  pub sign_none : r.sign ≡ None → assign_cell (take (r.end - r.first) (drop r.first ts)) ≡ None
+  pub sign_none : r.assign ≡ None → assign_cell (take (r.end - r.first) (drop r.first ts)) ≡ None
   sign_none e = sym p.assign ∙ ap (option_map (λ k. k - r.first)) e
 
-  pub sign_after : (n : ℕ) → r.sign ≡ Some n → r.first < n
+  pub sign_after : (n : ℕ) → r.assign ≡ Some n → r.first < n
   sign_after n e = omega (arith, assign_after text (n - r.first) (sign_is n e))
 
-  pub sign_within : (n : ℕ) → r.sign ≡ Some n → n < r.end
+  pub sign_within : (n : ℕ) → r.assign ≡ Some n → n < r.end
   sign_within n e = omega (arith, assign_within text (n - r.first) (sign_is n e), length-take (r.end - r.first) (drop r.first ts))
 
   -- its comment
@@ -74,11 +74,11 @@ running_some true x n e = e
 running_some false x n e = cc
 
 -- before the first line
-pub start_at : (ts : List Lexeme) (s : Lines) → BalancedFrom 0 ts → length ts ≤ 2 ^ 22 → s.next ≡ 0 → s.depth ≡ 0 → s.levels ≡ fresh → s.signs ≡ None → s.comments ≡ None → IsAt ts s
+pub start_at : (ts : List Lexeme) (s : Lines) → BalancedFrom 0 ts → length ts ≤ 2 ^ 22 → s.next ≡ 0 → s.depth ≡ 0 → s.levels ≡ fresh → s.assigns ≡ None → s.comments ≡ None → IsAt ts s
 start_at ts s p few n d v a b = record {
   come = record {
     stands = record { balanced = rw (n, d) p; low = rw d (omega arith); sound = rw (d, v) (length-replicate {A = ℕ} (max_open + 1) 0, λ k le. omega (arith, zeros_get (max_open + 1) k)) };
-    signs = rw a tt;
+    assigns = rw a tt;
     comments = rw b tt;
   };
   within = rw n (omega arith);

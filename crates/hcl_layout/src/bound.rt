@@ -56,11 +56,11 @@ fn room_before(tokens: &Measured<'_, '_>, line: Line, cell: Option<usize>) -> u6
 fn cells_in(line: Line) -> u64
     ensures { result ≡ cells_of (facts_in line).assign (facts_in line).running }
 {
-    let signs = u64::from(line.sign.is_some());
+    let assigns = u64::from(line.assign.is_some());
     if line.running().is_some() {
-        return signs + 2;
+        return assigns + 2;
     }
-    signs
+    assigns
 }
 
 impl Extent {
@@ -81,12 +81,12 @@ impl Extent {
                 width: 0,
             };
         }
-        let sign = room_before(tokens, line, line.sign);
+        let assign = room_before(tokens, line, line.assign);
         let comment = room_before(tokens, line, line.running());
         Extent {
             passed: self.passed + indent,
             cells: self.cells + cells,
-            width: self.width.max(indent + sign.max(comment)),
+            width: self.width.max(indent + assign.max(comment)),
         }
     }
 }

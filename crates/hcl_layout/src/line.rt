@@ -18,7 +18,7 @@ pub struct Line {
     pub end: usize,
     pub depth: u32,
     /// The assignment sign that begins a cell.
-    pub sign: Option<usize>,
+    pub assign: Option<usize>,
     /// The comment at its end.
     pub comment: Option<usize>,
     /// Whether the comment is part of a run.
@@ -90,7 +90,7 @@ fn holds_newline(text: &str) -> bool
 /// The state of a walk along a line.
 #[derive(Clone, Copy)]
 pub struct Seen {
-    pub sign: Option<usize>,
+    pub assign: Option<usize>,
     pub sign_depth: u32,
     pub comment: Option<usize>,
     /// The depth before the comment.
@@ -101,15 +101,15 @@ pub struct Seen {
 impl Seen {
     /// The state with a sign.
     #[inline(always)]
-    fn with_sign(self, number: usize, depth: u32) -> Seen
+    fn with_assign(self, number: usize, depth: u32) -> Seen
         ensures { (t : Lexeme) → t.kind ≡ Assign → t.inside_heredoc ≡ false
             → Notes self number depth t result }
     {
-        if self.sign.is_some() || self.comment.is_some() {
+        if self.assign.is_some() || self.comment.is_some() {
             return self;
         }
         Seen {
-            sign: Some(number),
+            assign: Some(number),
             sign_depth: depth,
             ..self
         }
@@ -156,7 +156,7 @@ impl Seen {
         }
         let kind = tokens.kind(number);
         if matches!(kind, Kind::Assign) {
-            return self.with_sign(number, depth);
+            return self.with_assign(number, depth);
         }
         if matches!(kind, Kind::LineComment) {
             return self.with_comment(number, depth);
@@ -181,7 +181,7 @@ impl Seen {
         ensures { result ≡ seen_cell self depth }
     {
         if !self.multiline && self.sign_depth == self.body_depth(depth) {
-            return self.sign;
+            return self.assign;
         }
         None
     }
@@ -196,7 +196,7 @@ impl Seen {
             first,
             end,
             depth,
-            sign: self.cell(depth),
+            assign: self.cell(depth),
             comment: self.comment,
             runs: !self.multiline,
         }
@@ -218,7 +218,7 @@ fn seen_at_start(multiline: bool) -> Seen
     ensures { result ≡ seen_at_start multiline }
 {
     Seen {
-        sign: None,
+        assign: None,
         sign_depth: 0,
         comment: None,
         body_depth: 0,

@@ -4,9 +4,9 @@ ghost use Rattle.hcl_tokens.specs.Scanned.{lexeme};
 ghost use Rattle.hcl_tokens.specs.Balanced.{max_open};
 ghost use Rattle.hcl_layout.specs.Gaps.{indent as indent_of};
 ghost use Rattle.hcl_layout.specs.Inner.Depths.{Sound};
-ghost use Rattle.hcl_layout.specs.Inner.Laid.{FindsComment, FindsSign, GoesBack, HasGaps, HasOwnGap, HasSignGaps, IsAt, IsCommentColumn, IsDone, IsLaid, IsPlainOn, IsSignColumn, KeepsRuns, Laid, LeavesGaps, Moves, MovesSign, Reads, RunsGrow, SignsGrow, Spans, Stops, bare_after, cell_in, comment_width_on, comments_ended, ends_all_wrong, ends_wrong, gap_on, greatest_of, left_after, no_lines, shape, sign_width_on, signs_ended, text_of, widest_comment, widest_sign, width_on, with_comment_in, with_sign_in};
+ghost use Rattle.hcl_layout.specs.Inner.Laid.{FindsComment, FindsAssign, GoesBack, HasGaps, HasOwnGap, HasAssignGaps, IsAt, IsCommentColumn, IsDone, IsLaid, IsPlainOn, IsAssignColumn, KeepsRuns, Laid, LeavesGaps, Moves, MovesAssign, Reads, RunsGrow, AssignsGrow, Spans, Stops, bare_after, cell_in, comment_width_on, comments_ended, ends_all_wrong, ends_wrong, gap_on, greatest_of, left_after, no_lines, shape, assign_width_on, assigns_ended, text_of, widest_comment, widest_assign, width_on, with_comment_in, with_assign_in};
 ghost use Rattle.hcl_layout.specs.Inner.Left.{IsGapAt, IsGapBefore, token_before};
-ghost use Rattle.hcl_layout.specs.Inner.LineGaps.{IsSigned, plain_of};
+ghost use Rattle.hcl_layout.specs.Inner.LineGaps.{HasAssignSet, plain_of};
 ghost use Rattle.hcl_layout.specs.Inner.Simple.{IsFrom};
 ghost use Rattle.hcl_layout.specs.declared.lines.Columns.TheVariants.{Ahead};
 
@@ -31,7 +31,7 @@ pub struct LaidLine {
     pub first: usize,
     pub end: usize,
     pub level: u32,
-    pub sign: Cell,
+    pub assign: Cell,
     pub comment: Cell,
 }
 
@@ -64,7 +64,7 @@ pub struct Lines {
     pub next: usize,
     pub depth: u32,
     pub levels: [u32; DEPTHS],
-    pub signs: Option<Run>,
+    pub assigns: Option<Run>,
     pub comments: Option<Run>,
     pub columns: Columns,
     /// Whether a run had another column.
@@ -175,8 +175,8 @@ impl LaidLine {
         if number == self.comment.number {
             return self.comment.gap;
         }
-        if number == self.sign.number {
-            return self.sign.gap;
+        if number == self.assign.number {
+            return self.assign.gap;
         }
         indent(self.level, token)
     }
@@ -189,7 +189,7 @@ impl LaidLine {
         requires after { self.first < number }
         requires within { number < self.end }
         requires comment { number ≢ self.comment.number }
-        requires sign { number ≢ self.sign.number }
+        requires assign { number ≢ self.assign.number }
         ensures value { result ≡ gap_on tokens.now.tokens self number (lexeme token.entry) }
         ensures small { result ≤ 2 ^ 34 }
     {
@@ -203,16 +203,16 @@ impl LaidLine {
         requires within { number < self.end }
         ensures { Stops self (number + 1) result }
     {
-        if self.sign.number <= number {
+        if self.assign.number <= number {
             if number < self.comment.number {
                 return self.comment.number;
             }
             return self.end;
         }
-        if number < self.comment.number && self.comment.number < self.sign.number {
+        if number < self.comment.number && self.comment.number < self.assign.number {
             return self.comment.number;
         }
-        self.sign.number
+        self.assign.number
     }
 
     /// A token of the line with the blanks before it, if no token before the stop has a gap of its own; and the next
@@ -267,12 +267,12 @@ impl LaidLine {
 
     /// The width before a sign, before any cell is set.
     #[inline(always)]
-    fn sign_width(self, tokens: &Measured<'_, '_>, number: usize) -> u64
+    fn assign_cell_width(self, tokens: &Measured<'_, '_>, number: usize) -> u64
         requires laid { Laid tokens.now.tokens self }
         requires bare { shape self ≡ plain_of self.level }
         requires order { self.first < number }
         requires within { number ≤ self.end }
-        ensures value { result ≡ sign_width_on tokens.now.tokens self number }
+        ensures value { result ≡ assign_width_on tokens.now.tokens self number }
         ensures small { result ≤ 2 ^ 24 }
     {
         // so the texts are short
@@ -285,7 +285,7 @@ impl LaidLine {
     #[inline(never)]
     fn comment_width(self, tokens: &Measured<'_, '_>, number: usize) -> u64
         requires laid { Laid tokens.now.tokens self }
-        requires signed { IsSigned (shape self) (text_of tokens.now.tokens self) }
+        requires signed { HasAssignSet (shape self) (text_of tokens.now.tokens self) }
         requires order { self.first < number }
         requires within { number < self.end }
         ensures value { result ≡ comment_width_on tokens.now.tokens self number }
@@ -293,19 +293,19 @@ impl LaidLine {
     {
         // so the texts are short
         let _count = tokens.len();
-        if self.sign.number < number {
-            return self.width(tokens, self.sign.number, self.sign.width, number);
+        if self.assign.number < number {
+            return self.width(tokens, self.assign.number, self.assign.width, number);
         }
         self.width(tokens, self.first, 0, number)
     }
 
     /// The line with its sign in a column, given the width before the sign.
-    fn with_sign(self, number: usize, width: u64, column: u64) -> LaidLine
+    fn with_assign(self, number: usize, width: u64, column: u64) -> LaidLine
         requires fits { column < 2 ^ 33 }
-        ensures { result ≡ with_sign_in self number width column }
+        ensures { result ≡ with_assign_in self number width column }
     {
         LaidLine {
-            sign: cell_at(number, width, column),
+            assign: cell_at(number, width, column),
             ..self
         }
     }
@@ -342,7 +342,7 @@ impl Lines {
             next: 0,
             depth: 0,
             levels: [0; DEPTHS],
-            signs: None,
+            assigns: None,
             comments: None,
             columns,
             wrong: false,
@@ -353,7 +353,7 @@ impl Lines {
     pub fn are_right(&self) -> bool
         ensures { result ≡ not (ends_all_wrong self.now) }
     {
-        !(self.wrong || is_wrong(self.signs) || is_wrong(self.comments))
+        !(self.wrong || is_wrong(self.assigns) || is_wrong(self.comments))
     }
 
     /// Passes a line, except for its cells.
@@ -380,71 +380,71 @@ impl Lines {
             first: line.first,
             end: line.end,
             level,
-            sign: none,
+            assign: none,
             comment: none,
         }
     }
 
     /// The greatest width before the signs of the run that continues with the next line.
     #[cold]
-    fn signs_ahead(&self, tokens: &Measured<'_, '_>) -> u64
+    fn assigns_ahead(&self, tokens: &Measured<'_, '_>) -> u64
         requires at { IsAt tokens.now.tokens self.now }
-        ensures value { result ≡ widest_sign tokens.now.tokens self.now }
+        ensures value { result ≡ widest_assign tokens.now.tokens self.now }
         ensures small { result ≤ 2 ^ 24 }
     {
         let mut ahead = *self;
         let mut greatest = 0;
         while ahead.next < tokens.len() {
             let line = line_at(tokens, ahead.next, ahead.depth);
-            let Some(number) = line.sign else {
+            let Some(number) = line.assign else {
                 return greatest;
             };
-            greatest = greatest.max(ahead.pass(line).sign_width(tokens, number));
+            greatest = greatest.max(ahead.pass(line).assign_cell_width(tokens, number));
         }
         greatest
     }
 
     /// The column of a sign, from the width before it, when the next line begins after it.
     #[inline(always)]
-    fn sign_column(&self, tokens: &Measured<'_, '_>, number: usize, width: u64) -> u64
+    fn assign_cell_column(&self, tokens: &Measured<'_, '_>, number: usize, width: u64) -> u64
         requires at { IsAt tokens.now.tokens self.now }
         requires within { number < length tokens.now.tokens }
         requires after { 0 < number }
         requires narrow { width ≤ 2 ^ 24 }
-        ensures kept { IfSome self.now.signs (λ r. result ≡ r.column) }
-        ensures ahead { IsSignColumn tokens.now.tokens self.now width result }
+        ensures kept { IfSome self.now.assigns (λ r. result ≡ r.column) }
+        ensures ahead { IsAssignColumn tokens.now.tokens self.now width result }
         ensures small { result < 2 ^ 33 }
     {
-        if let Some(run) = self.signs {
+        if let Some(run) = self.assigns {
             return run.column;
         }
         match self.columns {
-            Columns::Ahead => width.max(self.signs_ahead(tokens)),
+            Columns::Ahead => width.max(self.assigns_ahead(tokens)),
             Columns::Found => column_in_source(tokens, number, width),
         }
     }
 
     /// Passes a line, except for its comment.
     #[inline(always)]
-    fn pass_sign(&mut self, tokens: &Measured<'_, '_>, line: Line) -> LaidLine
+    fn pass_assign(&mut self, tokens: &Measured<'_, '_>, line: Line) -> LaidLine
         requires { Reads tokens.now.tokens self.old line }
         ensures spans { Spans result line }
         ensures laid { Laid tokens.now.tokens result }
-        ensures signed { IsSigned (shape result) (text_of tokens.now.tokens result) }
-        ensures gaps { HasSignGaps tokens.now.tokens self.old self.new result }
-        ensures moved { MovesSign tokens.now.tokens self.old line self.new }
-        ensures grows { SignsGrow tokens.now.tokens self.old self.new result }
-        ensures ahead { FindsSign tokens.now.tokens self.old self.new }
+        ensures signed { HasAssignSet (shape result) (text_of tokens.now.tokens result) }
+        ensures gaps { HasAssignGaps tokens.now.tokens self.old self.new result }
+        ensures moved { MovesAssign tokens.now.tokens self.old line self.new }
+        ensures grows { AssignsGrow tokens.now.tokens self.old self.new result }
+        ensures ahead { FindsAssign tokens.now.tokens self.old self.new }
     {
         let laid = self.pass(line);
-        let Some(number) = line.sign else {
-            self.end_signs();
+        let Some(number) = line.assign else {
+            self.end_assigns();
             return laid;
         };
-        let width = laid.sign_width(tokens, number);
-        let column = self.sign_column(tokens, number, width);
-        self.signs = Some(run_with(column, self.signs, width));
-        laid.with_sign(number, width, column)
+        let width = laid.assign_cell_width(tokens, number);
+        let column = self.assign_cell_column(tokens, number, width);
+        self.assigns = Some(run_with(column, self.assigns, width));
+        laid.with_assign(number, width, column)
     }
 
     /// The greatest width before the comments of the run that continues with the next line.
@@ -462,7 +462,7 @@ impl Lines {
             let Some(number) = line.running() else {
                 return greatest;
             };
-            let laid = ahead.pass_sign(tokens, line);
+            let laid = ahead.pass_assign(tokens, line);
             greatest = greatest.max(laid.comment_width(tokens, number));
         }
         greatest
@@ -500,14 +500,14 @@ impl Lines {
     }
 
     /// Ends the run of signs.
-    fn end_signs(&mut self)
-        ensures { self.new ≡ signs_ended self.old }
+    fn end_assigns(&mut self)
+        ensures { self.new ≡ assigns_ended self.old }
     {
-        let Some(run) = self.signs else {
+        let Some(run) = self.assigns else {
             return;
         };
         self.wrong = self.wrong || run.column != run.greatest;
-        self.signs = None;
+        self.assigns = None;
     }
 
     /// Passes a line, and returns it with both cells in their columns.
@@ -519,10 +519,10 @@ impl Lines {
         ensures gaps { HasGaps tokens.now.tokens self.old self.new result }
         ensures moved { Moves self.old line self.new × IsAt tokens.now.tokens self.new }
         ensures runs { RunsGrow self.old (text_of tokens.now.tokens result) self.new }
-        ensures ahead_sign { FindsSign tokens.now.tokens self.old self.new }
+        ensures ahead_sign { FindsAssign tokens.now.tokens self.old self.new }
         ensures ahead_comment { FindsComment tokens.now.tokens self.old self.new }
     {
-        let laid = self.pass_sign(tokens, line);
+        let laid = self.pass_assign(tokens, line);
         let Some(number) = line.comment else {
             self.end_comments();
             return laid;

@@ -13,7 +13,7 @@ use Rattle.hcl_layout.specs.Inner.Left.{gap_before, token_before}
 use Rattle.hcl_layout.specs.Inner.LineGaps.{Cell, LineGaps, gaps_from, gaps_in}
 use Rattle.hcl_layout.specs.Inner.Stream.{assign_column, assign_width, assign_widths, comment_column, comment_widths, comment_stream, next_of, plain}
 use Rattle.hcl_layout.specs.Inner.Survey.{IsLine, facts_in}
-use Rattle.hcl_layout.specs.Inner.Walks.{IsWalkAt, Walk, comment_widths_at, sign_widths_at}
+use Rattle.hcl_layout.specs.Inner.Walks.{IsWalkAt, Walk, comment_widths_at, assign_widths_at}
 use Rattle.hcl_layout.specs.declared.line.Line.{Line as LineRead}
 use Rattle.hcl_layout.specs.declared.lines.Cell.{Cell as CellLaid}
 use Rattle.hcl_layout.specs.declared.lines.Columns.{Columns}
@@ -33,16 +33,16 @@ cell_of l c = if nat_lt c.number l.end then Some (record { place = c.number - l.
 
 -- the inputs of its gaps
 abbrev pub shape : LaidLine → LineGaps
-shape l = record { level = l.level; assign = cell_of l l.sign; comment = cell_of l l.comment }
+shape l = record { level = l.level; assign = cell_of l l.assign; comment = cell_of l l.comment }
 
 pub record Laid (ts : List Lexeme) (l : LaidLine) : Type 0 where
   pub some : l.first < l.end
   pub within : l.end ≤ length ts
   pub few : length ts ≤ 2 ^ 22
   pub level : l.level ≤ max_open
-  pub sign_front : l.first < l.sign.number
+  pub sign_front : l.first < l.assign.number
   pub comment_front : l.first < l.comment.number
-  pub sign_gap : l.sign.gap ≤ 2 ^ 33
+  pub sign_gap : l.assign.gap ≤ 2 ^ 33
   pub comment_gap : l.comment.gap ≤ 2 ^ 34
 
 -- the line from a token on, its gaps, and the width before another token
@@ -60,27 +60,27 @@ abbrev pub gap_on : List Lexeme → LaidLine → ℕ → Lexeme → ℕ
 gap_on ts l n t = gap_before ts (shape l) l.first n t
 
 -- the width before a token, by the level and the spacing alone, and with the line's cells
-abbrev pub sign_width_on : List Lexeme → LaidLine → ℕ → ℕ
-sign_width_on ts l n = width (n - l.first) (plain_gaps l.level (text_of ts l)) (text_of ts l)
+abbrev pub assign_width_on : List Lexeme → LaidLine → ℕ → ℕ
+assign_width_on ts l n = width (n - l.first) (plain_gaps l.level (text_of ts l)) (text_of ts l)
 
 abbrev pub comment_width_on : List Lexeme → LaidLine → ℕ → ℕ
 comment_width_on ts l n = width (n - l.first) (gaps_in (shape l) (text_of ts l)) (text_of ts l)
 
 -- the gap before the token depends on no token before it
 abbrev pub HasOwnGap : LaidLine → ℕ → Type 0
-HasOwnGap l n = (n ≡ l.comment.number → ⊥) → (n ≡ l.sign.number → ⊥) → n ≡ l.first
+HasOwnGap l n = (n ≡ l.comment.number → ⊥) → (n ≡ l.assign.number → ⊥) → n ≡ l.first
 
 -- from a number on, neither the line's first token nor a cell is before the stop
 pub record Stops (l : LaidLine) (n stop : ℕ) : Type 0 where
   pub order : n ≤ stop
   pub first : n < stop → l.first < n
-  pub sign : n ≤ l.sign.number → stop ≤ l.sign.number
+  pub assign : n ≤ l.assign.number → stop ≤ l.assign.number
   pub comment : n ≤ l.comment.number → stop ≤ l.comment.number
   pub own : stop < l.end → HasOwnGap l stop
 
 -- no cell is after one number and before another
 abbrev pub IsPlainOn : LaidLine → ℕ → ℕ → Type 0
-IsPlainOn l from stop = (k : ℕ) → from < k → k < stop → (k ≢ l.comment.number) × (k ≢ l.sign.number)
+IsPlainOn l from stop = (k : ℕ) → from < k → k < stop → (k ≢ l.comment.number) × (k ≢ l.assign.number)
 
 -- the laid-out line is the line that was read
 abbrev pub Spans : LaidLine → LineRead → Type 0
@@ -92,11 +92,11 @@ abbrev pub column_of : Option Run → Option ℕ
 column_of = option_map (λ (r : Run). r.column)
 
 abbrev pub walk_of : Lines → Walk
-walk_of s = record { depth = s.depth; levels = s.levels; signs = column_of s.signs; comments = column_of s.comments }
+walk_of s = record { depth = s.depth; levels = s.levels; assigns = column_of s.assigns; comments = column_of s.comments }
 
 -- no line was passed
 abbrev pub no_lines : Columns → Lines
-no_lines columns = record { next = 0; depth = 0; levels = fresh; signs = None; comments = None; columns = columns; wrong = false }
+no_lines columns = record { next = 0; depth = 0; levels = fresh; assigns = None; comments = None; columns = columns; wrong = false }
 
 -- the passed lines end before the next token
 pub record IsAt (ts : List Lexeme) (s : Lines) : Type 0 where
@@ -125,14 +125,14 @@ ends_wrong None = false
 ends_wrong (Some r) = not (r.column == r.greatest)
 
 abbrev pub ends_all_wrong : Lines → Bool
-ends_all_wrong s = s.wrong || ends_wrong s.signs || ends_wrong s.comments
+ends_all_wrong s = s.wrong || ends_wrong s.assigns || ends_wrong s.comments
 
 -- a run ends
-abbrev pub signs_ended : Lines → Lines
-signs_ended s = record { next = s.next; depth = s.depth; levels = s.levels; signs = None; comments = s.comments; columns = s.columns; wrong = s.wrong || ends_wrong s.signs }
+abbrev pub assigns_ended : Lines → Lines
+assigns_ended s = record { next = s.next; depth = s.depth; levels = s.levels; assigns = None; comments = s.comments; columns = s.columns; wrong = s.wrong || ends_wrong s.assigns }
 
 abbrev pub comments_ended : Lines → Lines
-comments_ended s = record { next = s.next; depth = s.depth; levels = s.levels; signs = s.signs; comments = None; columns = s.columns; wrong = s.wrong || ends_wrong s.comments }
+comments_ended s = record { next = s.next; depth = s.depth; levels = s.levels; assigns = s.assigns; comments = None; columns = s.columns; wrong = s.wrong || ends_wrong s.comments }
 
 -- the run after a line with this width before the cell, or without the cell
 abbrev pub ends_wrong_at : Option Run → Option ℕ → Bool
@@ -155,7 +155,7 @@ abbrev pub none_at : ℕ → CellLaid
 none_at end = record { number = end; width = 0; gap = 0 }
 
 abbrev pub bare_line : LineRead → ℕ → LaidLine
-bare_line r level = record { first = r.first; end = r.end; level = level; sign = none_at r.end; comment = none_at r.end }
+bare_line r level = record { first = r.first; end = r.end; level = level; assign = none_at r.end; comment = none_at r.end }
 
 abbrev pub bare_after : Lines → LineRead → LaidLine
 bare_after s r = bare_line r (level_at s.depth r.depth s.levels)
@@ -164,71 +164,71 @@ bare_after s r = bare_line r (level_at s.depth r.depth s.levels)
 abbrev pub cell_in : ℕ → ℕ → ℕ → CellLaid
 cell_in number own column = record { number = number; width = own; gap = column - own + 1 }
 
-abbrev pub with_sign_in : LaidLine → ℕ → ℕ → ℕ → LaidLine
-with_sign_in l number own column = record { first = l.first; end = l.end; level = l.level; sign = cell_in number own column; comment = l.comment }
+abbrev pub with_assign_in : LaidLine → ℕ → ℕ → ℕ → LaidLine
+with_assign_in l number own column = record { first = l.first; end = l.end; level = l.level; assign = cell_in number own column; comment = l.comment }
 
 abbrev pub with_comment_in : LaidLine → ℕ → ℕ → ℕ → LaidLine
-with_comment_in l number own column = record { first = l.first; end = l.end; level = l.level; sign = l.sign; comment = cell_in number own column }
+with_comment_in l number own column = record { first = l.first; end = l.end; level = l.level; assign = l.assign; comment = cell_in number own column }
 
 -- the runs stay as they are
 abbrev pub KeepsRuns : Lines → Lines → Type 0
-KeepsRuns old new = (new.signs ≡ old.signs) × (new.comments ≡ old.comments) × (new.wrong ≡ old.wrong)
+KeepsRuns old new = (new.assigns ≡ old.assigns) × (new.comments ≡ old.comments) × (new.wrong ≡ old.wrong)
 
 -- its gaps with its sign in the column of the run, whatever that is, and then with its comment in the column of its run
-abbrev pub signed_gaps : Lines → Lines → Line → List ℕ
-signed_gaps old new l = align assign_cell (plain old.depth old.levels l) l (column_of new.signs)
+abbrev pub gaps_after_assign : Lines → Lines → Line → List ℕ
+gaps_after_assign old new l = align assign_cell (plain old.depth old.levels l) l (column_of new.assigns)
 
 abbrev pub laid_gaps : Lines → Lines → Line → List ℕ
-laid_gaps old new l = align trailing_comment (signed_gaps old new l) l (column_of new.comments)
+laid_gaps old new l = align trailing_comment (gaps_after_assign old new l) l (column_of new.comments)
 
 -- columns that are measured ahead are those of the definition
-abbrev pub FindsSign : List Lexeme → Lines → Lines → Type 0
-FindsSign ts old new = old.columns ≡ Ahead → column_of new.signs ≡ assign_column old.depth old.levels (column_of old.signs) (lines (drop old.next ts))
+abbrev pub FindsAssign : List Lexeme → Lines → Lines → Type 0
+FindsAssign ts old new = old.columns ≡ Ahead → column_of new.assigns ≡ assign_column old.depth old.levels (column_of old.assigns) (lines (drop old.next ts))
 
 abbrev pub FindsComment : List Lexeme → Lines → Lines → Type 0
-FindsComment ts old new = old.columns ≡ Ahead → column_of new.comments ≡ comment_column old.depth old.levels (column_of old.signs) (column_of old.comments) (lines (drop old.next ts))
+FindsComment ts old new = old.columns ≡ Ahead → column_of new.comments ≡ comment_column old.depth old.levels (column_of old.assigns) (column_of old.comments) (lines (drop old.next ts))
 
 -- the greatest width before a cell of the run that continues with the next line, and the column of such a run
-abbrev pub widest_sign : List Lexeme → Lines → ℕ
-widest_sign ts s = widest (sign_widths_at (walk_of s) ts s.next)
+abbrev pub widest_assign : List Lexeme → Lines → ℕ
+widest_assign ts s = widest (assign_widths_at (walk_of s) ts s.next)
 
 abbrev pub widest_comment : List Lexeme → Lines → ℕ
 widest_comment ts s = widest (comment_widths_at (walk_of s) ts s.next)
 
-abbrev pub IsSignColumn : List Lexeme → Lines → ℕ → ℕ → Type 0
-IsSignColumn ts s own column = s.columns ≡ Ahead → Some column ≡ next_of (column_of s.signs) (Some own ∷ sign_widths_at (walk_of s) ts s.next)
+abbrev pub IsAssignColumn : List Lexeme → Lines → ℕ → ℕ → Type 0
+IsAssignColumn ts s own column = s.columns ≡ Ahead → Some column ≡ next_of (column_of s.assigns) (Some own ∷ assign_widths_at (walk_of s) ts s.next)
 
 abbrev pub IsCommentColumn : List Lexeme → Lines → ℕ → ℕ → Type 0
 IsCommentColumn ts s own column = s.columns ≡ Ahead → Some column ≡ next_of (column_of s.comments) (Some own ∷ comment_widths_at (walk_of s) ts s.next)
 
 -- the line is laid out with its sign, and then with both cells
-abbrev pub HasSignGaps : List Lexeme → Lines → Lines → LaidLine → Type 0
-HasSignGaps ts old new l = gaps_in (shape l) (text_of ts l) ≡ signed_gaps old new (text_of ts l)
+abbrev pub HasAssignGaps : List Lexeme → Lines → Lines → LaidLine → Type 0
+HasAssignGaps ts old new l = gaps_in (shape l) (text_of ts l) ≡ gaps_after_assign old new (text_of ts l)
 
 abbrev pub HasGaps : List Lexeme → Lines → Lines → LaidLine → Type 0
 HasGaps ts old new l = gaps_in (shape l) (text_of ts l) ≡ laid_gaps old new (text_of ts l)
 
 -- a line was passed except for its comment
-abbrev pub MovesSign : List Lexeme → Lines → LineRead → Lines → Type 0
-MovesSign ts old r new = Moves old r new × IsAt ts new × (new.comments ≡ old.comments)
+abbrev pub MovesAssign : List Lexeme → Lines → LineRead → Lines → Type 0
+MovesAssign ts old r new = Moves old r new × IsAt ts new × (new.comments ≡ old.comments)
 
 -- the run of signs continues over it, or ends and records whether its column was wrong
-abbrev pub SignsGrow : List Lexeme → Lines → Lines → LaidLine → Type 0
-SignsGrow ts old new l =
-    Grows old.signs (assign_width old.depth old.levels (text_of ts l)) new.signs
-    × (new.wrong ≡ (old.wrong || ends_wrong_at old.signs (assign_cell (text_of ts l))))
+abbrev pub AssignsGrow : List Lexeme → Lines → Lines → LaidLine → Type 0
+AssignsGrow ts old new l =
+    Grows old.assigns (assign_width old.depth old.levels (text_of ts l)) new.assigns
+    × (new.wrong ≡ (old.wrong || ends_wrong_at old.assigns (assign_cell (text_of ts l))))
 
 -- both runs continue over it
 pub record RunsGrow (old : Lines) (l : Line) (new : Lines) : Type 0 where
-  pub signs : Grows old.signs (assign_width old.depth old.levels l) new.signs
-  pub comments : Grows old.comments (option_map (λ i. width i (signed_gaps old new l) l) (running_comment l)) new.comments
-  pub wrong : new.wrong ≡ (old.wrong || ends_wrong_at old.signs (assign_cell l) || ends_wrong_at old.comments (running_comment l))
+  pub assigns : Grows old.assigns (assign_width old.depth old.levels l) new.assigns
+  pub comments : Grows old.comments (option_map (λ i. width i (gaps_after_assign old new l) l) (running_comment l)) new.comments
+  pub wrong : new.wrong ≡ (old.wrong || ends_wrong_at old.assigns (assign_cell l) || ends_wrong_at old.comments (running_comment l))
 
 -- ---- the rest of the print
 
 -- the gaps of the following lines
 abbrev pub gaps_after : List Lexeme → Lines → List ℕ
-gaps_after ts s = flat_map (λ g. g) (comment_stream s.depth s.levels (column_of s.signs) (column_of s.comments) (lines (drop s.next ts)))
+gaps_after ts s = flat_map (λ g. g) (comment_stream s.depth s.levels (column_of s.assigns) (column_of s.comments) (lines (drop s.next ts)))
 
 abbrev pub left_after : List Lexeme → Lines → List ℕ
 left_after ts s = printed_text (gaps_after ts s) (drop s.next ts)
@@ -256,7 +256,7 @@ abbrev pub IsRight : Option Run → List (Option ℕ) → Type 0
 IsRight run widths = IfSome run (λ r. r.column ≡ max r.greatest (widest widths))
 
 abbrev pub AreRight : List Lexeme → Lines → Type 0
-AreRight ts s = IsRight s.signs (assign_widths s.depth s.levels (lines (drop s.next ts))) × IsRight s.comments (comment_widths s.depth s.levels (column_of s.signs) (lines (drop s.next ts)))
+AreRight ts s = IsRight s.assigns (assign_widths s.depth s.levels (lines (drop s.next ts))) × IsRight s.comments (comment_widths s.depth s.levels (column_of s.assigns) (lines (drop s.next ts)))
 
 -- if the columns are right after the line, they are right before it, and the line's cells are in them
 abbrev pub GoesBack : List Lexeme → Lines → LaidLine → Lines → Type 0

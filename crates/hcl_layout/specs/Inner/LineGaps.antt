@@ -66,7 +66,7 @@ abbrev pub IsKnown : LineGaps → Line → Type 0
 IsKnown g line = known_width g.assign ≡ width (known_place g.assign) (gaps_in g line) line
 
 -- the line's sign is set, if it has one, and its comment isn't yet
-pub record IsSigned (g : LineGaps) (line : Line) : Type 0 where
+pub record HasAssignSet (g : LineGaps) (line : Line) : Type 0 where
   pub level : g.level ≤ max_open
   pub plain : g.comment ≡ None
   pub known : IsKnown g line

@@ -21,7 +21,7 @@ pub record Survey : Type 0 where
   pub multiline : Bool
   pub comment : Option ℕ
   pub body_depth : ℕ
-  pub sign : Option ℕ
+  pub assign : Option ℕ
   pub sign_depth : ℕ
 
 -- the facts of a line: its tokens, the depth after it, and the places of its cells
@@ -47,11 +47,11 @@ step_of k = if stops k then 46 else 48 + deepen 1 k
 
 -- after the line's first token
 abbrev pub survey_start : ℕ → Lexeme → Survey
-survey_start d t = record { len = 1; depth = deepen d t.kind; multiline = is_multiline t; comment = None; body_depth = deepen d t.kind; sign = None; sign_depth = 0 }
+survey_start d t = record { len = 1; depth = deepen d t.kind; multiline = is_multiline t; comment = None; body_depth = deepen d t.kind; assign = None; sign_depth = 0 }
 
 -- the token is the first sign before the trailing comment
-abbrev pub takes_sign : Survey → Lexeme → Bool
-takes_sign s t = not (is_some s.comment) && not (is_trailing t) && not (is_some s.sign) && is_assignment t
+abbrev pub takes_assign : Survey → Lexeme → Bool
+takes_assign s t = not (is_some s.comment) && not (is_trailing t) && not (is_some s.assign) && is_assignment t
 
 -- after one more token
 abbrev pub survey_step : Survey → Lexeme → Survey
@@ -61,8 +61,8 @@ survey_step s t = record {
   multiline = s.multiline || is_multiline t;
   comment = if is_some s.comment || not (is_trailing t) then s.comment else Some s.len;
   body_depth = if is_some s.comment || is_trailing t then s.body_depth else deepen s.depth t.kind;
-  sign = if takes_sign s t then Some s.len else s.sign;
-  sign_depth = if takes_sign s t then s.depth else s.sign_depth;
+  assign = if takes_assign s t then Some s.len else s.assign;
+  sign_depth = if takes_assign s t then s.depth else s.sign_depth;
 }
 
 -- after the rest of the line; `last` is the token before
@@ -77,11 +77,11 @@ survey_from s (t ∷ ts) = survey_rest (survey_step s t) t ts
 
 -- the place of the sign, if it begins a cell
 abbrev pub cell_if : Bool → Option ℕ → Option ℕ
-cell_if true sign = sign
-cell_if false sign = None
+cell_if true assign = assign
+cell_if false assign = None
 
 abbrev pub assign_of : Survey → Option ℕ
-assign_of s = cell_if (not s.multiline && (s.sign_depth == s.body_depth)) s.sign
+assign_of s = cell_if (not s.multiline && (s.sign_depth == s.body_depth)) s.assign
 
 abbrev pub running_of : Survey → Option ℕ
 running_of s = if s.multiline then None else s.comment
@@ -121,7 +121,7 @@ survey_of s depth first number = record {
   multiline = s.multiline;
   comment = option_map (λ n. n - first) s.comment;
   body_depth = body_of s depth;
-  sign = option_map (λ n. n - first) s.sign;
+  assign = option_map (λ n. n - first) s.assign;
   sign_depth = s.sign_depth;
 }
 
@@ -130,18 +130,18 @@ abbrev pub facts_in : LineRead → LineFacts
 facts_in l = record {
   len = l.end - l.first;
   depth = l.depth;
-  assign = option_map (λ n. n - l.first) l.sign;
+  assign = option_map (λ n. n - l.first) l.assign;
   comment = option_map (λ n. n - l.first) l.comment;
   running = if not l.runs then None else option_map (λ n. n - l.first) l.comment;
 }
 
 -- the sign that was seen, if it begins a cell
 abbrev pub seen_cell : Seen → ℕ → Option ℕ
-seen_cell s depth = cell_if (not s.multiline && (s.sign_depth == body_of s depth)) s.sign
+seen_cell s depth = cell_if (not s.multiline && (s.sign_depth == body_of s depth)) s.assign
 
 -- only whether the first token holds a newline
 abbrev pub seen_at_start : Bool → Seen
-seen_at_start multiline = record { sign = None; sign_depth = 0; comment = None; body_depth = 0; multiline = multiline }
+seen_at_start multiline = record { assign = None; sign_depth = 0; comment = None; body_depth = 0; multiline = multiline }
 
 -- another token was passed
 abbrev pub Notes : Seen → ℕ → ℕ → Lexeme → Seen → Type 0

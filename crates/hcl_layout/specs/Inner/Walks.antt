@@ -10,7 +10,7 @@ use Rattle.hcl_layout.specs.Inner.Stream.{assign_widths, comment_widths}
 pub record Walk : Type 0 where
   pub depth : ℕ
   pub levels : List ℕ
-  pub signs : Option ℕ
+  pub assigns : Option ℕ
   pub comments : Option ℕ
 
 -- the rest is balanced from the current depth on, and the levels fit it
@@ -22,17 +22,17 @@ pub record IsBalancedAt (ts : List Lexeme) (at d : ℕ) (levels : List ℕ) : Ty
 -- a walk has reached a token, and its columns are no wider than a source can have them
 pub record IsWalkAt (ts : List Lexeme) (at : ℕ) (w : Walk) : Type 0 where
   pub stands : IsBalancedAt ts at w.depth w.levels
-  pub signs : IfSome w.signs (λ c. c < 2 ^ 33)
+  pub assigns : IfSome w.assigns (λ c. c < 2 ^ 33)
   pub comments : IfSome w.comments (λ c. c < 2 ^ 34)
 
 -- ---- the lines from a token on
 
 -- the widths before their signs, by their levels and the spacing alone
-abbrev pub sign_widths_at : Walk → List Lexeme → ℕ → List (Option ℕ)
-sign_widths_at w ts at = assign_widths w.depth w.levels (lines (drop at ts))
+abbrev pub assign_widths_at : Walk → List Lexeme → ℕ → List (Option ℕ)
+assign_widths_at w ts at = assign_widths w.depth w.levels (lines (drop at ts))
 
 -- the widths before their comments, with their signs in their columns
 abbrev pub comment_widths_at : Walk → List Lexeme → ℕ → List (Option ℕ)
-comment_widths_at w ts at = comment_widths w.depth w.levels w.signs (lines (drop at ts))
+comment_widths_at w ts at = comment_widths w.depth w.levels w.assigns (lines (drop at ts))
 
 -- ---- the line with these facts that begins at a token

@@ -19,7 +19,7 @@ loop-line-init c =
     let n = ap (λ (x : Lines). x.next) e in
     let d = ap (λ (x : Lines). x.depth) e in
     let v = ap (λ (x : Lines). x.levels) e in
-    let a = ap (λ (x : Lines). x.signs) e in
+    let a = ap (λ (x : Lines). x.assigns) e in
     let b = ap (λ (x : Lines). x.comments) e in
     record {
       lines = start_at ts s balanced c.source-source.ensures.bounded.tokens n d v a b;

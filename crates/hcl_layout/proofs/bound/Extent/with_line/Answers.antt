@@ -2,11 +2,11 @@ use Rattle.std.proofs.Common.{◌∙◌, arith, sym}
 use Rattle.hcl_layout.proofs.WalkLemmas.{comment_follows, comment_in, running_some, sign_after, sign_within}
 use Rattle.hcl_layout.proofs.bound.Extent.with_line.Goals as goal
 
-pub room_before-sign-requires-clause-there : goal.room_before-sign-requires-clause-there
-room_before-sign-requires-clause-there c n e = sign_within c.args.tokens.now.tokens c.args.depth c.args.line c.requires.line n e
+pub room_before-assign-requires-clause-there : goal.room_before-assign-requires-clause-there
+room_before-assign-requires-clause-there c n e = sign_within c.args.tokens.now.tokens c.args.depth c.args.line c.requires.line n e
 
-pub room_before-sign-requires-clause-order : goal.room_before-sign-requires-clause-order
-room_before-sign-requires-clause-order c n e = omega (arith, sign_after c.args.tokens.now.tokens c.args.depth c.args.line c.requires.line n e)
+pub room_before-assign-requires-clause-order : goal.room_before-assign-requires-clause-order
+room_before-assign-requires-clause-order c n e = omega (arith, sign_after c.args.tokens.now.tokens c.args.depth c.args.line c.requires.line n e)
 
 pub room_before-comment-requires-clause-there : goal.room_before-comment-requires-clause-there
 room_before-comment-requires-clause-there c n e =

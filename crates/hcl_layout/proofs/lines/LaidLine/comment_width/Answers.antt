@@ -6,22 +6,22 @@ pub width-requires-clause-narrow : goal.width-requires-clause-narrow
 width-requires-clause-narrow c =
     let ts = c.args.tokens.now.tokens in
     let l = c.args.self in
-    let lt : l.sign.number < l.end = omega (arith, c.if-self-number.true, c.requires.within) in
-    omega (arith, sign_known ts l lt c.requires.signed, width_split ts l l.sign.number c.args.number c.requires.laid (omega (arith, c.requires.laid.sign_front)) (omega (arith, c.if-self-number.true)) (omega (arith, c.requires.within)), signed_low ts l (c.args.number - l.first) c.requires.signed c.len-count.ensures.bounded.blanks)
+    let lt : l.assign.number < l.end = omega (arith, c.if-self-number.true, c.requires.within) in
+    omega (arith, sign_known ts l lt c.requires.signed, width_split ts l l.assign.number c.args.number c.requires.laid (omega (arith, c.requires.laid.sign_front)) (omega (arith, c.if-self-number.true)) (omega (arith, c.requires.within)), signed_low ts l (c.args.number - l.first) c.requires.signed c.len-count.ensures.bounded.blanks)
 
 pub returns-then-self-number-clause-value : goal.returns-then-self-number-clause-value
 returns-then-self-number-clause-value c =
     let ts = c.args.tokens.now.tokens in
     let l = c.args.self in
-    let lt : l.sign.number < l.end = omega (arith, c.if-self-number.true, c.requires.within) in
-    omega (arith, c.width.ensures, sign_known ts l lt c.requires.signed, width_split ts l l.sign.number c.args.number c.requires.laid (omega (arith, c.requires.laid.sign_front)) (omega (arith, c.if-self-number.true)) (omega (arith, c.requires.within)))
+    let lt : l.assign.number < l.end = omega (arith, c.if-self-number.true, c.requires.within) in
+    omega (arith, c.width.ensures, sign_known ts l lt c.requires.signed, width_split ts l l.assign.number c.args.number c.requires.laid (omega (arith, c.requires.laid.sign_front)) (omega (arith, c.if-self-number.true)) (omega (arith, c.requires.within)))
 
 pub returns-then-self-number-clause-narrow : goal.returns-then-self-number-clause-narrow
 returns-then-self-number-clause-narrow c =
     let ts = c.args.tokens.now.tokens in
     let l = c.args.self in
-    let lt : l.sign.number < l.end = omega (arith, c.if-self-number.true, c.requires.within) in
-    omega (arith, c.width.ensures, sign_known ts l lt c.requires.signed, width_split ts l l.sign.number c.args.number c.requires.laid (omega (arith, c.requires.laid.sign_front)) (omega (arith, c.if-self-number.true)) (omega (arith, c.requires.within)), signed_low ts l (c.args.number - l.first) c.requires.signed c.len-count.ensures.bounded.blanks)
+    let lt : l.assign.number < l.end = omega (arith, c.if-self-number.true, c.requires.within) in
+    omega (arith, c.width.ensures, sign_known ts l lt c.requires.signed, width_split ts l l.assign.number c.args.number c.requires.laid (omega (arith, c.requires.laid.sign_front)) (omega (arith, c.if-self-number.true)) (omega (arith, c.requires.within)), signed_low ts l (c.args.number - l.first) c.requires.signed c.len-count.ensures.bounded.blanks)
 
 pub width-requires-2-clause-narrow : goal.width-requires-2-clause-narrow
 width-requires-2-clause-narrow c =
@@ -42,7 +42,7 @@ returns-clause-value c =
     omega (arith, c.width-2.ensures, width_all ts l c.args.number c.requires.laid (omega (arith, c.requires.order)) (omega (arith, c.requires.within)))
 
 pub width-requires-clause-plain : goal.width-requires-clause-plain
-width-requires-clause-plain c = signed_plain c.args.tokens.now.tokens c.args.self c.args.self.sign.number c.args.number c.requires.signed (omega (arith, c.requires.within)) (λ lt. refl)
+width-requires-clause-plain c = signed_plain c.args.tokens.now.tokens c.args.self c.args.self.assign.number c.args.number c.requires.signed (omega (arith, c.requires.within)) (λ lt. refl)
 
 pub width-requires-2-clause-plain : goal.width-requires-2-clause-plain
 width-requires-2-clause-plain c = signed_plain c.args.tokens.now.tokens c.args.self c.args.self.first c.args.number c.requires.signed (omega (arith, c.requires.within)) (λ lt. absurd (omega (arith, lt)))

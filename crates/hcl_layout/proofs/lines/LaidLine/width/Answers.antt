@@ -24,5 +24,5 @@ loop-k-preserved c =
 pub other_gap-requires-clause-comment : goal.other_gap-requires-clause-comment
 other_gap-requires-clause-comment c = (c.requires.plain c.loop-k.k (omega (arith, c.loop-k.invariant.order)) (omega arith)).0
 
-pub other_gap-requires-clause-sign : goal.other_gap-requires-clause-sign
-other_gap-requires-clause-sign c = (c.requires.plain c.loop-k.k (omega (arith, c.loop-k.invariant.order)) (omega arith)).1
+pub other_gap-requires-clause-assign : goal.other_gap-requires-clause-assign
+other_gap-requires-clause-assign c = (c.requires.plain c.loop-k.k (omega (arith, c.loop-k.invariant.order)) (omega arith)).1

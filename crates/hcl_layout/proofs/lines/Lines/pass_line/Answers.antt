@@ -1,7 +1,7 @@
 use Rattle.std.proofs.Common.{◌≡◌, ◌∙◌, ◌+◌, ◌-◌, ◌<◌, ℕ, List, None, Some, ap, arith, subst, sym}
 use Rattle.hcl_layout.specs.Cells.{trailing_comment}
 use Rattle.hcl_layout.specs.Gaps.{align}
-use Rattle.hcl_layout.specs.Inner.Laid.{Laid, column_of, shape, signed_gaps, text_of}
+use Rattle.hcl_layout.specs.Inner.Laid.{Laid, column_of, shape, gaps_after_assign, text_of}
 use Rattle.hcl_layout.specs.Inner.LineGaps.{gaps_in}
 use Rattle.hcl_layout.specs.Inner.Survey.{IsLine, facts_in}
 use Rattle.hcl_layout.specs.declared.lines.LaidLine.{LaidLine}
@@ -16,7 +16,7 @@ comment_width-width-requires-clause-order c =
     let r = c.args.line in
     let d = c.args.self.now.depth in
     let p = subst (λ k. IsLine ts k d (facts_in r)) (sym c.requires.first) c.requires.line in
-    omega (arith, c.pass_sign-laid.ensures.spans.0, comment_follows ts d r p c.in-Some.number c.in-Some.is)
+    omega (arith, c.pass_assign-laid.ensures.spans.0, comment_follows ts d r p c.in-Some.number c.in-Some.is)
 
 pub comment_width-width-requires-clause-within : goal.comment_width-width-requires-clause-within
 comment_width-width-requires-clause-within c =
@@ -24,7 +24,7 @@ comment_width-width-requires-clause-within c =
     let r = c.args.line in
     let d = c.args.self.now.depth in
     let p = subst (λ k. IsLine ts k d (facts_in r)) (sym c.requires.first) c.requires.line in
-    omega (arith, c.pass_sign-laid.ensures.spans.1, comment_in ts d r p c.in-Some.number c.in-Some.is)
+    omega (arith, c.pass_assign-laid.ensures.spans.1, comment_in ts d r p c.in-Some.number c.in-Some.is)
 
 pub returns-then-not-line-clause-laid : goal.returns-then-not-line-clause-laid
 returns-then-not-line-clause-laid c =
@@ -32,9 +32,9 @@ returns-then-not-line-clause-laid c =
     let r = c.args.line in
     let d = c.args.self.now.depth in
     let p = subst (λ k. IsLine ts k d (facts_in r)) (sym c.requires.first) c.requires.line in
-    let b = c.pass_sign-laid.result in
+    let b = c.pass_assign-laid.result in
     let w = c.comment_width-width.result in
-    subst (Laid ts) (sym c.with_comment.ensures) (commented_laid ts b c.in-Some.number w (w - w + 1) c.pass_sign-laid.ensures.laid (omega (arith, c.pass_sign-laid.ensures.spans.0, comment_follows ts d r p c.in-Some.number c.in-Some.is)) (omega arith))
+    subst (Laid ts) (sym c.with_comment.ensures) (commented_laid ts b c.in-Some.number w (w - w + 1) c.pass_assign-laid.ensures.laid (omega (arith, c.pass_assign-laid.ensures.spans.0, comment_follows ts d r p c.in-Some.number c.in-Some.is)) (omega arith))
 
 pub returns-then-not-line-clause-gaps : goal.returns-then-not-line-clause-gaps
 returns-then-not-line-clause-gaps c =
@@ -42,16 +42,16 @@ returns-then-not-line-clause-gaps c =
     let s = c.args.self.now in
     let r = c.args.line in
     let p = subst (λ k. IsLine ts k s.depth (facts_in r)) (sym c.requires.first) c.requires.line in
-    let b = c.pass_sign-laid.result in
+    let b = c.pass_assign-laid.result in
     let n = c.in-Some.number in
     let w = c.comment_width-width.result in
-    let e = c.pass_sign-laid.ensures in
+    let e = c.pass_assign-laid.ensures in
     let text : List _ = text_of ts b in
     let here : n < b.end = omega (arith, e.spans.1, comment_in ts s.depth r p n c.in-Some.is) in
-    subst (λ (x : LaidLine). gaps_in (shape x) (text_of ts x) ≡ align trailing_comment (signed_gaps s c.end_comments-then-not-line.new.self (text_of ts x)) (text_of ts x) (column_of c.end_comments-then-not-line.new.self.comments)) (sym c.with_comment.ensures)
+    subst (λ (x : LaidLine). gaps_in (shape x) (text_of ts x) ≡ align trailing_comment (gaps_after_assign s c.end_comments-then-not-line.new.self (text_of ts x)) (text_of ts x) (column_of c.end_comments-then-not-line.new.self.comments)) (sym c.with_comment.ensures)
     (commented_gaps ts b n w (w - w + 1) None e.signed here (comment_at ts s.depth r b n p e.spans.0 e.spans.1 c.in-Some.is) (to_own w)
     ∙ ap (λ (gs : List ℕ). align trailing_comment gs text None) e.gaps
-    ∙ ap (λ (x : Lines). align trailing_comment (signed_gaps s x text) text (column_of x.comments)) (sym c.end_comments-then-not-line.ensures))
+    ∙ ap (λ (x : Lines). align trailing_comment (gaps_after_assign s x text) text (column_of x.comments)) (sym c.end_comments-then-not-line.ensures))
 
 pub comment_column-column-requires-clause-within : goal.comment_column-column-requires-clause-within
 comment_column-column-requires-clause-within c =
@@ -75,9 +75,9 @@ returns-clause-laid c =
     let r = c.args.line in
     let d = c.args.self.now.depth in
     let p = subst (λ k. IsLine ts k d (facts_in r)) (sym c.requires.first) c.requires.line in
-    let b = c.pass_sign-laid.result in
+    let b = c.pass_assign-laid.result in
     let w = c.comment_width-width.result in
-    subst (Laid ts) (sym c.with_comment-2.ensures) (commented_laid ts b c.in-Some.number w (c.comment_column-column.result - w + 1) c.pass_sign-laid.ensures.laid (omega (arith, c.pass_sign-laid.ensures.spans.0, comment_follows ts d r p c.in-Some.number c.in-Some.is)) (omega (arith, c.comment_column-column.ensures.small)))
+    subst (Laid ts) (sym c.with_comment-2.ensures) (commented_laid ts b c.in-Some.number w (c.comment_column-column.result - w + 1) c.pass_assign-laid.ensures.laid (omega (arith, c.pass_assign-laid.ensures.spans.0, comment_follows ts d r p c.in-Some.number c.in-Some.is)) (omega (arith, c.comment_column-column.ensures.small)))
 
 pub returns-clause-gaps : goal.returns-clause-gaps
 returns-clause-gaps c =
@@ -85,14 +85,14 @@ returns-clause-gaps c =
     let s = c.args.self.now in
     let r = c.args.line in
     let p = subst (λ k. IsLine ts k s.depth (facts_in r)) (sym c.requires.first) c.requires.line in
-    let b = c.pass_sign-laid.result in
+    let b = c.pass_assign-laid.result in
     let n = c.in-Some.number in
     let w = c.comment_width-width.result in
     let column = c.comment_column-column.result in
-    let e = c.pass_sign-laid.ensures in
+    let e = c.pass_assign-laid.ensures in
     let text : List _ = text_of ts b in
     let here : n < b.end = omega (arith, e.spans.1, comment_in ts s.depth r p n c.in-Some.is) in
-    subst (λ (x : LaidLine). gaps_in (shape x) (text_of ts x) ≡ align trailing_comment (signed_gaps s c.pass_sign-laid.new.self (text_of ts x)) (text_of ts x) (Some c.run_with.result.column)) (sym c.with_comment-2.ensures)
+    subst (λ (x : LaidLine). gaps_in (shape x) (text_of ts x) ≡ align trailing_comment (gaps_after_assign s c.pass_assign-laid.new.self (text_of ts x)) (text_of ts x) (Some c.run_with.result.column)) (sym c.with_comment-2.ensures)
     (commented_gaps ts b n w (column - w + 1) (Some column) e.signed here (comment_at ts s.depth r b n p e.spans.0 e.spans.1 c.in-Some.is) (ap (λ k. column - k + 1) c.comment_width-width.ensures.value)
     ∙ ap (λ (gs : List ℕ). align trailing_comment gs text (Some column)) e.gaps
-    ∙ ap (λ (k : ℕ). align trailing_comment (signed_gaps s c.pass_sign-laid.new.self text) text (Some k)) (sym c.run_with.ensures.column))
+    ∙ ap (λ (k : ℕ). align trailing_comment (gaps_after_assign s c.pass_assign-laid.new.self text) text (Some k)) (sym c.run_with.ensures.column))

@@ -1,6 +1,6 @@
 use Rattle.std.proofs.Common.{arith}
 use Rattle.hcl_layout.proofs.LaidLemmas.{bare_narrow, bare_plain, bare_width}
-use Rattle.hcl_layout.proofs.lines.LaidLine.sign_width.Goals as goal
+use Rattle.hcl_layout.proofs.lines.LaidLine.assign_cell_width.Goals as goal
 
 pub width-requires-clause-narrow : goal.width-requires-clause-narrow
 width-requires-clause-narrow c = omega (arith, bare_narrow c.args.tokens.now.tokens c.args.self c.args.number c.requires.laid c.requires.bare (omega (arith, c.requires.order)) c.requires.within c.len-count.ensures.bounded.blanks)

@@ -3,14 +3,14 @@ use Rattle.hcl_tokens.specs.Balanced.{max_open}
 use Rattle.hcl_layout.specs.Cells.{assign_cell}
 use Rattle.hcl_layout.specs.Gaps.{align, plain_gaps, width}
 use Rattle.hcl_layout.specs.Inner.Depths.{level_at}
-use Rattle.hcl_layout.specs.Inner.Laid.{Laid, column_of, shape, signed_gaps, text_of}
-use Rattle.hcl_layout.specs.Inner.LineGaps.{IsSigned, gaps_in}
+use Rattle.hcl_layout.specs.Inner.Laid.{Laid, column_of, shape, gaps_after_assign, text_of}
+use Rattle.hcl_layout.specs.Inner.LineGaps.{HasAssignSet, gaps_in}
 use Rattle.hcl_layout.specs.Inner.Stream.{plain}
 use Rattle.hcl_layout.specs.Inner.Survey.{IsLine, facts_in}
 use Rattle.hcl_layout.specs.declared.lines.LaidLine.{LaidLine}
 use Rattle.hcl_layout.proofs.PassLemmas.{bare_gaps, set_gaps, set_laid, set_signed, text_in, with_sign_at}
 use Rattle.hcl_layout.proofs.WalkLemmas.{read_within, sign_after, sign_within}
-use Rattle.hcl_layout.proofs.lines.Lines.pass_sign.Goals as goal
+use Rattle.hcl_layout.proofs.lines.Lines.pass_assign.Goals as goal
 
 pub returns-in_default-clause-gaps : goal.returns-in_default-clause-gaps
 returns-in_default-clause-gaps c =
@@ -21,35 +21,35 @@ returns-in_default-clause-gaps c =
     let level : ℕ = level_at s.depth r.depth s.levels in
     let laid = c.pass-laid.ensures.laid in
     let low : level ≤ max_open = subst (λ (x : LaidLine). x.level ≤ max_open) laid c.pass-laid.ensures.small in
-    subst (λ (x : LaidLine). gaps_in (shape x) (text_of ts x) ≡ signed_gaps s c.end_signs.new.self (text_of ts x)) (sym laid)
-    (bare_gaps ts s.depth r p s.levels level low refl (column_of c.end_signs.new.self.signs) c.in_default.is)
+    subst (λ (x : LaidLine). gaps_in (shape x) (text_of ts x) ≡ gaps_after_assign s c.end_assigns.new.self (text_of ts x)) (sym laid)
+    (bare_gaps ts s.depth r p s.levels level low refl (column_of c.end_assigns.new.self.assigns) c.in_default.is)
 
-pub sign_width-width-requires-clause-order : goal.sign_width-width-requires-clause-order
-sign_width-width-requires-clause-order c =
+pub assign_cell_width-width-requires-clause-order : goal.assign_cell_width-width-requires-clause-order
+assign_cell_width-width-requires-clause-order c =
     let ts = c.args.tokens.now.tokens in
     let r = c.args.line in
     let d = c.args.self.now.depth in
     let p = subst (λ k. IsLine ts k d (facts_in r)) (sym c.requires.first) c.requires.line in
     omega (arith, ap (λ (x : LaidLine). x.first) c.pass-laid.ensures.laid, sign_after ts d r p c.in-Some.number c.in-Some.is)
 
-pub sign_width-width-requires-clause-within : goal.sign_width-width-requires-clause-within
-sign_width-width-requires-clause-within c =
+pub assign_cell_width-width-requires-clause-within : goal.assign_cell_width-width-requires-clause-within
+assign_cell_width-width-requires-clause-within c =
     let ts = c.args.tokens.now.tokens in
     let r = c.args.line in
     let d = c.args.self.now.depth in
     let p = subst (λ k. IsLine ts k d (facts_in r)) (sym c.requires.first) c.requires.line in
     omega (arith, ap (λ (x : LaidLine). x.end) c.pass-laid.ensures.laid, sign_within ts d r p c.in-Some.number c.in-Some.is)
 
-pub sign_column-column-requires-clause-within : goal.sign_column-column-requires-clause-within
-sign_column-column-requires-clause-within c =
+pub assign_cell_column-column-requires-clause-within : goal.assign_cell_column-column-requires-clause-within
+assign_cell_column-column-requires-clause-within c =
     let ts = c.args.tokens.now.tokens in
     let r = c.args.line in
     let d = c.args.self.now.depth in
     let p = subst (λ k. IsLine ts k d (facts_in r)) (sym c.requires.first) c.requires.line in
     omega (arith, read_within ts d r p, sign_within ts d r p c.in-Some.number c.in-Some.is)
 
-pub sign_column-column-requires-clause-after : goal.sign_column-column-requires-clause-after
-sign_column-column-requires-clause-after c =
+pub assign_cell_column-column-requires-clause-after : goal.assign_cell_column-column-requires-clause-after
+assign_cell_column-column-requires-clause-after c =
     let ts = c.args.tokens.now.tokens in
     let r = c.args.line in
     let d = c.args.self.now.depth in
@@ -66,11 +66,11 @@ returns-clause-laid c =
     let laid = c.pass-laid.ensures.laid in
     let low : level ≤ max_open = subst (λ (x : LaidLine). x.level ≤ max_open) laid c.pass-laid.ensures.small in
     let n = c.in-Some.number in
-    let w = c.sign_width-width.result in
-    let gap : ℕ = c.sign_column-column.result - w + 1 in
-    let own = c.sign_width-width.ensures.value ∙ ap (λ (b : LaidLine). width (n - b.first) (plain_gaps b.level (text_of ts b)) (text_of ts b)) laid in
-    subst (Laid ts) (sym (c.with_sign.ensures ∙ ap (λ (b : LaidLine). with_sign_at b n w gap) laid))
-    (set_laid ts s.depth r p s.levels level low refl n w gap c.in-Some.is own c.requires.at.few (omega (arith, c.sign_column-column.ensures.small)))
+    let w = c.assign_cell_width-width.result in
+    let gap : ℕ = c.assign_cell_column-column.result - w + 1 in
+    let own = c.assign_cell_width-width.ensures.value ∙ ap (λ (b : LaidLine). width (n - b.first) (plain_gaps b.level (text_of ts b)) (text_of ts b)) laid in
+    subst (Laid ts) (sym (c.with_assign.ensures ∙ ap (λ (b : LaidLine). with_sign_at b n w gap) laid))
+    (set_laid ts s.depth r p s.levels level low refl n w gap c.in-Some.is own c.requires.at.few (omega (arith, c.assign_cell_column-column.ensures.small)))
 
 pub returns-clause-signed : goal.returns-clause-signed
 returns-clause-signed c =
@@ -82,11 +82,11 @@ returns-clause-signed c =
     let laid = c.pass-laid.ensures.laid in
     let low : level ≤ max_open = subst (λ (x : LaidLine). x.level ≤ max_open) laid c.pass-laid.ensures.small in
     let n = c.in-Some.number in
-    let w = c.sign_width-width.result in
-    let gap : ℕ = c.sign_column-column.result - w + 1 in
-    let own = c.sign_width-width.ensures.value ∙ ap (λ (b : LaidLine). width (n - b.first) (plain_gaps b.level (text_of ts b)) (text_of ts b)) laid in
-    subst (λ (x : LaidLine). IsSigned (shape x) (text_of ts x)) (sym (c.with_sign.ensures ∙ ap (λ (b : LaidLine). with_sign_at b n w gap) laid))
-    (set_signed ts s.depth r p s.levels level low refl n w gap c.in-Some.is own (omega (arith, c.sign_column-column.ensures.small)))
+    let w = c.assign_cell_width-width.result in
+    let gap : ℕ = c.assign_cell_column-column.result - w + 1 in
+    let own = c.assign_cell_width-width.ensures.value ∙ ap (λ (b : LaidLine). width (n - b.first) (plain_gaps b.level (text_of ts b)) (text_of ts b)) laid in
+    subst (λ (x : LaidLine). HasAssignSet (shape x) (text_of ts x)) (sym (c.with_assign.ensures ∙ ap (λ (b : LaidLine). with_sign_at b n w gap) laid))
+    (set_signed ts s.depth r p s.levels level low refl n w gap c.in-Some.is own (omega (arith, c.assign_cell_column-column.ensures.small)))
 
 pub returns-clause-gaps : goal.returns-clause-gaps
 returns-clause-gaps c =
@@ -98,10 +98,10 @@ returns-clause-gaps c =
     let laid = c.pass-laid.ensures.laid in
     let low : level ≤ max_open = subst (λ (x : LaidLine). x.level ≤ max_open) laid c.pass-laid.ensures.small in
     let n = c.in-Some.number in
-    let w = c.sign_width-width.result in
-    let column = c.sign_column-column.result in
+    let w = c.assign_cell_width-width.result in
+    let column = c.assign_cell_column-column.result in
     let gap : ℕ = column - w + 1 in
-    let own = c.sign_width-width.ensures.value ∙ ap (λ (b : LaidLine). width (n - b.first) (plain_gaps b.level (text_of ts b)) (text_of ts b)) laid in
-    subst (λ (x : LaidLine). gaps_in (shape x) (text_of ts x) ≡ align assign_cell (plain s.depth s.levels (text_of ts x)) (text_of ts x) (Some c.run_with.result.column)) (sym (c.with_sign.ensures ∙ ap (λ (b : LaidLine). with_sign_at b n w gap) laid))
+    let own = c.assign_cell_width-width.ensures.value ∙ ap (λ (b : LaidLine). width (n - b.first) (plain_gaps b.level (text_of ts b)) (text_of ts b)) laid in
+    subst (λ (x : LaidLine). gaps_in (shape x) (text_of ts x) ≡ align assign_cell (plain s.depth s.levels (text_of ts x)) (text_of ts x) (Some c.run_with.result.column)) (sym (c.with_assign.ensures ∙ ap (λ (b : LaidLine). with_sign_at b n w gap) laid))
     (set_gaps ts s.depth r p s.levels level low refl n w gap c.in-Some.is own column refl
     ∙ ap (λ (k : ℕ). align assign_cell (plain s.depth s.levels (text_in ts r)) (text_in ts r) (Some k)) (sym c.run_with.ensures.column))
