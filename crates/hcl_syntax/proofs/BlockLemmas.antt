@@ -5,7 +5,7 @@ use borrow.Author.Tests.{ltb-true, ltb-false}
 use Rattle.hcl_tokens.specs.Lexemes.{Lexeme}
 use Rattle.hcl_grammar.specs.Numbered.{Numbered, numbered_from, without_comments, is_comment}
 use Rattle.hcl_grammar.specs.Items.{after_brace, block_end, body, labels}
-use Rattle.hcl_syntax.specs.Inner.Pieces.{between, CanBegin, words}
+use Rattle.hcl_syntax.specs.Inner.Pieces.{tokens_between, CanBegin, words}
 use Rattle.hcl_syntax.specs.Inner.Bodies.{PutsBlock}
 use Rattle.hcl_grammar.specs.declared.item.Item.{Item}
 use Rattle.hcl_grammar.specs.declared.item.Item.TheVariants as item
@@ -54,7 +54,7 @@ before_taken last (suc k) n (x ∷ xs) = by (nat_lt (n + 1) last) refl (before_t
 pub words_before : (ts : List Lexeme) (first to last : ℕ) → last ≤ to → filter (λ t. nat_lt (t.number + 1) last) (words ts first to) ≡ words ts first (last - 1)
 words_before ts first to last h =
     let e : min (to - first) (last - 1 - first) ≡ last - 1 - first = omega (arith, h) in
-    filter_filter (λ t. nat_lt (t.number + 1) last) (λ t. not (is_comment t.kind)) (between ts first to)
+    filter_filter (λ t. nat_lt (t.number + 1) last) (λ t. not (is_comment t.kind)) (tokens_between ts first to)
     ∙ ap without_comments (before_taken last (to - first) first (drop first ts) ∙ ap (λ j. take j (numbered_from first (drop first ts))) e)
 
 pub puts_block : (ts : List Lexeme) (level kind to first last end : ℕ) (old mid new : List Item)

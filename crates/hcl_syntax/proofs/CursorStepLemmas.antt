@@ -15,7 +15,7 @@ use Rattle.hcl_grammar.specs.declared.class.Word.{Word}
 use Rattle.hcl_grammar.specs.Grammar.{Symbol, Marked, ◌at◌, Action, ◌then◌, none, nothing, reads, opens, closes, row, ends, the, fits, expr, arg_next, tuple_next, tuple_if, object, object_item, object_next, object_if, group, separator, names, rest, eol, file, body, directive, inside, args, tuple, tuple_item, index, section_directive, labels, row_of}
 use Rattle.hcl_grammar.specs.Predictor.{max_directives, ending, Effect, on, stop, opening_directive, row_effect, effect, next, run}
 use Rattle.hcl_syntax.specs.declared.expected.Refused.{Refused}
-use Rattle.hcl_syntax.specs.Inner.Parsing.{said, turning, turning_row, outcome, Advances, bodies, Ends, waits}
+use Rattle.hcl_syntax.specs.Inner.Parsing.{with_refusal, effect_of_word, turning_row, outcome, Advances, bodies, Ends, pending_choices}
 use Rattle.hcl_grammar.specs.declared.class.Word.TheVariants.{For, In, If, Else, Endif, Endfor}
 use Rattle.hcl_grammar.specs.declared.expected.Section.{Section}
 use Rattle.hcl_grammar.specs.declared.expected.Section.TheVariants.{InIf, InElse, InFor}
@@ -120,7 +120,7 @@ pub failed : {A B : Type 0} {count : ℕ} {xs ys zs : List Marked} {old mid new 
 failed h = record { same = h.same }
 
 -- The exit of a `?`.
-pub quits : {A B : Type 0} {count : ℕ} {xs ys zs : List Marked} {old mid new : List Lookahead} {f : Refusal} {w : Refused} (r : Result B Refused) → IsErrAnd r (λ e. e ≡ w) → Advances {A = A} count xs old (Err f) ys mid → Advances {A = B} count xs old (said r f) zs new
+pub quits : {A B : Type 0} {count : ℕ} {xs ys zs : List Marked} {old mid new : List Lookahead} {f : Refusal} {w : Refused} (r : Result B Refused) → IsErrAnd r (λ e. e ≡ w) → Advances {A = A} count xs old (Err f) ys mid → Advances {A = B} count xs old (with_refusal r f) zs new
 quits (Ok b) q h = absurd q
 quits (Err e) q h = record { same = h.same }
 
@@ -222,9 +222,9 @@ pub index-else : (m : Newlines) (k : Class) → fits Asterisk k ≡ false → ro
 index-else m Star h = cc
 index-else m _ h = refl
 
-pub waits-down : (m : Newlines) (n : ℕ) → n ≢ 0 → waits m n [] ≡ the Separator at m ∷ expr at m ∷ waits m (n - 1) []
-waits-down m zero h = absurd (h refl)
-waits-down m (suc n) h = let e : suc n - 1 ≡ n = omega arith in ap (λ k. the Separator at m ∷ expr at m ∷ waits m k []) (sym e)
+pub pending_choices-down : (m : Newlines) (n : ℕ) → n ≢ 0 → pending_choices m n [] ≡ the Separator at m ∷ expr at m ∷ pending_choices m (n - 1) []
+pending_choices-down m zero h = absurd (h refl)
+pending_choices-down m (suc n) h = let e : suc n - 1 ≡ n = omega arith in ap (λ k. the Separator at m ∷ expr at m ∷ pending_choices m k []) (sym e)
 
 -- from equal symbols
 pub renamed : {A : Type 0} {count : ℕ} {xs ys zs : List Marked} {old new : List Lookahead} {r : Result A Refusal} → ys ≡ zs → Advances count xs old r ys new → Advances count xs old r zs new
@@ -270,7 +270,7 @@ pub end-fails : {A B : Type 0} {count : ℕ} {xs ys : List Marked} {old mid new 
     Advances {A = A} (count + 1) xs old (Err f) ys mid → Ends {A = B} count xs old (Err f) new
 end-fails h = record { same = h.same }
 
-pub end-quits : {A B : Type 0} {count : ℕ} {xs ys : List Marked} {old mid new : List Lookahead} {f : Refusal} {w : Refused} (r : Result B Refused) → IsErrAnd r (λ e. e ≡ w) → Advances {A = A} (count + 1) xs old (Err f) ys mid → Ends {A = B} count xs old (said r f) new
+pub end-quits : {A B : Type 0} {count : ℕ} {xs ys : List Marked} {old mid new : List Lookahead} {f : Refusal} {w : Refused} (r : Result B Refused) → IsErrAnd r (λ e. e ≡ w) → Advances {A = A} (count + 1) xs old (Err f) ys mid → Ends {A = B} count xs old (with_refusal r f) new
 end-quits (Ok b) q h = absurd q
 end-quits (Err e) q h = record { same = h.same }
 
@@ -278,21 +278,21 @@ pub end-kept-refusal : {A : Type 0} {count : ℕ} {xs : List Marked} {old new : 
 end-kept-refusal e h = record { same = λ after. h.same after ∙ ap (λ x. Some x) (sym e) }
 
 -- the row by the effect of the word
-by-turning : (e : Section) (m : Newlines) (p n : ℕ) (k : Class) → row_of (section_directive e p) m n k ≡ turning_row (turning e k) e m p n k
-by-turning InIf m p n (Ident Else) = refl
-by-turning InIf m p n (Ident Endif) = refl
-by-turning InElse m p n (Ident Endif) = refl
-by-turning InFor m p n (Ident Endfor) = refl
-by-turning e m p n k = refl
+by-effect_of_word : (e : Section) (m : Newlines) (p n : ℕ) (k : Class) → row_of (section_directive e p) m n k ≡ turning_row (effect_of_word e k) e m p n k
+by-effect_of_word InIf m p n (Ident Else) = refl
+by-effect_of_word InIf m p n (Ident Endif) = refl
+by-effect_of_word InElse m p n (Ident Endif) = refl
+by-effect_of_word InFor m p n (Ident Endfor) = refl
+by-effect_of_word e m p n k = refl
 
-pub turning-onward : (e : Section) (m : Newlines) (p n : ℕ) (k : Class) (w : Turning) → w ≡ turning e k → w ≡ Onward → row_of (section_directive e p) m n k ≡ reads (the EndSequence at m ∷ inside InElse at m ∷ [])
-turning-onward e m p n k w h i = by-turning e m p n k ∙ ap (λ x. turning_row x e m p n k) (sym h ∙ i)
+pub effect_of_word-onward : (e : Section) (m : Newlines) (p n : ℕ) (k : Class) (w : Turning) → w ≡ effect_of_word e k → w ≡ Onward → row_of (section_directive e p) m n k ≡ reads (the EndSequence at m ∷ inside InElse at m ∷ [])
+effect_of_word-onward e m p n k w h i = by-effect_of_word e m p n k ∙ ap (λ x. turning_row x e m p n k) (sym h ∙ i)
 
-pub turning-closing : (e : Section) (m : Newlines) (p n : ℕ) (k : Class) (w : Turning) → w ≡ turning e k → w ≡ Closing → row_of (section_directive e p) m n k ≡ closes (the EndSequence at m ∷ [])
-turning-closing e m p n k w h i = by-turning e m p n k ∙ ap (λ x. turning_row x e m p n k) (sym h ∙ i)
+pub effect_of_word-closing : (e : Section) (m : Newlines) (p n : ℕ) (k : Class) (w : Turning) → w ≡ effect_of_word e k → w ≡ Closing → row_of (section_directive e p) m n k ≡ closes (the EndSequence at m ∷ [])
+effect_of_word-closing e m p n k w h i = by-effect_of_word e m p n k ∙ ap (λ x. turning_row x e m p n k) (sym h ∙ i)
 
-pub turning-inner : (e : Section) (m : Newlines) (p n : ℕ) (k : Class) (w : Turning) → w ≡ turning e k → w ≡ Inner → row_of (section_directive e p) m n k ≡ (row_of (directive p) m n k then (inside e at m ∷ []))
-turning-inner e m p n k w h i = by-turning e m p n k ∙ ap (λ x. turning_row x e m p n k) (sym h ∙ i)
+pub effect_of_word-inner : (e : Section) (m : Newlines) (p n : ℕ) (k : Class) (w : Turning) → w ≡ effect_of_word e k → w ≡ Inner → row_of (section_directive e p) m n k ≡ (row_of (directive p) m n k then (inside e at m ∷ []))
+effect_of_word-inner e m p n k w h i = by-effect_of_word e m p n k ∙ ap (λ x. turning_row x e m p n k) (sym h ∙ i)
 
 pub no-token : (o : Option Lookahead) (t : Lookahead) → None ≡ o → Some t ≡ o → ⊥
 no-token o t e f = cc
@@ -354,7 +354,7 @@ pub refuse-close : {A : Type 0} (n : ℕ) {ys : List Marked} {old left new : Lis
 refuse-close zero h l e = refusing l (ap (row_of file Seen 0) e)
 refuse-close (suc n) h l e = cc
 
-pub whole-quits : {A B : Type 0} {f : Refusal} {w : Refused} {old new : List Lookahead} {ys : List Marked} (r : Result B Refused) → IsErrAnd r (λ e. e ≡ w) → Advances {A = A} 0 (file at Seen ∷ []) old (Err f) ys new → run 0 (file at Seen ∷ []) old ≡ outcome (said r f) None
+pub whole-quits : {A B : Type 0} {f : Refusal} {w : Refused} {old new : List Lookahead} {ys : List Marked} (r : Result B Refused) → IsErrAnd r (λ e. e ≡ w) → Advances {A = A} 0 (file at Seen ∷ []) old (Err f) ys new → run 0 (file at Seen ∷ []) old ≡ outcome (with_refusal r f) None
 whole-quits (Ok b) q h = absurd q
 whole-quits (Err e) q h = h.same []
 

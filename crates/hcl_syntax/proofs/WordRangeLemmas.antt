@@ -9,15 +9,15 @@ use Rattle.hcl_tokens.specs.declared.token.Kind.{Kind}
 use Rattle.hcl_tokens.specs.declared.token.Kind.TheVariants as kind
 use Rattle.hcl_grammar.specs.Numbered.{Numbered, numbered_from, without_comments, is_comment}
 use Rattle.hcl_grammar.proofs.NumberedLemmas.{drop_at, number_of}
-use Rattle.hcl_syntax.specs.Inner.Pieces.{between, words}
+use Rattle.hcl_syntax.specs.Inner.Pieces.{tokens_between, words}
 
 -- from a token on
-pub between_here : (ts : List Lexeme) (from to : ℕ) (t : Lexeme) → slice_get ts from ≡ Some t → from < to → between ts from to ≡ number_of from t ∷ between ts (from + 1) to
+pub between_here : (ts : List Lexeme) (from to : ℕ) (t : Lexeme) → slice_get ts from ≡ Some t → from < to → tokens_between ts from to ≡ number_of from t ∷ tokens_between ts (from + 1) to
 between_here ts from to t e h =
     let n : to - from ≡ suc (to - (from + 1)) = omega arith in
     ap (λ k. take k (numbered_from from (drop from ts))) n ∙ ap (λ r. take (suc (to - (from + 1))) (numbered_from from r)) (drop_at ts from t e)
 
-pub between_none : (ts : List Lexeme) (from to : ℕ) → to ≤ from → between ts from to ≡ []
+pub between_none : (ts : List Lexeme) (from to : ℕ) → to ≤ from → tokens_between ts from to ≡ []
 between_none ts from to h = let n : to - from ≡ 0 = omega arith in ap (λ k. take k (numbered_from from (drop from ts))) n ∙ none (numbered_from from (drop from ts))
   where
     none : (xs : List Numbered) → take 0 xs ≡ []
@@ -46,19 +46,19 @@ parts (x ∷ xs) n (suc i) k =
     ∙ ap (λ r. number_of n x ∷ r) (parts xs (n + 1) i k)
     ∙ ap (λ j. number_of n x ∷ (take i (numbered_from (n + 1) xs) ++ take k (numbered_from j (drop i xs)))) (sym m)
 
-pub between_parts : (ts : List Lexeme) (from mid to : ℕ) → from ≤ mid → mid ≤ to → between ts from to ≡ between ts from mid ++ between ts mid to
+pub between_parts : (ts : List Lexeme) (from mid to : ℕ) → from ≤ mid → mid ≤ to → tokens_between ts from to ≡ tokens_between ts from mid ++ tokens_between ts mid to
 between_parts ts from mid to h k =
     let n : to - from ≡ (mid - from) + (to - mid) = omega arith in
     let m : from + (mid - from) ≡ mid = omega arith in
     ap (λ j. take j (numbered_from from (drop from ts))) n
     ∙ parts (drop from ts) from (mid - from) (to - mid)
-    ∙ ap (λ r. between ts from mid ++ take (to - mid) (numbered_from (from + (mid - from)) r)) (drop-drop (mid - from) from ts)
-    ∙ ap (λ j. between ts from mid ++ take (to - mid) (numbered_from j (drop j ts))) m
+    ∙ ap (λ r. tokens_between ts from mid ++ take (to - mid) (numbered_from (from + (mid - from)) r)) (drop-drop (mid - from) from ts)
+    ∙ ap (λ j. tokens_between ts from mid ++ take (to - mid) (numbered_from j (drop j ts))) m
 
 -- ---- without comments
 
 pub words_parts : (ts : List Lexeme) (from mid to : ℕ) → from ≤ mid → mid ≤ to → words ts from to ≡ words ts from mid ++ words ts mid to
-words_parts ts from mid to h k = ap without_comments (between_parts ts from mid to h k) ∙ filter-append (λ t. not (is_comment t.kind)) (between ts from mid) (between ts mid to)
+words_parts ts from mid to h k = ap without_comments (between_parts ts from mid to h k) ∙ filter-append (λ t. not (is_comment t.kind)) (tokens_between ts from mid) (tokens_between ts mid to)
 
 pub words_none : (ts : List Lexeme) (from to : ℕ) → to ≤ from → words ts from to ≡ []
 words_none ts from to h = ap without_comments (between_none ts from to h)

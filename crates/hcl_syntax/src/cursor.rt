@@ -5,7 +5,7 @@ ghost use Rattle.std.specs.Bool.{OnTrue, OnFalse};
 ghost use Rattle.hcl_grammar.specs.Classes.{lookaheads, lookaheads_from};
 ghost use Rattle.hcl_grammar.specs.Grammar.{fits, ◌at◌, the, expr};
 ghost use Rattle.hcl_syntax.specs.Inner.Cursors.{shown, first, after_first, is_shown};
-ghost use Rattle.hcl_syntax.specs.Inner.Parsing.{Parses, said, TookTerminal, LacksTerminal};
+ghost use Rattle.hcl_syntax.specs.Inner.Parsing.{Parses, with_refusal, TookTerminal, LacksTerminal};
 ghost use Rattle.hcl_syntax.specs.Inner.Standings.{Consumes};
 
 use crate::class::lookahead_at;
@@ -120,7 +120,7 @@ impl<'t, 's> Cursor<'t, 's> {
     }
 
     /// Keeps the refusal.
-    pub fn refused(&mut self, refusal: Refusal) -> Refused
+    pub fn keep_refusal(&mut self, refusal: Refusal) -> Refused
         ensures left { self.new.left ≡ self.old.left }
         ensures refusal { self.new.refusal ≡ refusal }
     {
@@ -200,16 +200,16 @@ impl<'t, 's> Cursor<'t, 's> {
     #[inline(always)]
     pub fn expect(&mut self, newlines: Newlines, terminal: Terminal) -> Result<(), Refused>
         ensures parses { (count : ℕ) → Parses count (the terminal at newlines ∷ []) self.old.left
-            (said result self.new.refusal) self.new.left }
+            (with_refusal result self.new.refusal) self.new.left }
         ensures shorter { Consumes result self.old self.new }
     {
         match self.look(newlines) {
-            None => Err(self.refused(Refusal::UnexpectedEnd)),
+            None => Err(self.keep_refusal(Refusal::UnexpectedEnd)),
             Some(token) => if fits(terminal, token.class) {
                 self.bump(token);
                 Ok(())
             } else {
-                Err(self.refused(Refusal::UnexpectedToken(token.number)))
+                Err(self.keep_refusal(Refusal::UnexpectedToken(token.number)))
             },
         }
     }

@@ -5,7 +5,7 @@ ghost use Rattle.std.specs.Prelude.{◌≡◌, ◌+◌, ◌<◌, ◌≤◌, ◌^
 ghost use Rattle.std.specs.Bool.{OnTrue, OnFalse};
 ghost use Rattle.hcl_syntax.specs.Inner.Cursors.{shown, first};
 ghost use Rattle.hcl_grammar.specs.Grammar.{◌at◌, the, expr, after, after_ident, path, index, args, tuple, tuple_item, tuple_if, object, object_item, group, object_if, separator, names, step};
-ghost use Rattle.hcl_syntax.specs.Inner.Parsing.{Advances, Parses, said, after_follow, goes_on, is_prefix};
+ghost use Rattle.hcl_syntax.specs.Inner.Parsing.{Advances, Parses, with_refusal, after_follow, has_next_operand, is_prefix};
 ghost use Rattle.hcl_syntax.specs.Inner.Standings.{Consumes, NeverReturns};
 ghost use Rattle.hcl_grammar.specs.declared.expected.Terminal.TheVariants.{Name, Separator, FatArrow, EndBracket, EndBrace};
 ghost use Rattle.hcl_grammar.specs.declared.expected.Newlines.TheVariants.{Seen, Dropped};
@@ -38,11 +38,11 @@ impl<'t, 's> Cursor<'t, 's> {
     #[inline(always)]
     fn operand(&mut self, newlines: Newlines, directives: usize) -> Result<(), Refused>
         ensures leads { Advances directives (expr at newlines ∷ []) self.old.left
-            (said result self.new.refusal) (after at newlines ∷ []) self.new.left }
+            (with_refusal result self.new.refusal) (after at newlines ∷ []) self.new.left }
         ensures shorter { Consumes result self.old self.new }
     {
         let Some(token) = self.start(newlines) else {
-            return Err(self.refused(Refusal::UnexpectedEnd));
+            return Err(self.keep_refusal(Refusal::UnexpectedEnd));
         };
         match token.class {
             Class::Number(_) => {
@@ -76,7 +76,7 @@ impl<'t, 's> Cursor<'t, 's> {
                 self.parts(newlines, directives)?;
                 self.expect(newlines, Terminal::EndHeredoc)
             }
-            _ => Err(self.refused(Refusal::UnexpectedToken(token.number))),
+            _ => Err(self.keep_refusal(Refusal::UnexpectedToken(token.number))),
         }
     }
 
@@ -85,7 +85,7 @@ impl<'t, 's> Cursor<'t, 's> {
     #[inline(always)]
     fn call(&mut self, newlines: Newlines, directives: usize) -> Result<(), Refused>
         ensures leads { Advances directives (after_ident at newlines ∷ []) self.old.left
-            (said result self.new.refusal) (after at newlines ∷ []) self.new.left }
+            (with_refusal result self.new.refusal) (after at newlines ∷ []) self.new.left }
         ensures shorter { NeverReturns result self.old self.new }
     {
         let Some(token) = self.look(newlines) else {
@@ -109,14 +109,14 @@ impl<'t, 's> Cursor<'t, 's> {
     fn path(&mut self, newlines: Newlines) -> Result<(), Refused>
         ensures leads { (count : ℕ) → Advances count
             (the Name at newlines ∷ path at newlines ∷ []) self.old.left
-            (said result self.new.refusal) (args at Dropped ∷ after at newlines ∷ [])
+            (with_refusal result self.new.refusal) (args at Dropped ∷ after at newlines ∷ [])
             self.new.left }
         ensures shorter { NeverReturns result self.old self.new }
     {
         loop {
             self.expect(newlines, Terminal::Name)?;
             let Some(token) = self.look(newlines) else {
-                return Err(self.refused(Refusal::UnexpectedEnd));
+                return Err(self.keep_refusal(Refusal::UnexpectedEnd));
             };
             match token.class {
                 Class::ColonColon => self.bump(token),
@@ -124,7 +124,7 @@ impl<'t, 's> Cursor<'t, 's> {
                     self.bump(token);
                     return Ok(());
                 }
-                _ => return Err(self.refused(Refusal::UnexpectedToken(token.number))),
+                _ => return Err(self.keep_refusal(Refusal::UnexpectedToken(token.number))),
             }
         }
     }
@@ -134,9 +134,9 @@ impl<'t, 's> Cursor<'t, 's> {
     #[inline(always)]
     fn follow(&mut self, newlines: Newlines, directives: usize) -> Result<Follow, Refused>
         ensures leads { Advances directives (after at newlines ∷ []) self.old.left
-            (said result self.new.refusal) (after_follow newlines result) self.new.left }
+            (with_refusal result self.new.refusal) (after_follow newlines result) self.new.left }
         ensures shorter { NeverReturns result self.old self.new }
-        ensures onward { IfOk result (λ f. goes_on f ≡ true
+        ensures onward { IfOk result (λ f. has_next_operand f ≡ true
             → length self.new.left < length self.old.left) }
     {
         loop {
@@ -170,7 +170,7 @@ impl<'t, 's> Cursor<'t, 's> {
     #[inline(always)]
     fn index(&mut self, directives: usize) -> Result<(), Refused>
         ensures parses { Parses directives (index at Dropped ∷ []) self.old.left
-            (said result self.new.refusal) self.new.left }
+            (with_refusal result self.new.refusal) self.new.left }
         ensures shorter { Consumes result self.old self.new }
     {
         if self.takes(Newlines::Dropped, Terminal::Asterisk) {
@@ -185,7 +185,7 @@ impl<'t, 's> Cursor<'t, 's> {
     #[inline(always)]
     pub fn expr(&mut self, newlines: Newlines, directives: usize) -> Result<(), Refused>
         ensures parses { Parses directives (expr at newlines ∷ []) self.old.left
-            (said result self.new.refusal) self.new.left }
+            (with_refusal result self.new.refusal) self.new.left }
         ensures shorter { Consumes result self.old self.new }
     {
         if self.takes_short(newlines) {
@@ -199,7 +199,7 @@ impl<'t, 's> Cursor<'t, 's> {
     #[inline(never)]
     fn whole_expr(&mut self, newlines: Newlines, directives: usize) -> Result<(), Refused>
         ensures parses { Parses directives (expr at newlines ∷ []) self.old.left
-            (said result self.new.refusal) self.new.left }
+            (with_refusal result self.new.refusal) self.new.left }
         ensures shorter { Consumes result self.old self.new }
     {
         self.room();
@@ -224,7 +224,7 @@ impl<'t, 's> Cursor<'t, 's> {
     #[cycle(parser)]
     fn args(&mut self, directives: usize) -> Result<(), Refused>
         ensures parses { Parses directives (args at Dropped ∷ []) self.old.left
-            (said result self.new.refusal) self.new.left }
+            (with_refusal result self.new.refusal) self.new.left }
         ensures shorter { Consumes result self.old self.new }
     {
         loop {
@@ -233,7 +233,7 @@ impl<'t, 's> Cursor<'t, 's> {
             }
             self.expr(Newlines::Dropped, directives)?;
             let Some(token) = self.look(Newlines::Dropped) else {
-                return Err(self.refused(Refusal::UnexpectedEnd));
+                return Err(self.keep_refusal(Refusal::UnexpectedEnd));
             };
             match token.class {
                 Class::Comma => self.bump(token),
@@ -245,7 +245,7 @@ impl<'t, 's> Cursor<'t, 's> {
                     self.bump(token);
                     return Ok(());
                 }
-                _ => return Err(self.refused(Refusal::UnexpectedToken(token.number))),
+                _ => return Err(self.keep_refusal(Refusal::UnexpectedToken(token.number))),
             }
         }
     }
@@ -254,7 +254,7 @@ impl<'t, 's> Cursor<'t, 's> {
     #[cycle(parser)]
     fn tuple(&mut self, directives: usize) -> Result<(), Refused>
         ensures parses { Parses directives (tuple at Dropped ∷ []) self.old.left
-            (said result self.new.refusal) self.new.left }
+            (with_refusal result self.new.refusal) self.new.left }
         ensures shorter { Consumes result self.old self.new }
     {
         if self.takes(Newlines::Dropped, Terminal::ForWord) {
@@ -267,7 +267,7 @@ impl<'t, 's> Cursor<'t, 's> {
     #[cycle(parser)]
     fn tuple_items(&mut self, directives: usize) -> Result<(), Refused>
         ensures parses { Parses directives (tuple_item at Dropped ∷ []) self.old.left
-            (said result self.new.refusal) self.new.left }
+            (with_refusal result self.new.refusal) self.new.left }
         ensures shorter { Consumes result self.old self.new }
     {
         loop {
@@ -276,7 +276,7 @@ impl<'t, 's> Cursor<'t, 's> {
             }
             self.expr(Newlines::Dropped, directives)?;
             let Some(token) = self.look(Newlines::Dropped) else {
-                return Err(self.refused(Refusal::UnexpectedEnd));
+                return Err(self.keep_refusal(Refusal::UnexpectedEnd));
             };
             match token.class {
                 Class::Comma => self.bump(token),
@@ -284,7 +284,7 @@ impl<'t, 's> Cursor<'t, 's> {
                     self.bump(token);
                     return Ok(());
                 }
-                _ => return Err(self.refused(Refusal::UnexpectedToken(token.number))),
+                _ => return Err(self.keep_refusal(Refusal::UnexpectedToken(token.number))),
             }
         }
     }
@@ -295,7 +295,7 @@ impl<'t, 's> Cursor<'t, 's> {
         ensures parses { Parses directives
             (the Name at Dropped ∷ names at Dropped ∷ expr at Dropped ∷ the Separator at Dropped
             ∷ expr at Dropped ∷ [])
-            self.old.left (said result self.new.refusal) self.new.left }
+            self.old.left (with_refusal result self.new.refusal) self.new.left }
         ensures shorter { Consumes result self.old self.new }
     {
         self.names()?;
@@ -308,7 +308,7 @@ impl<'t, 's> Cursor<'t, 's> {
     #[cycle(parser)]
     fn tuple_condition(&mut self, directives: usize) -> Result<(), Refused>
         ensures parses { Parses directives (tuple_if at Dropped ∷ []) self.old.left
-            (said result self.new.refusal) self.new.left }
+            (with_refusal result self.new.refusal) self.new.left }
         ensures shorter { Consumes result self.old self.new }
     {
         if self.takes(Newlines::Dropped, Terminal::IfWord) {
@@ -322,7 +322,7 @@ impl<'t, 's> Cursor<'t, 's> {
     #[cycle(parser)]
     fn object(&mut self, directives: usize) -> Result<(), Refused>
         ensures parses { Parses directives (object at Seen ∷ []) self.old.left
-            (said result self.new.refusal) self.new.left }
+            (with_refusal result self.new.refusal) self.new.left }
         ensures shorter { Consumes result self.old self.new }
     {
         if self.takes(Newlines::Dropped, Terminal::ForWord) {
@@ -335,7 +335,7 @@ impl<'t, 's> Cursor<'t, 's> {
     #[cycle(parser)]
     fn entries(&mut self, directives: usize) -> Result<(), Refused>
         ensures parses { Parses directives (object_item at Seen ∷ []) self.old.left
-            (said result self.new.refusal) self.new.left }
+            (with_refusal result self.new.refusal) self.new.left }
         ensures shorter { Consumes result self.old self.new }
     {
         loop {
@@ -344,7 +344,7 @@ impl<'t, 's> Cursor<'t, 's> {
             }
             self.entry(directives)?;
             let Some(token) = self.look(Newlines::Seen) else {
-                return Err(self.refused(Refusal::UnexpectedEnd));
+                return Err(self.keep_refusal(Refusal::UnexpectedEnd));
             };
             match token.class {
                 Class::Comma | Class::Newline => self.bump(token),
@@ -352,7 +352,7 @@ impl<'t, 's> Cursor<'t, 's> {
                     self.bump(token);
                     return Ok(());
                 }
-                _ => return Err(self.refused(Refusal::UnexpectedToken(token.number))),
+                _ => return Err(self.keep_refusal(Refusal::UnexpectedToken(token.number))),
             }
         }
     }
@@ -361,7 +361,7 @@ impl<'t, 's> Cursor<'t, 's> {
     fn entry(&mut self, directives: usize) -> Result<(), Refused>
         ensures parses { Parses directives
             (expr at Seen ∷ separator at Seen ∷ expr at Seen ∷ []) self.old.left
-            (said result self.new.refusal) self.new.left }
+            (with_refusal result self.new.refusal) self.new.left }
         ensures shorter { Consumes result self.old self.new }
     {
         self.expr(Newlines::Seen, directives)?;
@@ -375,18 +375,18 @@ impl<'t, 's> Cursor<'t, 's> {
         ensures parses { Parses directives
             (the Name at Dropped ∷ names at Dropped ∷ expr at Dropped ∷ the Separator at Dropped
             ∷ expr at Dropped ∷ the FatArrow at Dropped ∷ expr at Dropped ∷ group at Dropped ∷ [])
-            self.old.left (said result self.new.refusal) self.new.left }
+            self.old.left (with_refusal result self.new.refusal) self.new.left }
         ensures shorter { Consumes result self.old self.new }
     {
         self.generator(directives)?;
         self.expect(Newlines::Dropped, Terminal::FatArrow)?;
         self.expr(Newlines::Dropped, directives)?;
-        self.grouping();
+        self.group_ellipsis();
         self.object_condition(directives)
     }
 
     /// The `...` of a for-expression in braces, if it has one.
-    fn grouping(&mut self)
+    fn group_ellipsis(&mut self)
         ensures leads { (count : ℕ) → Advances count (group at Dropped ∷ []) self.old.left
             (Ok (tt {0})) (object_if at Dropped ∷ []) self.new.left }
         ensures shorter { length self.new.left ≤ length self.old.left }
@@ -400,7 +400,7 @@ impl<'t, 's> Cursor<'t, 's> {
     #[cycle(parser)]
     fn object_condition(&mut self, directives: usize) -> Result<(), Refused>
         ensures parses { Parses directives (object_if at Dropped ∷ []) self.old.left
-            (said result self.new.refusal) self.new.left }
+            (with_refusal result self.new.refusal) self.new.left }
         ensures shorter { Consumes result self.old self.new }
     {
         if self.takes(Newlines::Dropped, Terminal::IfWord) {
@@ -414,7 +414,7 @@ impl<'t, 's> Cursor<'t, 's> {
     pub fn names(&mut self) -> Result<(), Refused>
         ensures parses { (count : ℕ) → Parses count
             (the Name at Dropped ∷ names at Dropped ∷ []) self.old.left
-            (said result self.new.refusal) self.new.left }
+            (with_refusal result self.new.refusal) self.new.left }
         ensures shorter { Consumes result self.old self.new }
     {
         self.expect(Newlines::Dropped, Terminal::Name)?;
@@ -424,7 +424,7 @@ impl<'t, 's> Cursor<'t, 's> {
     /// The tokens after the first name of a `for`.
     fn more_names(&mut self) -> Result<(), Refused>
         ensures parses { (count : ℕ) → Parses count (names at Dropped ∷ []) self.old.left
-            (said result self.new.refusal) self.new.left }
+            (with_refusal result self.new.refusal) self.new.left }
         ensures shorter { Consumes result self.old self.new }
     {
         if self.takes(Newlines::Dropped, Terminal::InWord) {
@@ -439,11 +439,11 @@ impl<'t, 's> Cursor<'t, 's> {
     #[inline(always)]
     pub fn step(&mut self, newlines: Newlines) -> Result<(), Refused>
         ensures parses { (count : ℕ) → Parses count (step at newlines ∷ []) self.old.left
-            (said result self.new.refusal) self.new.left }
+            (with_refusal result self.new.refusal) self.new.left }
         ensures shorter { Consumes result self.old self.new }
     {
         match self.look(newlines) {
-            None => Err(self.refused(Refusal::UnexpectedEnd)),
+            None => Err(self.keep_refusal(Refusal::UnexpectedEnd)),
             Some(token) => match token.class {
                 Class::Ident(_) | Class::Star => {
                     self.bump(token);
@@ -453,9 +453,9 @@ impl<'t, 's> Cursor<'t, 's> {
                     self.bump(token);
                     Ok(())
                 } else {
-                    Err(self.refused(Refusal::UnexpectedToken(token.number)))
+                    Err(self.keep_refusal(Refusal::UnexpectedToken(token.number)))
                 },
-                _ => Err(self.refused(Refusal::UnexpectedToken(token.number))),
+                _ => Err(self.keep_refusal(Refusal::UnexpectedToken(token.number))),
             },
         }
     }
@@ -463,17 +463,17 @@ impl<'t, 's> Cursor<'t, 's> {
     /// The separator between a key of an object and its value.
     pub fn separator(&mut self) -> Result<(), Refused>
         ensures parses { (count : ℕ) → Parses count (separator at Seen ∷ []) self.old.left
-            (said result self.new.refusal) self.new.left }
+            (with_refusal result self.new.refusal) self.new.left }
         ensures shorter { Consumes result self.old self.new }
     {
         match self.look(Newlines::Seen) {
-            None => Err(self.refused(Refusal::UnexpectedEnd)),
+            None => Err(self.keep_refusal(Refusal::UnexpectedEnd)),
             Some(token) => match token.class {
                 Class::Assign | Class::Colon => {
                     self.bump(token);
                     Ok(())
                 }
-                _ => Err(self.refused(Refusal::UnexpectedToken(token.number))),
+                _ => Err(self.keep_refusal(Refusal::UnexpectedToken(token.number))),
             },
         }
     }

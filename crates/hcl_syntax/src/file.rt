@@ -2,7 +2,7 @@
 ghost use Rattle.std.specs.Prelude.{◌≡◌, ◌+◌, ◌<◌, ◌≤◌, ◌^◌, ℕ, List, [], ◌∷◌, length, Some, None, Ok, OnOk};
 ghost use Rattle.hcl_grammar.specs.Grammar.{◌at◌, the, eol, labels, label_literal, start, rest, expr, file};
 ghost use Rattle.hcl_grammar.specs.Predictor.{run};
-ghost use Rattle.hcl_syntax.specs.Inner.Parsing.{Advances, Parses, said, outcome, after_item};
+ghost use Rattle.hcl_syntax.specs.Inner.Parsing.{Advances, Parses, with_refusal, outcome, after_item};
 ghost use Rattle.hcl_syntax.specs.Inner.Standings.{NeverReturns};
 ghost use Rattle.hcl_grammar.specs.declared.expected.Terminal.TheVariants.{EndQuote, Equals, EndBrace};
 ghost use Rattle.hcl_grammar.specs.declared.expected.Newlines.TheVariants.{Seen};
@@ -15,11 +15,11 @@ impl<'t, 's> Cursor<'t, 's> {
     /// A quoted label after its opening quote.
     fn label(&mut self) -> Result<(), Refused>
         ensures parses { Parses 0 (label_literal at Seen ∷ the EndQuote at Seen ∷ []) self.old.left
-            (said result self.new.refusal) self.new.left }
+            (with_refusal result self.new.refusal) self.new.left }
         ensures shorter { NeverReturns result self.old self.new }
     {
         let Some(token) = self.look(Newlines::Seen) else {
-            return Err(self.refused(Refusal::UnexpectedEnd));
+            return Err(self.keep_refusal(Refusal::UnexpectedEnd));
         };
         match token.class {
             Class::Lit => {
@@ -30,19 +30,19 @@ impl<'t, 's> Cursor<'t, 's> {
                 self.bump(token);
                 Ok(())
             }
-            _ => Err(self.refused(Refusal::UnexpectedToken(token.number))),
+            _ => Err(self.keep_refusal(Refusal::UnexpectedToken(token.number))),
         }
     }
 
     /// The labels of a block and its opening brace.
     fn labels(&mut self) -> Result<(), Refused>
         ensures leads { Advances 0 (labels at Seen ∷ []) self.old.left
-            (said result self.new.refusal) (start at Seen ∷ []) self.new.left }
+            (with_refusal result self.new.refusal) (start at Seen ∷ []) self.new.left }
         ensures shorter { NeverReturns result self.old self.new }
     {
         loop {
             let Some(token) = self.look(Newlines::Seen) else {
-                return Err(self.refused(Refusal::UnexpectedEnd));
+                return Err(self.keep_refusal(Refusal::UnexpectedEnd));
             };
             match token.class {
                 Class::Ident(_) => self.bump(token),
@@ -54,19 +54,19 @@ impl<'t, 's> Cursor<'t, 's> {
                     self.bump(token);
                     return Ok(());
                 }
-                _ => return Err(self.refused(Refusal::UnexpectedToken(token.number))),
+                _ => return Err(self.keep_refusal(Refusal::UnexpectedToken(token.number))),
             }
         }
     }
 
     /// The token after a block's opening brace. Returns whether its body continues over lines.
     fn block(&mut self) -> Result<bool, Refused>
-        ensures leads { Advances 0 (start at Seen ∷ []) self.old.left (said result self.new.refusal)
+        ensures leads { Advances 0 (start at Seen ∷ []) self.old.left (with_refusal result self.new.refusal)
             (after_item result) self.new.left }
         ensures shorter { NeverReturns result self.old self.new }
     {
         let Some(token) = self.look(Newlines::Seen) else {
-            return Err(self.refused(Refusal::UnexpectedEnd));
+            return Err(self.keep_refusal(Refusal::UnexpectedEnd));
         };
         match token.class {
             Class::Newline => {
@@ -83,7 +83,7 @@ impl<'t, 's> Cursor<'t, 's> {
                 self.end_of_line()?;
                 Ok(false)
             }
-            _ => Err(self.refused(Refusal::UnexpectedToken(token.number))),
+            _ => Err(self.keep_refusal(Refusal::UnexpectedToken(token.number))),
         }
     }
 
@@ -91,7 +91,7 @@ impl<'t, 's> Cursor<'t, 's> {
     fn attribute_line(&mut self) -> Result<(), Refused>
         ensures parses { Parses 0
             (the Equals at Seen ∷ expr at Seen ∷ the EndBrace at Seen ∷ eol at Seen ∷ [])
-            self.old.left (said result self.new.refusal) self.new.left }
+            self.old.left (with_refusal result self.new.refusal) self.new.left }
         ensures shorter { NeverReturns result self.old self.new }
     {
         self.expect(Newlines::Seen, Terminal::Equals)?;
@@ -102,7 +102,7 @@ impl<'t, 's> Cursor<'t, 's> {
 
     /// An attribute or a block after its first identifier.
     fn item(&mut self) -> Result<bool, Refused>
-        ensures leads { Advances 0 (rest at Seen ∷ []) self.old.left (said result self.new.refusal)
+        ensures leads { Advances 0 (rest at Seen ∷ []) self.old.left (with_refusal result self.new.refusal)
             (after_item result) self.new.left }
         ensures shorter { NeverReturns result self.old self.new }
     {
@@ -118,7 +118,7 @@ impl<'t, 's> Cursor<'t, 's> {
     /// A file. It keeps the number of open blocks.
     pub fn file(&mut self) -> Result<(), Refused>
         ensures { run 0 (file at Seen ∷ []) self.old.left
-            ≡ outcome (said result self.new.refusal) None }
+            ≡ outcome (with_refusal result self.new.refusal) None }
     {
         self.room();
         let mut levels: usize = 0;
@@ -127,7 +127,7 @@ impl<'t, 's> Cursor<'t, 's> {
                 return if levels == 0 {
                     Ok(())
                 } else {
-                    Err(self.refused(Refusal::UnexpectedEnd))
+                    Err(self.keep_refusal(Refusal::UnexpectedEnd))
                 };
             };
             match token.class {
@@ -140,13 +140,13 @@ impl<'t, 's> Cursor<'t, 's> {
                 }
                 Class::BraceClose => {
                     if levels == 0 {
-                        return Err(self.refused(Refusal::UnexpectedToken(token.number)));
+                        return Err(self.keep_refusal(Refusal::UnexpectedToken(token.number)));
                     }
                     self.bump(token);
                     self.end_of_line()?;
                     levels -= 1;
                 }
-                _ => return Err(self.refused(Refusal::UnexpectedToken(token.number))),
+                _ => return Err(self.keep_refusal(Refusal::UnexpectedToken(token.number))),
             }
         }
     }
@@ -154,7 +154,7 @@ impl<'t, 's> Cursor<'t, 's> {
     /// The end of a line, or of the input.
     pub fn end_of_line(&mut self) -> Result<(), Refused>
         ensures parses { Parses 0 (eol at Seen ∷ []) self.old.left
-            (said result self.new.refusal) self.new.left }
+            (with_refusal result self.new.refusal) self.new.left }
         ensures shorter { NeverReturns result self.old self.new }
     {
         let Some(end) = self.look(Newlines::Seen) else {
@@ -165,7 +165,7 @@ impl<'t, 's> Cursor<'t, 's> {
                 self.bump(end);
                 Ok(())
             }
-            _ => Err(self.refused(Refusal::UnexpectedToken(end.number))),
+            _ => Err(self.keep_refusal(Refusal::UnexpectedToken(end.number))),
         }
     }
 }

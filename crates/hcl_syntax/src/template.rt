@@ -2,7 +2,7 @@
 
 ghost use Rattle.std.specs.Prelude.{◌≡◌, ◌+◌, ◌<◌, ◌≤◌, [], ◌∷◌, length, Some, None, Ok, OnOk};
 ghost use Rattle.hcl_grammar.specs.Grammar.{◌at◌, the, expr, parts, directive, inside};
-ghost use Rattle.hcl_syntax.specs.Inner.Parsing.{Advances, Parses, said, Ends, turning};
+ghost use Rattle.hcl_syntax.specs.Inner.Parsing.{Advances, Parses, with_refusal, Ends, effect_of_word};
 ghost use Rattle.hcl_syntax.specs.Inner.Standings.{Consumes, NeverReturns};
 ghost use Rattle.hcl_grammar.specs.Predictor.{max_directives};
 ghost use Rattle.hcl_grammar.specs.declared.expected.Terminal.TheVariants.{EndSequence};
@@ -16,8 +16,8 @@ use hcl_grammar::{Class, Newlines, Refusal, Section, Terminal, Word};
 const MAX_DIRECTIVES: usize = 256;
 
 /// The effect of a word in a directive.
-fn turning(section: Section, class: Class) -> Turning
-    ensures { result ≡ turning section class }
+fn effect_of_word(section: Section, class: Class) -> Turning
+    ensures { result ≡ effect_of_word section class }
 {
     match (section, class) {
         (Section::InIf, Class::Ident(Word::Else)) => Turning::Onward,
@@ -32,12 +32,12 @@ impl<'t, 's> Cursor<'t, 's> {
     #[cycle(parser)]
     pub fn parts(&mut self, newlines: Newlines, directives: usize) -> Result<(), Refused>
         ensures parses { Parses directives (parts at newlines ∷ []) self.old.left
-            (said result self.new.refusal) self.new.left }
+            (with_refusal result self.new.refusal) self.new.left }
         ensures shorter { NeverReturns result self.old self.new }
     {
         loop {
             let Some(token) = self.look(newlines) else {
-                return Err(self.refused(Refusal::UnexpectedEnd));
+                return Err(self.keep_refusal(Refusal::UnexpectedEnd));
             };
             match token.class {
                 Class::Lit => self.bump(token),
@@ -50,7 +50,7 @@ impl<'t, 's> Cursor<'t, 's> {
                     self.directive(token.number, directives)?;
                 }
                 Class::QuoteClose | Class::HeredocClose => return Ok(()),
-                _ => return Err(self.refused(Refusal::UnexpectedToken(token.number))),
+                _ => return Err(self.keep_refusal(Refusal::UnexpectedToken(token.number))),
             }
         }
     }
@@ -60,7 +60,7 @@ impl<'t, 's> Cursor<'t, 's> {
     fn sequence(&mut self, directives: usize) -> Result<(), Refused>
         ensures parses { Parses directives
             (expr at Dropped ∷ the EndSequence at Dropped ∷ []) self.old.left
-            (said result self.new.refusal) self.new.left }
+            (with_refusal result self.new.refusal) self.new.left }
         ensures shorter { Consumes result self.old self.new }
     {
         self.expr(Newlines::Dropped, directives)?;
@@ -71,17 +71,17 @@ impl<'t, 's> Cursor<'t, 's> {
     #[cycle(parser)]
     fn directive(&mut self, number: u32, directives: usize) -> Result<(), Refused>
         ensures parses { Parses directives (directive number at Dropped ∷ []) self.old.left
-            (said result self.new.refusal) self.new.left }
+            (with_refusal result self.new.refusal) self.new.left }
         ensures shorter { Consumes result self.old self.new }
     {
         let Some(token) = self.look(Newlines::Dropped) else {
-            return Err(self.refused(Refusal::UnexpectedEnd));
+            return Err(self.keep_refusal(Refusal::UnexpectedEnd));
         };
         match token.class {
             Class::Ident(word) => match word {
                 Word::If => {
                     if directives >= MAX_DIRECTIVES {
-                        return Err(self.refused(Refusal::TooDeep(number)));
+                        return Err(self.keep_refusal(Refusal::TooDeep(number)));
                     }
                     self.bump(token);
                     self.sequence(directives + 1)?;
@@ -89,16 +89,16 @@ impl<'t, 's> Cursor<'t, 's> {
                 }
                 Word::For => {
                     if directives >= MAX_DIRECTIVES {
-                        return Err(self.refused(Refusal::TooDeep(number)));
+                        return Err(self.keep_refusal(Refusal::TooDeep(number)));
                     }
                     self.bump(token);
                     self.names()?;
                     self.sequence(directives + 1)?;
                     self.section(Section::InFor, directives)
                 }
-                _ => Err(self.refused(Refusal::UnexpectedToken(token.number))),
+                _ => Err(self.keep_refusal(Refusal::UnexpectedToken(token.number))),
             },
-            _ => Err(self.refused(Refusal::UnexpectedToken(token.number))),
+            _ => Err(self.keep_refusal(Refusal::UnexpectedToken(token.number))),
         }
     }
 
@@ -107,13 +107,13 @@ impl<'t, 's> Cursor<'t, 's> {
     fn section(&mut self, section: Section, directives: usize) -> Result<(), Refused>
         requires { directives < max_directives }
         ensures ends { Ends directives (inside section at Dropped ∷ []) self.old.left
-            (said result self.new.refusal) self.new.left }
+            (with_refusal result self.new.refusal) self.new.left }
         ensures shorter { Consumes result self.old self.new }
     {
         let mut section = section;
         loop {
             let Some(token) = self.look(Newlines::Dropped) else {
-                return Err(self.refused(Refusal::UnexpectedEnd));
+                return Err(self.keep_refusal(Refusal::UnexpectedEnd));
             };
             match token.class {
                 Class::Lit => self.bump(token),
@@ -124,9 +124,9 @@ impl<'t, 's> Cursor<'t, 's> {
                 Class::ControlOpen => {
                     self.bump(token);
                     let Some(word) = self.look(Newlines::Dropped) else {
-                        return Err(self.refused(Refusal::UnexpectedEnd));
+                        return Err(self.keep_refusal(Refusal::UnexpectedEnd));
                     };
-                    match turning(section, word.class) {
+                    match effect_of_word(section, word.class) {
                         Turning::Onward => {
                             self.bump(word);
                             self.expect(Newlines::Dropped, Terminal::EndSequence)?;
@@ -139,7 +139,7 @@ impl<'t, 's> Cursor<'t, 's> {
                         Turning::Inner => self.directive(token.number, directives + 1)?,
                     }
                 }
-                _ => return Err(self.refused(Refusal::UnexpectedToken(token.number))),
+                _ => return Err(self.keep_refusal(Refusal::UnexpectedToken(token.number))),
             }
         }
     }

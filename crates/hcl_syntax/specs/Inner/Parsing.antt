@@ -28,9 +28,9 @@ outcome (Ok _) o = o
 outcome (Err f) o = Some f
 
 -- a result with the refusal that the cursor keeps
-abbrev pub said : {A : Type 0} → Result A Refused → Refusal → Result A Refusal
-said (Ok a) f = Ok a
-said (Err e) f = Err f
+abbrev pub with_refusal : {A : Type 0} → Result A Refused → Refusal → Result A Refusal
+with_refusal (Ok a) f = Ok a
+with_refusal (Err e) f = Err f
 
 -- With the symbols xs first, whatever comes after them, the predictor comes from the old tokens to the new ones with
 -- ys in their place, or ends with the refusal.
@@ -46,9 +46,9 @@ abbrev pub Parses : ℕ → List Marked → List Lookahead → Result (Unit {0})
 Parses count xs old result new = Advances count xs old result [] new
 
 -- n times `:` and an expression
-abbrev pub waits : Newlines → ℕ → List Marked → List Marked
-waits m zero ss = ss
-waits m (suc n) ss = the Separator at m ∷ expr at m ∷ waits m n ss
+abbrev pub pending_choices : Newlines → ℕ → List Marked → List Marked
+pending_choices m zero ss = ss
+pending_choices m (suc n) ss = the Separator at m ∷ expr at m ∷ pending_choices m n ss
 
 -- the symbols expected after an operand
 abbrev pub follow_symbols : Newlines → Follow → List Marked
@@ -57,10 +57,10 @@ follow_symbols m Choice = expr at m ∷ the Separator at m ∷ expr at m ∷ []
 follow_symbols m Other = []
 
 -- whether another operand is expected
-abbrev pub goes_on : Follow → Bool
-goes_on Operator = true
-goes_on Choice = true
-goes_on Other = false
+abbrev pub has_next_operand : Follow → Bool
+has_next_operand Operator = true
+has_next_operand Choice = true
+has_next_operand Other = false
 
 abbrev pub after_follow : Newlines → Result Follow Refused → List Marked
 after_follow m (Ok f) = follow_symbols m f
@@ -104,12 +104,12 @@ Names UnexpectedEnd count = Unit {0}
 Names (TooDeep n) count = n < count
 
 -- the effect of a word in a directive
-abbrev pub turning : Section → Class → Turning
-turning InIf (Ident Else) = Onward
-turning InIf (Ident Endif) = Closing
-turning InElse (Ident Endif) = Closing
-turning InFor (Ident Endfor) = Closing
-turning _ _ = Inner
+abbrev pub effect_of_word : Section → Class → Turning
+effect_of_word InIf (Ident Else) = Onward
+effect_of_word InIf (Ident Endif) = Closing
+effect_of_word InElse (Ident Endif) = Closing
+effect_of_word InFor (Ident Endfor) = Closing
+effect_of_word _ _ = Inner
 
 -- the row of a directive in a section, by the effect of its word; `p` is the number of its `%{`
 abbrev pub turning_row : Turning → Section → Newlines → ℕ → ℕ → Class → Action

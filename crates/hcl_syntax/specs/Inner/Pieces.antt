@@ -11,12 +11,12 @@ use Rattle.hcl_grammar.specs.declared.item.Item.{Item}
 use Rattle.hcl_syntax.specs.declared.words.NumberedKind.{NumberedKind}
 
 -- the tokens from a number on to before another
-abbrev pub between : List Lexeme → ℕ → ℕ → List Numbered
-between tokens from to = take (to - from) (numbered_from from (drop from tokens))
+abbrev pub tokens_between : List Lexeme → ℕ → ℕ → List Numbered
+tokens_between tokens from to = take (to - from) (numbered_from from (drop from tokens))
 
 -- those tokens without comments
 abbrev pub words : List Lexeme → ℕ → ℕ → List Numbered
-words tokens from to = without_comments (between tokens from to)
+words tokens from to = without_comments (tokens_between tokens from to)
 
 -- the token is the first of them
 pub record IsFirst (tokens : List Lexeme) (from to : ℕ) (word : NumberedKind) : Type 0 where

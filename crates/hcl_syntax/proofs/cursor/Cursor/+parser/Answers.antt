@@ -3,8 +3,8 @@ use Rattle.hcl_grammar.specs.declared.expected.Section.TheVariants.{InIf, InElse
 use Rattle.hcl_grammar.specs.declared.expected.Newlines.TheVariants.{Seen, Dropped}
 use Rattle.hcl_grammar.specs.declared.expected.Terminal.TheVariants.{Name, EndParen, EndBracket, EndBrace, EndSequence, EndQuote, EndHeredoc, Separator, FatArrow}
 use Rattle.hcl_grammar.specs.Grammar.{◌at◌, row, the, expr, after, after_ident, arg_next, tuple, tuple_item, tuple_next, tuple_if, object, object_item, object_next, object_if, group, separator, parts, names, inside, section_directive, directive}
-use Rattle.hcl_syntax.specs.Inner.Parsing.{turning, waits, follow_symbols}
-use Rattle.hcl_syntax.proofs.CursorStepLemmas.{expr-stays, directive-stays, same-token, opening-row, too-deep, closing, turning-onward, turning-closing, turning-inner, end-onward, end-fails, end-quits, looks, reading, vanishing, vanishing-end, refusing, refusing-end, onward, beside, quits, done, begins, alike, args-end, args-else, tuple-end, tuple-else, index-star, index-else, no-token, waits-down, renamed, tuple-for, tuple-listed, tuple-if, tuple-plain, object-if, object-plain, object-for, object-listed, object-passes, item-passes, item-end, item-else, past-reading, past-alike, past-begins, kept-refusal, end-kept-refusal, kept-refusal-end}
+use Rattle.hcl_syntax.specs.Inner.Parsing.{effect_of_word, pending_choices, follow_symbols}
+use Rattle.hcl_syntax.proofs.CursorStepLemmas.{expr-stays, directive-stays, same-token, opening-row, too-deep, closing, effect_of_word-onward, effect_of_word-closing, effect_of_word-inner, end-onward, end-fails, end-quits, looks, reading, vanishing, vanishing-end, refusing, refusing-end, onward, beside, quits, done, begins, alike, args-end, args-else, tuple-end, tuple-else, index-star, index-else, no-token, pending_choices-down, renamed, tuple-for, tuple-listed, tuple-if, tuple-plain, object-if, object-plain, object-for, object-listed, object-passes, item-passes, item-end, item-else, past-reading, past-alike, past-begins, kept-refusal, end-kept-refusal, kept-refusal-end}
 use Rattle.hcl_syntax.proofs.cursor.Cursor.+parser.Goals as goal
 
 pub args-returns-then-takes-clause-parses : goal.args-returns-then-takes-clause-parses
@@ -16,7 +16,7 @@ args-returns-in_err-expr-clause-parses n c = quits _ c.from_residual.ensures.1
     (onward c.loop-directives.invariant.leads (begins refl refl (expr-stays _) (λ t e. args-else _ _ (c.if-takes.ensures.no.unfit t e)) c.if-takes.ensures.no.shows (beside (arg_next at Dropped ∷ []) c.in_err-expr.ensures.parses)))
 
 pub args-returns-in_default-clause-parses : goal.args-returns-in_default-clause-parses
-args-returns-in_default-clause-parses n c = kept-refusal-end c.refused.ensures.refusal
+args-returns-in_default-clause-parses n c = kept-refusal-end c.keep_refusal.ensures.refusal
     (onward c.loop-directives.invariant.leads (begins refl refl (expr-stays _) (λ t e. args-else _ _ (c.if-takes.ensures.no.unfit t e)) c.if-takes.ensures.no.shows (onward (beside (arg_next at Dropped ∷ []) c.in_ok-expr.ensures.parses)
     (refusing-end c.look.ensures.left c.in_default.ensures.found refl))))
 
@@ -39,7 +39,7 @@ args-returns-in-ParenClose-clause-parses n c =
 
 pub args-returns-in_default-class : goal.args-returns-in_default-class
 args-returns-in_default-class n c = record {
-  parses = kept-refusal c.refused-in_default-class.ensures.refusal (onward c.loop-directives.invariant.leads (begins refl refl (expr-stays _) (λ t e. args-else _ _ (c.if-takes.ensures.no.unfit t e)) c.if-takes.ensures.no.shows (onward (beside (arg_next at Dropped ∷ []) c.in_ok-expr.ensures.parses)
+  parses = kept-refusal c.keep_refusal-in_default-class.ensures.refusal (onward c.loop-directives.invariant.leads (begins refl refl (expr-stays _) (λ t e. args-else _ _ (c.if-takes.ensures.no.unfit t e)) c.if-takes.ensures.no.shows (onward (beside (arg_next at Dropped ∷ []) c.in_ok-expr.ensures.parses)
       (refusing (looks _ _ _ _ _ c.look.ensures.left c.in-Some.ensures.found refl) (search rules)))));
   shorter = tt;
 }
@@ -82,7 +82,7 @@ tuple_items-returns-in_err-expr-clause-parses n c = quits _ c.from_residual.ensu
     (onward c.loop-directives.invariant.leads (begins refl refl (expr-stays _) (λ t e. tuple-else _ _ (c.if-takes.ensures.no.unfit t e)) c.if-takes.ensures.no.shows (beside (tuple_next at Dropped ∷ []) c.in_err-expr.ensures.parses)))
 
 pub tuple_items-returns-in_default-clause-parses : goal.tuple_items-returns-in_default-clause-parses
-tuple_items-returns-in_default-clause-parses n c = kept-refusal-end c.refused.ensures.refusal
+tuple_items-returns-in_default-clause-parses n c = kept-refusal-end c.keep_refusal.ensures.refusal
     (onward c.loop-directives.invariant.leads (begins refl refl (expr-stays _) (λ t e. tuple-else _ _ (c.if-takes.ensures.no.unfit t e)) c.if-takes.ensures.no.shows (onward (beside (tuple_next at Dropped ∷ []) c.in_ok-expr.ensures.parses)
     (refusing-end c.look.ensures.left c.in_default.ensures.found refl))))
 
@@ -100,13 +100,13 @@ tuple_items-returns-in-BracketClose-clause-parses n c =
 
 pub tuple_items-returns-in_default-class : goal.tuple_items-returns-in_default-class
 tuple_items-returns-in_default-class n c = record {
-  parses = kept-refusal c.refused-in_default-class.ensures.refusal (onward c.loop-directives.invariant.leads (begins refl refl (expr-stays _) (λ t e. tuple-else _ _ (c.if-takes.ensures.no.unfit t e)) c.if-takes.ensures.no.shows (onward (beside (tuple_next at Dropped ∷ []) c.in_ok-expr.ensures.parses)
+  parses = kept-refusal c.keep_refusal-in_default-class.ensures.refusal (onward c.loop-directives.invariant.leads (begins refl refl (expr-stays _) (λ t e. tuple-else _ _ (c.if-takes.ensures.no.unfit t e)) c.if-takes.ensures.no.shows (onward (beside (tuple_next at Dropped ∷ []) c.in_ok-expr.ensures.parses)
       (refusing (looks _ _ _ _ _ c.look.ensures.left c.in-Some.ensures.found refl) (search rules)))));
   shorter = tt;
 }
 
 pub operand-returns-in_default-clause-leads : goal.operand-returns-in_default-clause-leads
-operand-returns-in_default-clause-leads n c = kept-refusal-end c.refused.ensures.refusal (onward (c.start.ensures.leads _) (refusing-end c.start.ensures.left c.in_default.ensures.found refl))
+operand-returns-in_default-clause-leads n c = kept-refusal-end c.keep_refusal.ensures.refusal (onward (c.start.ensures.leads _) (refusing-end c.start.ensures.left c.in_default.ensures.found refl))
 
 pub operand-returns-in-Number-clause-leads : goal.operand-returns-in-Number-clause-leads
 operand-returns-in-Number-clause-leads n c = onward (c.start.ensures.leads _) (reading (looks _ _ _ _ _ c.start.ensures.left c.in-Some.ensures.found c.bump.ensures.left) (search rules) done)
@@ -146,12 +146,12 @@ operand-returns-in_ok-parts-in-HeredocOpen-clause-leads n c =
 
 pub operand-returns-in_default-class : goal.operand-returns-in_default-class
 operand-returns-in_default-class n c = record {
-  leads = kept-refusal c.refused-in_default-class.ensures.refusal (onward (c.start.ensures.leads _) (refusing (looks _ _ _ _ _ c.start.ensures.left c.in-Some.ensures.found refl) (search rules)));
+  leads = kept-refusal c.keep_refusal-in_default-class.ensures.refusal (onward (c.start.ensures.leads _) (refusing (looks _ _ _ _ _ c.start.ensures.left c.in-Some.ensures.found refl) (search rules)));
   shorter = tt;
 }
 
 pub parts-returns-in_default-clause-parses : goal.parts-returns-in_default-clause-parses
-parts-returns-in_default-clause-parses n c = kept-refusal-end c.refused.ensures.refusal (onward c.loop-token.invariant.leads (refusing-end c.look.ensures.left c.in_default.ensures.found refl))
+parts-returns-in_default-clause-parses n c = kept-refusal-end c.keep_refusal.ensures.refusal (onward c.loop-token.invariant.leads (refusing-end c.look.ensures.left c.in_default.ensures.found refl))
 
 pub parts-loop-token-preserved-in-Lit : goal.parts-loop-token-preserved-in-Lit
 parts-loop-token-preserved-in-Lit n c = record {
@@ -164,7 +164,7 @@ parts-returns-in-QuoteClose-clause-parses n c = onward c.loop-token.invariant.le
 
 pub parts-returns-in_default-class : goal.parts-returns-in_default-class
 parts-returns-in_default-class n c = record {
-  parses = kept-refusal c.refused-in_default-class.ensures.refusal (onward c.loop-token.invariant.leads (refusing (looks _ _ _ _ _ c.look.ensures.left c.in-Some.ensures.found refl) (search rules)));
+  parses = kept-refusal c.keep_refusal-in_default-class.ensures.refusal (onward c.loop-token.invariant.leads (refusing (looks _ _ _ _ _ c.look.ensures.left c.in-Some.ensures.found refl) (search rules)));
   shorter = tt;
 }
 
@@ -206,17 +206,17 @@ follow-returns-in_default-class n c = record {
 
 pub whole_expr-returns-in_err-expect-in-Other-clause-parses : goal.whole_expr-returns-in_err-expect-in-Other-clause-parses
 whole_expr-returns-in_err-expect-in-Other-clause-parses n c = quits _ c.from_residual-in_err-expect-in-Other.ensures.1
-    (onward (renamed (waits-down c.args.newlines c.loop-self.waiting c.if-waiting-eq0.false)
-    (onward c.loop-self.invariant.leads (onward (beside (waits c.args.newlines c.loop-self.waiting []) c.in_ok-operand.ensures.leads)
-    (beside (waits c.args.newlines c.loop-self.waiting []) (renamed (ap (λ f. follow_symbols c.args.newlines f) c.in-Other.is) c.in_ok-follow.ensures.leads)))))
-    (beside (expr at c.args.newlines ∷ waits c.args.newlines (c.loop-self.waiting - 1) []) (c.in_err-expect-in-Other.ensures.parses _)))
+    (onward (renamed (pending_choices-down c.args.newlines c.loop-self.waiting c.if-waiting-eq0.false)
+    (onward c.loop-self.invariant.leads (onward (beside (pending_choices c.args.newlines c.loop-self.waiting []) c.in_ok-operand.ensures.leads)
+    (beside (pending_choices c.args.newlines c.loop-self.waiting []) (renamed (ap (λ f. follow_symbols c.args.newlines f) c.in-Other.is) c.in_ok-follow.ensures.leads)))))
+    (beside (expr at c.args.newlines ∷ pending_choices c.args.newlines (c.loop-self.waiting - 1) []) (c.in_err-expect-in-Other.ensures.parses _)))
 
 pub whole_expr-loop-self-preserved : goal.whole_expr-loop-self-preserved
 whole_expr-loop-self-preserved n c = record {
-  leads = onward (renamed (waits-down c.args.newlines c.loop-self.waiting c.if-waiting-eq0.false)
-      (onward c.loop-self.invariant.leads (onward (beside (waits c.args.newlines c.loop-self.waiting []) c.in_ok-operand.ensures.leads)
-      (beside (waits c.args.newlines c.loop-self.waiting []) (renamed (ap (λ f. follow_symbols c.args.newlines f) c.in-Other.is) c.in_ok-follow.ensures.leads)))))
-      (beside (expr at c.args.newlines ∷ waits c.args.newlines (c.loop-self.waiting - 1) []) (c.in_ok-expect-in-Other.ensures.parses _));
+  leads = onward (renamed (pending_choices-down c.args.newlines c.loop-self.waiting c.if-waiting-eq0.false)
+      (onward c.loop-self.invariant.leads (onward (beside (pending_choices c.args.newlines c.loop-self.waiting []) c.in_ok-operand.ensures.leads)
+      (beside (pending_choices c.args.newlines c.loop-self.waiting []) (renamed (ap (λ f. follow_symbols c.args.newlines f) c.in-Other.is) c.in_ok-follow.ensures.leads)))))
+      (beside (expr at c.args.newlines ∷ pending_choices c.args.newlines (c.loop-self.waiting - 1) []) (c.in_ok-expect-in-Other.ensures.parses _));
   shorter = omega (arith, c.in_ok-operand.ensures.shorter, c.in_ok-follow.ensures.shorter, c.in_ok-expect-in-Other.ensures.shorter);
   room = omega (arith, c.loop-self.invariant.room, c.in_ok-operand.ensures.shorter, c.in_ok-follow.ensures.shorter, c.in_ok-expect-in-Other.ensures.shorter);
 }
@@ -234,19 +234,19 @@ pub parts-returns-in_err-directive-in-ControlOpen-clause-parses : goal.parts-ret
 parts-returns-in_err-directive-in-ControlOpen-clause-parses n c = quits _ c.from_residual-in_err-directive-in-ControlOpen.ensures.1 (onward c.loop-token.invariant.leads (reading (looks _ _ _ _ _ c.look.ensures.left c.in-Some.ensures.found c.bump-in-ControlOpen.ensures.left) (search rules) (beside (parts at c.args.newlines ∷ []) c.in_err-directive-in-ControlOpen.ensures.parses)))
 
 pub directive-returns-in_default-clause-parses : goal.directive-returns-in_default-clause-parses
-directive-returns-in_default-clause-parses n c = kept-refusal-end c.refused.ensures.refusal (refusing-end c.look.ensures.left c.in_default.ensures.found refl)
+directive-returns-in_default-clause-parses n c = kept-refusal-end c.keep_refusal.ensures.refusal (refusing-end c.look.ensures.left c.in_default.ensures.found refl)
 
 pub directive-returns-in_default-class : goal.directive-returns-in_default-class
-directive-returns-in_default-class n c = record { parses = kept-refusal c.refused-in_default-class.ensures.refusal (refusing (looks _ _ _ _ _ c.look.ensures.left c.in-Some.ensures.found refl) (search rules)); shorter = tt }
+directive-returns-in_default-class n c = record { parses = kept-refusal c.keep_refusal-in_default-class.ensures.refusal (refusing (looks _ _ _ _ _ c.look.ensures.left c.in-Some.ensures.found refl) (search rules)); shorter = tt }
 
 pub directive-returns-in_default-word : goal.directive-returns-in_default-word
-directive-returns-in_default-word n c = record { parses = kept-refusal c.refused-in_default-word.ensures.refusal (refusing (looks _ _ _ _ _ c.look.ensures.left c.in-Some.ensures.found refl) (search rules)); shorter = tt }
+directive-returns-in_default-word n c = record { parses = kept-refusal c.keep_refusal-in_default-word.ensures.refusal (refusing (looks _ _ _ _ _ c.look.ensures.left c.in-Some.ensures.found refl) (search rules)); shorter = tt }
 
 pub directive-returns-then-directives-ge-MAX_DIRECTIVES-clause-parses : goal.directive-returns-then-directives-ge-MAX_DIRECTIVES-clause-parses
-directive-returns-then-directives-ge-MAX_DIRECTIVES-clause-parses n c = kept-refusal c.refused-then-directives-ge-MAX_DIRECTIVES.ensures.refusal (too-deep {xs = expr at Dropped ∷ the EndSequence at Dropped ∷ inside InIf at Dropped ∷ []} (looks _ _ _ _ _ c.look.ensures.left c.in-Some.ensures.found refl) (search rules) (omega arith))
+directive-returns-then-directives-ge-MAX_DIRECTIVES-clause-parses n c = kept-refusal c.keep_refusal-then-directives-ge-MAX_DIRECTIVES.ensures.refusal (too-deep {xs = expr at Dropped ∷ the EndSequence at Dropped ∷ inside InIf at Dropped ∷ []} (looks _ _ _ _ _ c.look.ensures.left c.in-Some.ensures.found refl) (search rules) (omega arith))
 
 pub directive-returns-then-directives-ge-MAX_DIRECTIVES-2-clause-parses : goal.directive-returns-then-directives-ge-MAX_DIRECTIVES-2-clause-parses
-directive-returns-then-directives-ge-MAX_DIRECTIVES-2-clause-parses n c = kept-refusal c.refused-then-directives-ge-MAX_DIRECTIVES-2.ensures.refusal (too-deep {xs = the Name at Dropped ∷ names at Dropped ∷ expr at Dropped ∷ the EndSequence at Dropped ∷ inside InFor at Dropped ∷ []} (looks _ _ _ _ _ c.look.ensures.left c.in-Some.ensures.found refl) (search rules) (omega arith))
+directive-returns-then-directives-ge-MAX_DIRECTIVES-2-clause-parses n c = kept-refusal c.keep_refusal-then-directives-ge-MAX_DIRECTIVES-2.ensures.refusal (too-deep {xs = the Name at Dropped ∷ names at Dropped ∷ expr at Dropped ∷ the EndSequence at Dropped ∷ inside InFor at Dropped ∷ []} (looks _ _ _ _ _ c.look.ensures.left c.in-Some.ensures.found refl) (search rules) (omega arith))
 
 pub directive-returns-in_err-sequence-in-If-clause-parses : goal.directive-returns-in_err-sequence-in-If-clause-parses
 directive-returns-in_err-sequence-in-If-clause-parses n c = opening-row {p = c.args.number} (looks _ _ _ _ _ c.look.ensures.left c.in-Some.ensures.found c.bump.ensures.left) (search rules) (omega arith)
@@ -257,7 +257,7 @@ directive-returns-in_ok-sequence-in-If-clause-parses n c = opening-row {p = c.ar
     (end-onward (beside (inside InIf at Dropped ∷ []) c.in_ok-sequence-in-If.ensures.parses) c.section.ensures.ends)
 
 pub section-returns-in_default-clause-ends : goal.section-returns-in_default-clause-ends
-section-returns-in_default-clause-ends n c = end-kept-refusal c.refused.ensures.refusal (end-fails {A = Unit {0}} {ys = []} {mid = c.look.new.self.left} (onward c.loop-token.invariant.leads (refusing-end c.look.ensures.left c.in_default.ensures.found refl)))
+section-returns-in_default-clause-ends n c = end-kept-refusal c.keep_refusal.ensures.refusal (end-fails {A = Unit {0}} {ys = []} {mid = c.look.new.self.left} (onward c.loop-token.invariant.leads (refusing-end c.look.ensures.left c.in_default.ensures.found refl)))
 
 pub section-loop-token-preserved-in-Lit : goal.section-loop-token-preserved-in-Lit
 section-loop-token-preserved-in-Lit n c = record {
@@ -275,29 +275,29 @@ section-loop-token-preserved-in-Continue-1 n c = record {
 }
 
 pub section-returns-in_default-look-clause-ends : goal.section-returns-in_default-look-clause-ends
-section-returns-in_default-look-clause-ends n c = end-kept-refusal c.refused-in_default-look.ensures.refusal (end-fails {A = Unit {0}} {ys = []} {mid = c.look-in-ControlOpen.new.self.left} (onward c.loop-token.invariant.leads (reading {xs = section_directive c.loop-token.section c.in-Some.token.number at Dropped ∷ []} (looks _ _ _ _ _ c.look.ensures.left c.in-Some.ensures.found c.bump-in-ControlOpen.ensures.left) (search rules) (refusing-end c.look-in-ControlOpen.ensures.left c.in_default-look.ensures.found refl))))
+section-returns-in_default-look-clause-ends n c = end-kept-refusal c.keep_refusal-in_default-look.ensures.refusal (end-fails {A = Unit {0}} {ys = []} {mid = c.look-in-ControlOpen.new.self.left} (onward c.loop-token.invariant.leads (reading {xs = section_directive c.loop-token.section c.in-Some.token.number at Dropped ∷ []} (looks _ _ _ _ _ c.look.ensures.left c.in-Some.ensures.found c.bump-in-ControlOpen.ensures.left) (search rules) (refusing-end c.look-in-ControlOpen.ensures.left c.in_default-look.ensures.found refl))))
 
 pub section-returns-in_default-class : goal.section-returns-in_default-class
-section-returns-in_default-class n c = record { ends = end-kept-refusal c.refused-in_default-class.ensures.refusal (end-fails {A = Unit {0}} {ys = []} {mid = c.look.new.self.left} (onward c.loop-token.invariant.leads (refusing (looks _ _ _ _ _ c.look.ensures.left c.in-Some.ensures.found refl) (search rules)))); shorter = tt }
+section-returns-in_default-class n c = record { ends = end-kept-refusal c.keep_refusal-in_default-class.ensures.refusal (end-fails {A = Unit {0}} {ys = []} {mid = c.look.new.self.left} (onward c.loop-token.invariant.leads (refusing (looks _ _ _ _ _ c.look.ensures.left c.in-Some.ensures.found refl) (search rules)))); shorter = tt }
 
 pub section-returns-in_err-expect-in-Onward-clause-ends : goal.section-returns-in_err-expect-in-Onward-clause-ends
-section-returns-in_err-expect-in-Onward-clause-ends n c = end-quits _ c.from_residual-in_err-expect-in-Onward.ensures.1 (onward c.loop-token.invariant.leads (reading {xs = section_directive c.loop-token.section c.in-Some.token.number at Dropped ∷ []} (looks _ _ _ _ _ c.look.ensures.left c.in-Some.ensures.found c.bump-in-ControlOpen.ensures.left) (search rules) (reading (looks _ _ _ _ _ c.look-in-ControlOpen.ensures.left c.in-Some-look.ensures.found c.bump-in-Onward.ensures.left) (turning-onward c.loop-token.section Dropped c.in-Some.token.number _ _ _ c.turning.ensures c.in-Onward.is) (beside (inside InElse at Dropped ∷ []) (c.in_err-expect-in-Onward.ensures.parses _)))))
+section-returns-in_err-expect-in-Onward-clause-ends n c = end-quits _ c.from_residual-in_err-expect-in-Onward.ensures.1 (onward c.loop-token.invariant.leads (reading {xs = section_directive c.loop-token.section c.in-Some.token.number at Dropped ∷ []} (looks _ _ _ _ _ c.look.ensures.left c.in-Some.ensures.found c.bump-in-ControlOpen.ensures.left) (search rules) (reading (looks _ _ _ _ _ c.look-in-ControlOpen.ensures.left c.in-Some-look.ensures.found c.bump-in-Onward.ensures.left) (effect_of_word-onward c.loop-token.section Dropped c.in-Some.token.number _ _ _ c.effect_of_word.ensures c.in-Onward.is) (beside (inside InElse at Dropped ∷ []) (c.in_err-expect-in-Onward.ensures.parses _)))))
 
 pub section-loop-token-preserved-in-Onward : goal.section-loop-token-preserved-in-Onward
 section-loop-token-preserved-in-Onward n c = record {
-  leads = onward c.loop-token.invariant.leads (reading {xs = section_directive c.loop-token.section c.in-Some.token.number at Dropped ∷ []} (looks _ _ _ _ _ c.look.ensures.left c.in-Some.ensures.found c.bump-in-ControlOpen.ensures.left) (search rules) (reading (looks _ _ _ _ _ c.look-in-ControlOpen.ensures.left c.in-Some-look.ensures.found c.bump-in-Onward.ensures.left) (turning-onward c.loop-token.section Dropped c.in-Some.token.number _ _ _ c.turning.ensures c.in-Onward.is) (beside (inside InElse at Dropped ∷ []) (c.in_ok-expect-in-Onward.ensures.parses _))));
+  leads = onward c.loop-token.invariant.leads (reading {xs = section_directive c.loop-token.section c.in-Some.token.number at Dropped ∷ []} (looks _ _ _ _ _ c.look.ensures.left c.in-Some.ensures.found c.bump-in-ControlOpen.ensures.left) (search rules) (reading (looks _ _ _ _ _ c.look-in-ControlOpen.ensures.left c.in-Some-look.ensures.found c.bump-in-Onward.ensures.left) (effect_of_word-onward c.loop-token.section Dropped c.in-Some.token.number _ _ _ c.effect_of_word.ensures c.in-Onward.is) (beside (inside InElse at Dropped ∷ []) (c.in_ok-expect-in-Onward.ensures.parses _))));
   shorter = omega (arith, c.in_ok-expect-in-Onward.ensures.shorter);
 }
 
 pub section-returns-in-Closing-clause-ends : goal.section-returns-in-Closing-clause-ends
-section-returns-in-Closing-clause-ends n c = end-onward (onward c.loop-token.invariant.leads (reading {xs = section_directive c.loop-token.section c.in-Some.token.number at Dropped ∷ []} (looks _ _ _ _ _ c.look.ensures.left c.in-Some.ensures.found c.bump-in-ControlOpen.ensures.left) (search rules) (done {a = tt {0}}))) (closing (looks _ _ _ _ _ c.look-in-ControlOpen.ensures.left c.in-Some-look.ensures.found c.bump-in-Closing.ensures.left) (turning-closing c.loop-token.section Dropped c.in-Some.token.number _ _ _ c.turning.ensures c.in-Closing.is) (c.expect-in-Closing.ensures.parses _))
+section-returns-in-Closing-clause-ends n c = end-onward (onward c.loop-token.invariant.leads (reading {xs = section_directive c.loop-token.section c.in-Some.token.number at Dropped ∷ []} (looks _ _ _ _ _ c.look.ensures.left c.in-Some.ensures.found c.bump-in-ControlOpen.ensures.left) (search rules) (done {a = tt {0}}))) (closing (looks _ _ _ _ _ c.look-in-ControlOpen.ensures.left c.in-Some-look.ensures.found c.bump-in-Closing.ensures.left) (effect_of_word-closing c.loop-token.section Dropped c.in-Some.token.number _ _ _ c.effect_of_word.ensures c.in-Closing.is) (c.expect-in-Closing.ensures.parses _))
 
 pub section-returns-in_err-directive-in-Inner-clause-ends : goal.section-returns-in_err-directive-in-Inner-clause-ends
-section-returns-in_err-directive-in-Inner-clause-ends n c = end-quits _ c.from_residual-in_err-directive-in-Inner.ensures.1 (onward c.loop-token.invariant.leads (reading {xs = section_directive c.loop-token.section c.in-Some.token.number at Dropped ∷ []} (looks _ _ _ _ _ c.look.ensures.left c.in-Some.ensures.found c.bump-in-ControlOpen.ensures.left) (search rules) (begins {s' = directive c.in-Some.token.number} refl refl (directive-stays c.in-Some.token.number Dropped) (λ t e. turning-inner c.loop-token.section Dropped c.in-Some.token.number _ t.class _ (c.turning.ensures ∙ ap (λ x. turning c.loop-token.section x.class) (same-token _ _ _ c.in-Some-look.ensures.found e)) c.in-Inner.is) c.look-in-ControlOpen.ensures.left (beside (inside c.loop-token.section at Dropped ∷ []) c.in_err-directive-in-Inner.ensures.parses))))
+section-returns-in_err-directive-in-Inner-clause-ends n c = end-quits _ c.from_residual-in_err-directive-in-Inner.ensures.1 (onward c.loop-token.invariant.leads (reading {xs = section_directive c.loop-token.section c.in-Some.token.number at Dropped ∷ []} (looks _ _ _ _ _ c.look.ensures.left c.in-Some.ensures.found c.bump-in-ControlOpen.ensures.left) (search rules) (begins {s' = directive c.in-Some.token.number} refl refl (directive-stays c.in-Some.token.number Dropped) (λ t e. effect_of_word-inner c.loop-token.section Dropped c.in-Some.token.number _ t.class _ (c.effect_of_word.ensures ∙ ap (λ x. effect_of_word c.loop-token.section x.class) (same-token _ _ _ c.in-Some-look.ensures.found e)) c.in-Inner.is) c.look-in-ControlOpen.ensures.left (beside (inside c.loop-token.section at Dropped ∷ []) c.in_err-directive-in-Inner.ensures.parses))))
 
 pub section-loop-token-preserved : goal.section-loop-token-preserved
 section-loop-token-preserved n c = record {
-  leads = onward c.loop-token.invariant.leads (reading {xs = section_directive c.loop-token.section c.in-Some.token.number at Dropped ∷ []} (looks _ _ _ _ _ c.look.ensures.left c.in-Some.ensures.found c.bump-in-ControlOpen.ensures.left) (search rules) (begins {s' = directive c.in-Some.token.number} refl refl (directive-stays c.in-Some.token.number Dropped) (λ t e. turning-inner c.loop-token.section Dropped c.in-Some.token.number _ t.class _ (c.turning.ensures ∙ ap (λ x. turning c.loop-token.section x.class) (same-token _ _ _ c.in-Some-look.ensures.found e)) c.in-Inner.is) c.look-in-ControlOpen.ensures.left (beside (inside c.loop-token.section at Dropped ∷ []) c.in_ok-directive-in-Inner.ensures.parses)));
+  leads = onward c.loop-token.invariant.leads (reading {xs = section_directive c.loop-token.section c.in-Some.token.number at Dropped ∷ []} (looks _ _ _ _ _ c.look.ensures.left c.in-Some.ensures.found c.bump-in-ControlOpen.ensures.left) (search rules) (begins {s' = directive c.in-Some.token.number} refl refl (directive-stays c.in-Some.token.number Dropped) (λ t e. effect_of_word-inner c.loop-token.section Dropped c.in-Some.token.number _ t.class _ (c.effect_of_word.ensures ∙ ap (λ x. effect_of_word c.loop-token.section x.class) (same-token _ _ _ c.in-Some-look.ensures.found e)) c.in-Inner.is) c.look-in-ControlOpen.ensures.left (beside (inside c.loop-token.section at Dropped ∷ []) c.in_ok-directive-in-Inner.ensures.parses)));
   shorter = omega (arith, c.in_ok-directive-in-Inner.ensures.shorter);
 }
 
@@ -378,7 +378,7 @@ pub entries-returns-in_err-entry-clause-parses : goal.entries-returns-in_err-ent
 entries-returns-in_err-entry-clause-parses n c = quits _ c.from_residual.ensures.1 (onward c.loop-directives.invariant.leads (past-begins item-passes refl (λ t e k. item-else _ _ (c.if-takes.ensures.no.unfit t e) k) c.if-takes.ensures.no.shows (beside (object_next at Seen ∷ []) c.in_err-entry.ensures.parses)))
 
 pub entries-returns-in_default-clause-parses : goal.entries-returns-in_default-clause-parses
-entries-returns-in_default-clause-parses n c = kept-refusal-end c.refused.ensures.refusal (onward c.loop-directives.invariant.leads (past-begins item-passes refl (λ t e k. item-else _ _ (c.if-takes.ensures.no.unfit t e) k) c.if-takes.ensures.no.shows (onward (beside (object_next at Seen ∷ []) c.in_ok-entry.ensures.parses) (refusing-end c.look.ensures.left c.in_default.ensures.found refl))))
+entries-returns-in_default-clause-parses n c = kept-refusal-end c.keep_refusal.ensures.refusal (onward c.loop-directives.invariant.leads (past-begins item-passes refl (λ t e k. item-else _ _ (c.if-takes.ensures.no.unfit t e) k) c.if-takes.ensures.no.shows (onward (beside (object_next at Seen ∷ []) c.in_ok-entry.ensures.parses) (refusing-end c.look.ensures.left c.in_default.ensures.found refl))))
 
 pub entries-loop-directives-preserved : goal.entries-loop-directives-preserved
 entries-loop-directives-preserved n c = record {
@@ -391,7 +391,7 @@ entries-returns-in-BraceClose-clause-parses n c = onward c.loop-directives.invar
 
 pub entries-returns-in_default-class : goal.entries-returns-in_default-class
 entries-returns-in_default-class n c = record {
-  parses = kept-refusal c.refused-in_default-class.ensures.refusal (onward c.loop-directives.invariant.leads (past-begins item-passes refl (λ t e k. item-else _ _ (c.if-takes.ensures.no.unfit t e) k) c.if-takes.ensures.no.shows (onward (beside (object_next at Seen ∷ []) c.in_ok-entry.ensures.parses) (refusing (looks _ _ _ _ _ c.look.ensures.left c.in-Some.ensures.found refl) (search rules)))));
+  parses = kept-refusal c.keep_refusal-in_default-class.ensures.refusal (onward c.loop-directives.invariant.leads (past-begins item-passes refl (λ t e k. item-else _ _ (c.if-takes.ensures.no.unfit t e) k) c.if-takes.ensures.no.shows (onward (beside (object_next at Seen ∷ []) c.in_ok-entry.ensures.parses) (refusing (looks _ _ _ _ _ c.look.ensures.left c.in-Some.ensures.found refl) (search rules)))));
   shorter = tt;
 }
 
@@ -414,4 +414,4 @@ pub object_for-returns-in_err-expr-clause-parses : goal.object_for-returns-in_er
 object_for-returns-in_err-expr-clause-parses n c = quits _ c.from_residual-in_err-expr.ensures.1 (onward (beside (the FatArrow at Dropped ∷ expr at Dropped ∷ group at Dropped ∷ []) c.in_ok-generator.ensures.parses) (onward (beside (expr at Dropped ∷ group at Dropped ∷ []) (c.in_ok-expect.ensures.parses _)) (beside (group at Dropped ∷ []) c.in_err-expr.ensures.parses)))
 
 pub object_for-returns-clause-parses : goal.object_for-returns-clause-parses
-object_for-returns-clause-parses n c = onward (beside (the FatArrow at Dropped ∷ expr at Dropped ∷ group at Dropped ∷ []) c.in_ok-generator.ensures.parses) (onward (beside (expr at Dropped ∷ group at Dropped ∷ []) (c.in_ok-expect.ensures.parses _)) (onward (beside (group at Dropped ∷ []) c.in_ok-expr.ensures.parses) (onward (c.grouping.ensures.leads _) c.object_condition.ensures.parses)))
+object_for-returns-clause-parses n c = onward (beside (the FatArrow at Dropped ∷ expr at Dropped ∷ group at Dropped ∷ []) c.in_ok-generator.ensures.parses) (onward (beside (expr at Dropped ∷ group at Dropped ∷ []) (c.in_ok-expect.ensures.parses _)) (onward (beside (group at Dropped ∷ []) c.in_ok-expr.ensures.parses) (onward (c.group_ellipsis.ensures.leads _) c.object_condition.ensures.parses)))

@@ -1,6 +1,6 @@
 use Rattle.std.proofs.Common.{◌+◌, ◌<◌, ◌≤◌, ◌^◌, [], ◌∷◌, length, Ok, ◌*◌}
 use Rattle.hcl_grammar.specs.Grammar.{◌at◌, expr, after, args, tuple_item, object_item, parts, inside}
-use Rattle.hcl_syntax.specs.Inner.Parsing.{Advances, waits}
+use Rattle.hcl_syntax.specs.Inner.Parsing.{Advances, pending_choices}
 use Rattle.hcl_grammar.specs.declared.expected.Newlines.TheVariants.{Seen, Dropped}
 use Rattle.hcl_syntax.proofs.cursor.Cursor.+parser.Given as goal
 
@@ -60,7 +60,7 @@ decreases-args-loop-directives l = length l.self.left
 
 abbrev pub invariant-whole_expr-loop-self : goal.invariant-whole_expr-loop-self
 invariant-whole_expr-loop-self l = record {
-  leads : Advances l.directives (expr at l.newlines ∷ []) l.fn.self.left (Ok (tt {0})) (expr at l.newlines ∷ waits l.newlines l.waiting []) l.self.left;
+  leads : Advances l.directives (expr at l.newlines ∷ []) l.fn.self.left (Ok (tt {0})) (expr at l.newlines ∷ pending_choices l.newlines l.waiting []) l.self.left;
   shorter : length l.self.left ≤ length l.fn.self.left;
   room : l.waiting + length l.self.left < 2 ^ 64;
 }

@@ -3,7 +3,7 @@ use Rattle.hcl_syntax.proofs.CursorStepLemmas.{looks, reading, refusing, refusin
 use Rattle.hcl_syntax.proofs.cursor.Cursor.block.Goals as goal
 
 pub returns-in_default-clause-leads : goal.returns-in_default-clause-leads
-returns-in_default-clause-leads c = kept-refusal-end c.refused.ensures.refusal (refusing-end c.look.ensures.left c.in_default.ensures.found refl)
+returns-in_default-clause-leads c = kept-refusal-end c.keep_refusal.ensures.refusal (refusing-end c.look.ensures.left c.in_default.ensures.found refl)
 
 pub returns-in-Newline-clause-leads : goal.returns-in-Newline-clause-leads
 returns-in-Newline-clause-leads c = reading (looks _ _ _ _ _ c.look.ensures.left c.in-Some.ensures.found c.bump.ensures.left) (search rules) (done)
@@ -21,4 +21,4 @@ pub returns-in_ok-end_of_line-in-BraceClose-clause-leads : goal.returns-in_ok-en
 returns-in_ok-end_of_line-in-BraceClose-clause-leads c = reading (looks _ _ _ _ _ c.look.ensures.left c.in-Some.ensures.found c.bump-in-BraceClose.ensures.left) (search rules) (onward c.in_ok-end_of_line-in-BraceClose.ensures.parses done)
 
 pub returns-in_default-class : goal.returns-in_default-class
-returns-in_default-class c = record { leads = kept-refusal c.refused-in_default-class.ensures.refusal (refusing (looks _ _ _ _ _ c.look.ensures.left c.in-Some.ensures.found refl) (search rules)); shorter = tt }
+returns-in_default-class c = record { leads = kept-refusal c.keep_refusal-in_default-class.ensures.refusal (refusing (looks _ _ _ _ _ c.look.ensures.left c.in-Some.ensures.found refl) (search rules)); shorter = tt }

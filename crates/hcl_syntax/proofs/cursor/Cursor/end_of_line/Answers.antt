@@ -9,4 +9,4 @@ pub returns-in-Newline-clause-parses : goal.returns-in-Newline-clause-parses
 returns-in-Newline-clause-parses c = reading (looks _ _ _ _ _ c.look.ensures.left c.in-Some.ensures.found c.bump.ensures.left) (search rules) (done)
 
 pub returns-in_default-class : goal.returns-in_default-class
-returns-in_default-class c = record { parses = kept-refusal c.refused.ensures.refusal (refusing (looks _ _ _ _ _ c.look.ensures.left c.in-Some.ensures.found refl) (search rules)); shorter = tt }
+returns-in_default-class c = record { parses = kept-refusal c.keep_refusal.ensures.refusal (refusing (looks _ _ _ _ _ c.look.ensures.left c.in-Some.ensures.found refl) (search rules)); shorter = tt }

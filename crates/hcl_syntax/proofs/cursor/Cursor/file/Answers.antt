@@ -32,16 +32,16 @@ loop-token-preserved-else-branch c = record {
 }
 
 pub returns-else-levels-eq0 : goal.returns-else-levels-eq0
-returns-else-levels-eq0 c = whole-fault (kept-refusal c.refused.ensures.refusal (onward c.loop-token.invariant.leads (bodies-end {A = Unit {0}} c.loop-token.levels {ys = []} c.if-levels-eq0.false c.look.ensures.left c.in_default.ensures.found)))
+returns-else-levels-eq0 c = whole-fault (kept-refusal c.keep_refusal.ensures.refusal (onward c.loop-token.invariant.leads (bodies-end {A = Unit {0}} c.loop-token.levels {ys = []} c.if-levels-eq0.false c.look.ensures.left c.in_default.ensures.found)))
 
 pub returns-then-levels-eq0 : goal.returns-then-levels-eq0
 returns-then-levels-eq0 c = whole (onward c.loop-token.invariant.leads (bodies-done {a = tt {0}} c.loop-token.levels c.if-levels-eq0.true c.look.ensures.left c.in_default.ensures.found)) c.in_default.ensures.found
 
 pub returns-then-levels-eq0-2 : goal.returns-then-levels-eq0-2
-returns-then-levels-eq0-2 c = whole-fault {new = c.look.new.self.left} (kept-refusal c.refused-then-levels-eq0-2.ensures.refusal (onward c.loop-token.invariant.leads (refuse-close {A = Unit {0}} c.loop-token.levels {ys = []} {new = c.look.new.self.left} c.if-levels-eq0-2.true (looks _ _ _ _ _ c.look.ensures.left c.in-Some.ensures.found refl) c.in-BraceClose.is)))
+returns-then-levels-eq0-2 c = whole-fault {new = c.look.new.self.left} (kept-refusal c.keep_refusal-then-levels-eq0-2.ensures.refusal (onward c.loop-token.invariant.leads (refuse-close {A = Unit {0}} c.loop-token.levels {ys = []} {new = c.look.new.self.left} c.if-levels-eq0-2.true (looks _ _ _ _ _ c.look.ensures.left c.in-Some.ensures.found refl) c.in-BraceClose.is)))
 
 pub returns-in_default-class : goal.returns-in_default-class
-returns-in_default-class c = whole-fault (kept-refusal c.refused-in_default-class.ensures.refusal (onward c.loop-token.invariant.leads (bodies-refuse {A = Unit {0}} c.loop-token.levels {ys = []} {new = c.look.new.self.left} (looks _ _ _ _ _ c.look.ensures.left c.in-Some.ensures.found refl) (search rules) (search rules))))
+returns-in_default-class c = whole-fault (kept-refusal c.keep_refusal-in_default-class.ensures.refusal (onward c.loop-token.invariant.leads (bodies-refuse {A = Unit {0}} c.loop-token.levels {ys = []} {new = c.look.new.self.left} (looks _ _ _ _ _ c.look.ensures.left c.in-Some.ensures.found refl) (search rules) (search rules))))
 
 pub returns-in_err-end_of_line-in-BraceClose : goal.returns-in_err-end_of_line-in-BraceClose
 returns-in_err-end_of_line-in-BraceClose c = whole-quits _ c.from_residual-in_err-end_of_line-in-BraceClose.ensures.1 (onward c.loop-token.invariant.leads (onward (bodies-close {a = tt {0}} c.loop-token.levels c.if-levels-eq0-2.false (looks _ _ _ _ _ c.look.ensures.left c.in-Some.ensures.found c.bump-in-BraceClose.ensures.left) c.in-BraceClose.is) (beside (bodies (c.loop-token.levels - 1)) c.in_err-end_of_line-in-BraceClose.ensures.parses)))

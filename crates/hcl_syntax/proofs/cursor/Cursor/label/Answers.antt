@@ -7,7 +7,7 @@ use Rattle.hcl_syntax.proofs.CursorStepLemmas.{looks, reading, vanishing, refusi
 use Rattle.hcl_syntax.proofs.cursor.Cursor.label.Goals as goal
 
 pub returns-in_default-clause-parses : goal.returns-in_default-clause-parses
-returns-in_default-clause-parses c = kept-refusal c.refused.ensures.refusal (failed (beside (the EndQuote at Seen ∷ []) (refusing-end {A = Unit {0}} {ys = []} {new = c.look.new.self.left} c.look.ensures.left c.in_default.ensures.found refl)))
+returns-in_default-clause-parses c = kept-refusal c.keep_refusal.ensures.refusal (failed (beside (the EndQuote at Seen ∷ []) (refusing-end {A = Unit {0}} {ys = []} {new = c.look.new.self.left} c.look.ensures.left c.in_default.ensures.found refl)))
 
 pub returns-in-Lit-clause-parses : goal.returns-in-Lit-clause-parses
 returns-in-Lit-clause-parses c = onward (beside {ys = []} (the EndQuote at Seen ∷ []) (reading (looks _ _ _ _ _ c.look.ensures.left c.in-Some.ensures.found c.bump.ensures.left) (search rules) (done {a = tt {0}}))) (c.expect.ensures.parses _)
@@ -16,4 +16,4 @@ pub returns-in-QuoteClose-clause-parses : goal.returns-in-QuoteClose-clause-pars
 returns-in-QuoteClose-clause-parses c = onward (beside (the EndQuote at Seen ∷ []) (vanishing {a = tt {0}} (looks _ _ _ _ _ c.look.ensures.left c.in-Some.ensures.found refl) (search rules) c.look.ensures.left)) (reading (looks _ _ _ _ _ (shown-again Seen c.args.self.now.left c.look.new.self.left c.look.ensures.left) c.in-Some.ensures.found c.bump-in-QuoteClose.ensures.left) (search rules) done)
 
 pub returns-in_default-class : goal.returns-in_default-class
-returns-in_default-class c = record { parses = kept-refusal c.refused-in_default-class.ensures.refusal (failed (beside (the EndQuote at Seen ∷ []) (refusing {A = Unit {0}} {ys = []} {new = c.look.new.self.left} (looks _ _ _ _ _ c.look.ensures.left c.in-Some.ensures.found refl) (search rules)))); shorter = tt }
+returns-in_default-class c = record { parses = kept-refusal c.keep_refusal-in_default-class.ensures.refusal (failed (beside (the EndQuote at Seen ∷ []) (refusing {A = Unit {0}} {ys = []} {new = c.look.new.self.left} (looks _ _ _ _ _ c.look.ensures.left c.in-Some.ensures.found refl) (search rules)))); shorter = tt }

@@ -5,7 +5,7 @@ use Rattle.hcl_syntax.proofs.CursorStepLemmas.{looks, reading, refusing, refusin
 use Rattle.hcl_syntax.proofs.cursor.Cursor.labels.Goals as goal
 
 pub returns-in_default-clause-leads : goal.returns-in_default-clause-leads
-returns-in_default-clause-leads c = kept-refusal-end c.refused.ensures.refusal (onward c.loop-token.invariant.leads (refusing-end c.look.ensures.left c.in_default.ensures.found refl))
+returns-in_default-clause-leads c = kept-refusal-end c.keep_refusal.ensures.refusal (onward c.loop-token.invariant.leads (refusing-end c.look.ensures.left c.in_default.ensures.found refl))
 
 pub loop-token-preserved-in-Ident : goal.loop-token-preserved-in-Ident
 loop-token-preserved-in-Ident c = record { leads = onward c.loop-token.invariant.leads (reading (looks _ _ _ _ _ c.look.ensures.left c.in-Some.ensures.found c.bump.ensures.left) (search rules) (done)); shorter = omega arith }
@@ -20,4 +20,4 @@ pub returns-in-BraceOpen-clause-leads : goal.returns-in-BraceOpen-clause-leads
 returns-in-BraceOpen-clause-leads c = onward c.loop-token.invariant.leads (reading (looks _ _ _ _ _ c.look.ensures.left c.in-Some.ensures.found c.bump-in-BraceOpen.ensures.left) (search rules) (done))
 
 pub returns-in_default-class : goal.returns-in_default-class
-returns-in_default-class c = record { leads = kept-refusal c.refused-in_default-class.ensures.refusal (onward c.loop-token.invariant.leads (refusing (looks _ _ _ _ _ c.look.ensures.left c.in-Some.ensures.found refl) (search rules))); shorter = tt }
+returns-in_default-class c = record { leads = kept-refusal c.keep_refusal-in_default-class.ensures.refusal (onward c.loop-token.invariant.leads (refusing (looks _ _ _ _ _ c.look.ensures.left c.in-Some.ensures.found refl) (search rules))); shorter = tt }

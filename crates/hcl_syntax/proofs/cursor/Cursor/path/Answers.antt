@@ -7,7 +7,7 @@ pub returns-in_err-expect-clause-leads : goal.returns-in_err-expect-clause-leads
 returns-in_err-expect-clause-leads c = λ count. quits _ c.from_residual.ensures.1 (onward (c.loop-self.invariant.leads count) (beside (path at c.args.newlines ∷ []) (c.in_err-expect.ensures.parses count)))
 
 pub returns-in_default-clause-leads : goal.returns-in_default-clause-leads
-returns-in_default-clause-leads c = λ count. kept-refusal-end c.refused.ensures.refusal (onward (c.loop-self.invariant.leads count) (onward (beside (path at c.args.newlines ∷ []) (c.in_ok-expect.ensures.parses count)) (refusing-end c.look.ensures.left c.in_default.ensures.found refl)))
+returns-in_default-clause-leads c = λ count. kept-refusal-end c.keep_refusal.ensures.refusal (onward (c.loop-self.invariant.leads count) (onward (beside (path at c.args.newlines ∷ []) (c.in_ok-expect.ensures.parses count)) (refusing-end c.look.ensures.left c.in_default.ensures.found refl)))
 
 pub loop-self-preserved : goal.loop-self-preserved
 loop-self-preserved c = record {
@@ -20,6 +20,6 @@ returns-in-ParenOpen-clause-leads c = λ count. onward (c.loop-self.invariant.le
 
 pub returns-in_default-class : goal.returns-in_default-class
 returns-in_default-class c = record {
-  leads = λ count. kept-refusal c.refused-in_default-class.ensures.refusal (onward (c.loop-self.invariant.leads count) (onward (beside (path at c.args.newlines ∷ []) (c.in_ok-expect.ensures.parses count)) (refusing (looks _ _ _ _ _ c.look.ensures.left c.in-Some.ensures.found refl) (search rules))));
+  leads = λ count. kept-refusal c.keep_refusal-in_default-class.ensures.refusal (onward (c.loop-self.invariant.leads count) (onward (beside (path at c.args.newlines ∷ []) (c.in_ok-expect.ensures.parses count)) (refusing (looks _ _ _ _ _ c.look.ensures.left c.in-Some.ensures.found refl) (search rules))));
   shorter = tt;
 }

@@ -1,6 +1,6 @@
 use Rattle.std.proofs.Common.{refl}
 use Rattle.hcl_syntax.proofs.CursorStepLemmas.{reading, done, alike, group-dots, group-plain}
-use Rattle.hcl_syntax.proofs.cursor.Cursor.grouping.Goals as goal
+use Rattle.hcl_syntax.proofs.cursor.Cursor.group_ellipsis.Goals as goal
 
 pub returns-then-takes-clause-leads : goal.returns-then-takes-clause-leads
 returns-then-takes-clause-leads c = λ count. reading c.if-takes.ensures.yes.looks (group-dots _ _ c.if-takes.ensures.yes.fits) done
