@@ -7,7 +7,7 @@ use Rattle.hcl_tokens.specs.declared.token.Kind.TheVariants.{Assign, BraceClose,
 use Rattle.hcl_tokens.specs.Lexemes.{Lexeme}
 use Rattle.hcl_tokens.specs.declared.token.Kind.{Kind}
 use Rattle.hcl_grammar.specs.Numbered.{Numbered, numbered, numbered_from, without_comments, is_comment, end_of}
-use Rattle.hcl_grammar.specs.Items.{deepen, is_closed, onto, pieces, after_brace, block_end, body, block, item_of, items, label_at, labels, outline, closing_quote}
+use Rattle.hcl_grammar.specs.Items.{deepen, is_closed, onto, segments, after_brace, block_end, body, block, item_of, items, label_at, labels, outline, closing_quote}
 use Rattle.hcl_grammar.specs.ItemOrder.{Climbs, Spans, lead, past}
 use Rattle.hcl_grammar.specs.declared.item.Item.{Item}
 use Rattle.hcl_grammar.specs.declared.item.Item.TheVariants as item
@@ -90,13 +90,13 @@ all_from : (from later to : ℕ) (ps : List (List Numbered)) → from ≤ later 
 all_from from later to [] h r = omega (arith, h, r)
 all_from from later to (p ∷ ps) h r = (r.0, rises_from from later r.0 p h r.1, r.2)
 
-pub pieces_rise : (depth from to : ℕ) (ts : List Numbered) → Rises from ts to → AllRise from (pieces depth ts) to
+pub pieces_rise : (depth from to : ℕ) (ts : List Numbered) → Rises from ts to → AllRise from (segments depth ts) to
 pieces_rise depth from to [] h = (to, h, omega arith)
 pieces_rise depth from to (t ∷ ts) h = by (is Newline t.kind && is_closed depth) (pieces_rise (deepen depth t.kind) (t.number + 1) to ts h.1)
   where
-    by : (b : Bool) → AllRise (t.number + 1) (pieces (deepen depth t.kind) ts) to → AllRise from (cond b ([] ∷ pieces (deepen depth t.kind) ts) (onto t (pieces (deepen depth t.kind) ts))) to
-    by true r = (from, omega arith, all_from from (t.number + 1) to (pieces (deepen depth t.kind) ts) (omega (arith, h.0)) r)
-    by false r = rises_onto from t (pieces (deepen depth t.kind) ts) to h.0 r
+    by : (b : Bool) → AllRise (t.number + 1) (segments (deepen depth t.kind) ts) to → AllRise from (cond b ([] ∷ segments (deepen depth t.kind) ts) (onto t (segments (deepen depth t.kind) ts))) to
+    by true r = (from, omega arith, all_from from (t.number + 1) to (segments (deepen depth t.kind) ts) (omega (arith, h.0)) r)
+    by false r = rises_onto from t (segments (deepen depth t.kind) ts) to h.0 r
 
 pub end_within : (from to : ℕ) (ts : List Numbered) → Rises from ts to → end_of ts ≤ to
 end_within from to [] h = omega arith
@@ -154,7 +154,7 @@ module _ (inner : List Numbered → List Item) (climb : Climbing inner) (level :
 
 pub items_climb : (n level : ℕ) → Climbing (items n level)
 items_climb zero level from to ts h = rises_wide from to ts h
-items_climb (suc n) level from to ts h = all_climb (items n (level + 1)) (items_climb n (level + 1)) level from to (pieces 0 ts) (pieces_rise 0 from to ts h)
+items_climb (suc n) level from to ts h = all_climb (items n (level + 1)) (items_climb n (level + 1)) level from to (segments 0 ts) (pieces_rise 0 from to ts h)
 
 -- THE LAW
 pub outline_climbs : (tokens : List Lexeme) → Climbs 0 (outline tokens) (length tokens)

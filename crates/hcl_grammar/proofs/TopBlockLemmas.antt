@@ -7,7 +7,7 @@ use Rattle.hcl_tokens.specs.declared.token.Kind.TheVariants.{Assign, BraceClose,
 use Rattle.hcl_tokens.specs.Lexemes.{Lexeme}
 use Rattle.hcl_tokens.specs.declared.token.Kind.{Kind}
 use Rattle.hcl_grammar.specs.Numbered.{Numbered, numbered, without_comments, is_comment, end_of}
-use Rattle.hcl_grammar.specs.Items.{is_closed, pieces, block_end, body, block, item_of, items, label_at, labels, outline, closing_quote}
+use Rattle.hcl_grammar.specs.Items.{is_closed, segments, block_end, body, block, item_of, items, label_at, labels, outline, closing_quote}
 use Rattle.hcl_grammar.specs.ItemOrder.{TopsApart}
 use Rattle.hcl_grammar.specs.declared.item.Item.{Item}
 use Rattle.hcl_grammar.specs.declared.item.Item.TheVariants as item
@@ -118,11 +118,11 @@ one_deeper level = let s : level + 1 ≡ suc level = omega arith in ap is_closed
 
 items_deep : (n level : ℕ) → is_closed level ≡ false → AllDeep (items n level)
 items_deep zero level below ts m = omega arith
-items_deep (suc n) level below ts m = all_deep (items n (level + 1)) (items_deep n (level + 1) (one_deeper level)) level below (pieces 0 ts) m
+items_deep (suc n) level below ts m = all_deep (items n (level + 1)) (items_deep n (level + 1) (one_deeper level)) level below (segments 0 ts) m
 
 items_tops : (n level from to : ℕ) (ts : List Numbered) → Rises from ts to → TopsApart from (items n level ts) to
 items_tops zero level from to ts h = rises_wide from to ts h
-items_tops (suc n) level from to ts h = all_tops (items n (level + 1)) (items_deep n (level + 1) (one_deeper level)) level from to (pieces 0 ts) (pieces_rise 0 from to ts h)
+items_tops (suc n) level from to ts h = all_tops (items n (level + 1)) (items_deep n (level + 1) (one_deeper level)) level from to (segments 0 ts) (pieces_rise 0 from to ts h)
 
 -- THE LAW
 pub tops_apart : (tokens : List Lexeme) → TopsApart 0 (outline tokens) (length tokens)

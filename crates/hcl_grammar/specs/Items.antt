@@ -27,10 +27,10 @@ onto t [] = (t ∷ []) ∷ []
 onto t (piece ∷ rest) = (t ∷ piece) ∷ rest
 
 -- the tokens split at the newlines outside all openers, where so many are open
-abbrev pub pieces : ℕ → List Numbered → List (List Numbered)
-pieces depth [] = [] ∷ []
-pieces depth (t ∷ ts) =
-    let rest = pieces (deepen depth t.kind) ts in
+abbrev pub segments : ℕ → List Numbered → List (List Numbered)
+segments depth [] = [] ∷ []
+segments depth (t ∷ ts) =
+    let rest = segments (deepen depth t.kind) ts in
     if is Newline t.kind && is_closed depth then [] ∷ rest else onto t rest
 
 -- the number of the first closing quote
@@ -79,7 +79,7 @@ item_of inner level (name ∷ second ∷ rest) =
 -- tokens is enough
 abbrev pub items : ℕ → ℕ → List Numbered → List Item
 items zero level ts = []
-items (suc deeper) level ts = flat_map (item_of (items deeper (level + 1)) level) (pieces 0 ts)
+items (suc deeper) level ts = flat_map (item_of (items deeper (level + 1)) level) (segments 0 ts)
 
 -- THE ITEMS of numbered tokens, in order, each block followed by its labels and then by the items of its body
 abbrev pub items_of : List Numbered → List Item

@@ -5,8 +5,8 @@ use borrow.Author.Tests.{ltb-true, ltb-false}
 use Rattle.hcl_tokens.specs.Lexemes.{Lexeme}
 use Rattle.hcl_grammar.specs.Numbered.{Numbered, numbered_from, without_comments, is_comment}
 use Rattle.hcl_grammar.specs.Items.{after_brace, block_end, body, labels}
-use Rattle.hcl_syntax.specs.Inner.Pieces.{tokens_between, CanBegin, words}
-use Rattle.hcl_syntax.specs.Inner.Bodies.{PutsBlock}
+use Rattle.hcl_syntax.specs.Inner.Segments.{tokens_between, CanBegin, words}
+use Rattle.hcl_syntax.specs.Inner.Bodies.{PushesBlock}
 use Rattle.hcl_grammar.specs.declared.item.Item.{Item}
 use Rattle.hcl_grammar.specs.declared.item.Item.TheVariants as item
 use Rattle.hcl_grammar.proofs.NumberedLemmas.{number_of}
@@ -60,7 +60,7 @@ words_before ts first to last h =
 pub puts_block : (ts : List Lexeme) (level kind to first last end : ℕ) (old mid new : List Item)
     → words ts first to ≡ after_brace (words ts (kind + 1) to) → kind + 1 ≤ first → last ≡ block_end (words ts (kind + 1) to) → last ≤ to → (first < to → CanBegin ts first) → end ≡ last - 1
     → mid ≡ old ++ item.Block level kind last ∷ [] → new ≡ mid ++ labels (words ts (kind + 1) to)
-    → PutsBlock ts level kind to old new (record { first = first; end = end })
+    → PushesBlock ts level kind to old new (record { first = first; end = end })
 puts_block ts level kind to first last end old mid new after above is within begins at pushed put = record {
   is = λ inner head same.
       ap (λ r. r ++ inner (words ts first end)) (put ∙ ap (λ r. r ++ labels rest) pushed)

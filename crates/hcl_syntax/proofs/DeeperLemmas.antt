@@ -5,8 +5,8 @@ use Rattle.std.specs.List.{flat_map}
 use Rattle.hcl_tokens.specs.Kinds.{is}
 use Rattle.hcl_tokens.specs.declared.token.Kind.TheVariants.{Assign, BraceOpen, Newline}
 use Rattle.hcl_grammar.specs.Numbered.{Numbered, end_of}
-use Rattle.hcl_grammar.specs.Items.{deepen, is_closed, onto, pieces, after_brace, block_end, body, block, item_of, items, labels}
-use Rattle.hcl_syntax.specs.Inner.Pieces.{items_at}
+use Rattle.hcl_grammar.specs.Items.{deepen, is_closed, onto, segments, after_brace, block_end, body, block, item_of, items, labels}
+use Rattle.hcl_syntax.specs.Inner.Segments.{items_at}
 use Rattle.hcl_grammar.specs.declared.item.Item.{Item}
 use Rattle.hcl_grammar.specs.declared.item.Item.TheVariants as item
 
@@ -23,14 +23,14 @@ short_onto : (n : ℕ) (t : Numbered) (ps : List (List Numbered)) → AllShort n
 short_onto n t [] h = (omega arith, tt)
 short_onto n t (p ∷ ps) h = (omega (arith, h.0), short_more n ps h.1)
 
-pub pieces_short : (depth : ℕ) (ts : List Numbered) → AllShort (length ts) (pieces depth ts)
+pub pieces_short : (depth : ℕ) (ts : List Numbered) → AllShort (length ts) (segments depth ts)
 pieces_short depth [] = (omega arith, tt)
 pieces_short depth (t ∷ ts) = by (is Newline t.kind && is_closed depth) (pieces_short (deepen depth t.kind) ts)
   where
-    by : (b : Bool) → AllShort (length ts) (pieces (deepen depth t.kind) ts)
-        → AllShort (length (t ∷ ts)) (cond b ([] ∷ pieces (deepen depth t.kind) ts) (onto t (pieces (deepen depth t.kind) ts)))
-    by true h = (omega arith, short_more (length ts) (pieces (deepen depth t.kind) ts) h)
-    by false h = short_onto (length ts) t (pieces (deepen depth t.kind) ts) h
+    by : (b : Bool) → AllShort (length ts) (segments (deepen depth t.kind) ts)
+        → AllShort (length (t ∷ ts)) (cond b ([] ∷ segments (deepen depth t.kind) ts) (onto t (segments (deepen depth t.kind) ts)))
+    by true h = (omega arith, short_more (length ts) (segments (deepen depth t.kind) ts) h)
+    by false h = short_onto (length ts) t (segments (deepen depth t.kind) ts) h
 
 after_short : (ts : List Numbered) → length (after_brace ts) ≤ length ts
 after_short [] = omega arith
@@ -81,10 +81,10 @@ items_more (suc n) zero level (t ∷ ts) h k = absurd (omega (arith, k))
 items_more (suc n) (suc m) level ts h k =
     same_items (items n (level + 1)) (items m (level + 1)) level (length ts)
     (λ us less. items_more n m (level + 1) us (omega (arith, less, h)) (omega (arith, less, k)))
-    (pieces 0 ts) (pieces_short 0 ts)
+    (segments 0 ts) (pieces_short 0 ts)
 
 -- the items, piece by piece
-pub items_at_pieces : (level : ℕ) (ts : List Numbered) → items_at level ts ≡ flat_map (item_of (items_at (level + 1)) level) (pieces 0 ts)
+pub items_at_pieces : (level : ℕ) (ts : List Numbered) → items_at level ts ≡ flat_map (item_of (items_at (level + 1)) level) (segments 0 ts)
 items_at_pieces level ts =
     items_more (length ts) (suc (length ts)) level ts (omega arith) (omega arith)
-    ∙ same_items (items (length ts) (level + 1)) (items_at (level + 1)) level (length ts) (λ us less. items_more (length ts) (length us) (level + 1) us (omega (arith, less)) (omega arith)) (pieces 0 ts) (pieces_short 0 ts)
+    ∙ same_items (items (length ts) (level + 1)) (items_at (level + 1)) level (length ts) (λ us less. items_more (length ts) (length us) (level + 1) us (omega (arith, less)) (omega arith)) (segments 0 ts) (pieces_short 0 ts)

@@ -10,8 +10,8 @@ use Rattle.hcl_tokens.specs.Lexemes.{Lexeme}
 use Rattle.hcl_tokens.specs.declared.token.Kind.{Kind}
 use Rattle.hcl_tokens.specs.declared.token.Kind.TheVariants as kind
 use Rattle.hcl_grammar.specs.Numbered.{Numbered, numbered_from, without_comments, is_comment}
-use Rattle.hcl_grammar.specs.Items.{deepen, is_closed, onto, pieces}
-use Rattle.hcl_syntax.specs.Inner.Pieces.{words, first_len, newline_from}
+use Rattle.hcl_grammar.specs.Items.{deepen, is_closed, onto, segments}
+use Rattle.hcl_syntax.specs.Inner.Segments.{words, first_len, newline_from}
 use Rattle.hcl_grammar.specs.declared.item.Item.{Item}
 use Rattle.hcl_grammar.proofs.NumberedLemmas.{number_of}
 use Rattle.hcl_syntax.proofs.WordRangeLemmas.{words_none}
@@ -23,7 +23,7 @@ taken n k xs = without_comments (take k (numbered_from n xs))
 abbrev later : ℕ → ℕ → ℕ → List Lexeme → List (List Numbered)
 later m zero n xs = []
 later m (suc k) n [] = []
-later zero (suc k) n (x ∷ xs) = pieces 0 (taken (n + 1) k xs)
+later zero (suc k) n (x ∷ xs) = segments 0 (taken (n + 1) k xs)
 later (suc m) (suc k) n (x ∷ xs) = later m k (n + 1) xs
 
 -- the first of them
@@ -51,9 +51,9 @@ newline_word : (d : ℕ) (k : Kind) → (is kind.Newline k && is_closed d) ≡ t
 newline_word d kind.Newline e = refl
 newline_word d _ e = absurd (true≢false (sym e))
 
-pub pieces_cut : (d k n : ℕ) (xs : List Lexeme) → pieces d (taken n k xs) ≡ first_of_them (first_len d xs) k n xs ∷ later (first_len d xs) k n xs
+pub pieces_cut : (d k n : ℕ) (xs : List Lexeme) → segments d (taken n k xs) ≡ first_of_them (first_len d xs) k n xs ∷ later (first_len d xs) k n xs
 pieces_cut d zero n xs =
-    ap (λ r. pieces d (without_comments r)) (take_zero (numbered_from n xs))
+    ap (λ r. segments d (without_comments r)) (take_zero (numbered_from n xs))
     ∙ ap (λ r. without_comments r ∷ []) (sym (ap (λ r. take (first_len d xs) r) (take_zero (numbered_from n xs)) ∙ take_none (first_len d xs)))
 pieces_cut d (suc k) n [] = refl
 pieces_cut d (suc k) n (x ∷ xs) = by (is_comment x.kind) (is kind.Newline x.kind && is_closed d) refl refl (pieces_cut (deepen d x.kind) k (n + 1) xs)
@@ -64,25 +64,25 @@ pieces_cut d (suc k) n (x ∷ xs) = by (is_comment x.kind) (is kind.Newline x.ki
     W : List Numbered
     W = taken (n + 1) k xs
 
-    by : (c b : Bool) → is_comment x.kind ≡ c → (is kind.Newline x.kind && is_closed d) ≡ b → pieces (deepen d x.kind) W ≡ first_of_them F k (n + 1) xs ∷ later F k (n + 1) xs
-        → pieces d (cond (not (is_comment x.kind)) (number_of n x ∷ W) W)
+    by : (c b : Bool) → is_comment x.kind ≡ c → (is kind.Newline x.kind && is_closed d) ≡ b → segments (deepen d x.kind) W ≡ first_of_them F k (n + 1) xs ∷ later F k (n + 1) xs
+        → segments d (cond (not (is_comment x.kind)) (number_of n x ∷ W) W)
         ≡ first_of_them (cond (is kind.Newline x.kind && is_closed d) 0 (F + 1)) (suc k) n (x ∷ xs) ∷ later (cond (is kind.Newline x.kind && is_closed d) 0 (F + 1)) (suc k) n (x ∷ xs)
     by true true comment here rest = absurd (true≢false (sym comment ∙ newline_word d x.kind here))
     by true false comment here rest =
-        ap (λ c. pieces d (cond (not c) (number_of n x ∷ W) W)) comment
-        ∙ ap (λ e. pieces e W) (sym (comment_flat x.kind d comment).1)
+        ap (λ c. segments d (cond (not c) (number_of n x ∷ W) W)) comment
+        ∙ ap (λ e. segments e W) (sym (comment_flat x.kind d comment).1)
         ∙ rest
         ∙ ap (λ c. cond (not c) (number_of n x ∷ first_of_them F k (n + 1) xs) (first_of_them F k (n + 1) xs) ∷ later F k (n + 1) xs) (sym comment)
         ∙ ap (λ m. first_of_them m (suc k) n (x ∷ xs) ∷ later m (suc k) n (x ∷ xs)) (sym (add-one F))
         ∙ ap (λ b. first_of_them (cond b 0 (F + 1)) (suc k) n (x ∷ xs) ∷ later (cond b 0 (F + 1)) (suc k) n (x ∷ xs)) (sym here)
     by false true word here rest =
-        ap (λ c. pieces d (cond (not c) (number_of n x ∷ W) W)) word
-        ∙ ap (λ b. cond b ([] ∷ pieces (deepen d x.kind) W) (onto (number_of n x) (pieces (deepen d x.kind) W))) here
-        ∙ ap (λ e. [] ∷ pieces e W) (newline_flat d x.kind here)
+        ap (λ c. segments d (cond (not c) (number_of n x ∷ W) W)) word
+        ∙ ap (λ b. cond b ([] ∷ segments (deepen d x.kind) W) (onto (number_of n x) (segments (deepen d x.kind) W))) here
+        ∙ ap (λ e. [] ∷ segments e W) (newline_flat d x.kind here)
         ∙ ap (λ b. first_of_them (cond b 0 (F + 1)) (suc k) n (x ∷ xs) ∷ later (cond b 0 (F + 1)) (suc k) n (x ∷ xs)) (sym here)
     by false false word here rest =
-        ap (λ c. pieces d (cond (not c) (number_of n x ∷ W) W)) word
-        ∙ ap (λ b. cond b ([] ∷ pieces (deepen d x.kind) W) (onto (number_of n x) (pieces (deepen d x.kind) W))) here
+        ap (λ c. segments d (cond (not c) (number_of n x ∷ W) W)) word
+        ∙ ap (λ b. cond b ([] ∷ segments (deepen d x.kind) W) (onto (number_of n x) (segments (deepen d x.kind) W))) here
         ∙ ap (onto (number_of n x)) rest
         ∙ ap (λ c. cond (not c) (number_of n x ∷ first_of_them F k (n + 1) xs) (first_of_them F k (n + 1) xs) ∷ later F k (n + 1) xs) (sym word)
         ∙ ap (λ m. first_of_them m (suc k) n (x ∷ xs) ∷ later m (suc k) n (x ∷ xs)) (sym (add-one F))
@@ -102,28 +102,28 @@ take_take (suc m) (suc k) (x ∷ xs) = let s : min (suc m) (suc k) ≡ suc (min 
 
 -- the later pieces under a function that gives nothing for an empty list
 later_pieces : (f : List Numbered → List Item) → f [] ≡ [] → (m k n : ℕ) (xs : List Lexeme)
-    → flat_map f (later m k n xs) ≡ flat_map f (pieces 0 (taken (n + m + 1) (k - m - 1) (drop (m + 1) xs)))
+    → flat_map f (later m k n xs) ≡ flat_map f (segments 0 (taken (n + m + 1) (k - m - 1) (drop (m + 1) xs)))
 later_pieces f none m zero n xs =
     let z : 0 - m - 1 ≡ 0 = omega arith in
-    sym (ap (λ j. flat_map f (pieces 0 (taken (n + m + 1) j (drop (m + 1) xs)))) z
-    ∙ ap (λ r. flat_map f (pieces 0 (without_comments r))) (take_zero (numbered_from (n + m + 1) (drop (m + 1) xs))) ∙ ap (λ r. r ++ []) none)
+    sym (ap (λ j. flat_map f (segments 0 (taken (n + m + 1) j (drop (m + 1) xs)))) z
+    ∙ ap (λ r. flat_map f (segments 0 (without_comments r))) (take_zero (numbered_from (n + m + 1) (drop (m + 1) xs))) ∙ ap (λ r. r ++ []) none)
 later_pieces f none m (suc k) n [] =
-    sym (ap (λ r. flat_map f (pieces 0 (taken (n + m + 1) (suc k - m - 1) r))) (drop-nil {A = Lexeme} (m + 1)) ∙ ap (λ r. flat_map f (pieces 0 (without_comments r))) (take_none (suc k - m - 1)) ∙ ap (λ r. r ++ []) none)
+    sym (ap (λ r. flat_map f (segments 0 (taken (n + m + 1) (suc k - m - 1) r))) (drop-nil {A = Lexeme} (m + 1)) ∙ ap (λ r. flat_map f (segments 0 (without_comments r))) (take_none (suc k - m - 1)) ∙ ap (λ r. r ++ []) none)
 later_pieces f none zero (suc k) n (x ∷ xs) =
     let a : n + 0 + 1 ≡ n + 1 = omega arith in
     let b : suc k - 0 - 1 ≡ k = omega arith in
     let c : 0 + 1 ≡ suc 0 = omega arith in
-    ap₂ (λ i j. flat_map f (pieces 0 (taken i j xs))) (sym a) (sym b) ∙ ap (λ j. flat_map f (pieces 0 (taken (n + 0 + 1) (suc k - 0 - 1) (drop j (x ∷ xs))))) (sym c)
+    ap₂ (λ i j. flat_map f (segments 0 (taken i j xs))) (sym a) (sym b) ∙ ap (λ j. flat_map f (segments 0 (taken (n + 0 + 1) (suc k - 0 - 1) (drop j (x ∷ xs))))) (sym c)
 later_pieces f none (suc m) (suc k) n (x ∷ xs) =
     let a : n + suc m + 1 ≡ n + 1 + m + 1 = omega arith in
     let b : suc k - suc m - 1 ≡ k - m - 1 = omega arith in
     let c : suc m + 1 ≡ suc (m + 1) = omega arith in
     later_pieces f none m k (n + 1) xs
-    ∙ ap₂ (λ i j. flat_map f (pieces 0 (taken i j (drop (m + 1) xs)))) (sym a) (sym b)
-    ∙ ap (λ j. flat_map f (pieces 0 (taken (n + suc m + 1) (suc k - suc m - 1) (drop j (x ∷ xs))))) (sym c)
+    ∙ ap₂ (λ i j. flat_map f (segments 0 (taken i j (drop (m + 1) xs)))) (sym a) (sym b)
+    ∙ ap (λ j. flat_map f (segments 0 (taken (n + suc m + 1) (suc k - suc m - 1) (drop j (x ∷ xs))))) (sym c)
 
 pub first_piece : (f : List Numbered → List Item) → f [] ≡ [] → (ts : List Lexeme) (start to end : ℕ) → start < to → end ≡ min (newline_from ts 0 start) to
-    → flat_map f (pieces 0 (words ts start to)) ≡ f (words ts start end) ++ flat_map f (pieces 0 (words ts (end + 1) to))
+    → flat_map f (segments 0 (words ts start to)) ≡ f (words ts start end) ++ flat_map f (segments 0 (words ts (end + 1) to))
 first_piece f none ts start to end h is =
     ap (flat_map f) (pieces_cut 0 (to - start) start xs)
     ∙ ap₂ (λ x y. f x ++ y) one (later_pieces f none F (to - start) start xs ∙ rest (cases F (to - start)))
@@ -140,15 +140,15 @@ first_piece f none ts start to end h is =
     cases : (a b : ℕ) → (a < b) ⊎ (b ≤ a)
     cases a b = cases_lt a b
 
-    rest : (F < to - start) ⊎ (to - start ≤ F) → flat_map f (pieces 0 (taken (start + F + 1) (to - start - F - 1) (drop (F + 1) xs))) ≡ flat_map f (pieces 0 (words ts (end + 1) to))
+    rest : (F < to - start) ⊎ (to - start ≤ F) → flat_map f (segments 0 (taken (start + F + 1) (to - start - F - 1) (drop (F + 1) xs))) ≡ flat_map f (segments 0 (words ts (end + 1) to))
     rest (inl less) =
         let a : start + F + 1 ≡ end + 1 = omega (arith, is, less) in
         let b : to - start - F - 1 ≡ to - (end + 1) = omega (arith, is, less) in
         let c : start + (F + 1) ≡ end + 1 = omega (arith, is, less) in
-        ap₂ (λ i j. flat_map f (pieces 0 (taken i j (drop (F + 1) xs)))) a b
-        ∙ ap (λ r. flat_map f (pieces 0 (taken (end + 1) (to - (end + 1)) r))) (drop-drop (F + 1) start ts ∙ ap (λ j. drop j ts) c)
+        ap₂ (λ i j. flat_map f (segments 0 (taken i j (drop (F + 1) xs)))) a b
+        ∙ ap (λ r. flat_map f (segments 0 (taken (end + 1) (to - (end + 1)) r))) (drop-drop (F + 1) start ts ∙ ap (λ j. drop j ts) c)
     rest (inr more) =
         let b : to - start - F - 1 ≡ 0 = omega (arith, is, more) in
-        ap (λ j. flat_map f (pieces 0 (taken (start + F + 1) j (drop (F + 1) xs)))) b
-        ∙ ap (λ r. flat_map f (pieces 0 (without_comments r))) (take_zero (numbered_from (start + F + 1) (drop (F + 1) xs)))
-        ∙ ap (λ r. flat_map f (pieces 0 r)) (sym (words_none ts (end + 1) to (omega (arith, is, more, h))))
+        ap (λ j. flat_map f (segments 0 (taken (start + F + 1) j (drop (F + 1) xs)))) b
+        ∙ ap (λ r. flat_map f (segments 0 (without_comments r))) (take_zero (numbered_from (start + F + 1) (drop (F + 1) xs)))
+        ∙ ap (λ r. flat_map f (segments 0 r)) (sym (words_none ts (end + 1) to (omega (arith, is, more, h))))

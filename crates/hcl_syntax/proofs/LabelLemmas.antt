@@ -8,7 +8,7 @@ use Rattle.hcl_tokens.specs.declared.token.Kind.{Kind}
 use Rattle.hcl_tokens.specs.declared.token.Kind.TheVariants as kind
 use Rattle.hcl_grammar.specs.Numbered.{Numbered, is_comment}
 use Rattle.hcl_grammar.specs.Items.{label_at, labels}
-use Rattle.hcl_syntax.specs.Inner.Pieces.{words}
+use Rattle.hcl_syntax.specs.Inner.Segments.{words}
 use Rattle.hcl_grammar.specs.declared.item.Item.{Item}
 use Rattle.hcl_grammar.proofs.NumberedLemmas.{number_of}
 use Rattle.hcl_syntax.proofs.WordRangeLemmas.{words_step, words_here, open_word}

@@ -4,10 +4,10 @@ use Rattle.std.specs.List.{flat_map}
 use Rattle.std.proofs.lemmas.List.{append-nil}
 use Rattle.hcl_tokens.specs.Lexemes.{Lexeme}
 use Rattle.hcl_grammar.specs.Numbered.{Numbered, numbered, numbered_from, without_comments, is_comment}
-use Rattle.hcl_grammar.specs.Items.{pieces, item_of, outline}
-use Rattle.hcl_syntax.specs.Inner.Pieces.{words, newline_from, items_at}
-use Rattle.hcl_syntax.specs.Inner.Bodies.{PutsPiece}
-use Rattle.hcl_syntax.specs.declared.pieces.Body.{Body}
+use Rattle.hcl_grammar.specs.Items.{segments, item_of, outline}
+use Rattle.hcl_syntax.specs.Inner.Segments.{words, newline_from, items_at}
+use Rattle.hcl_syntax.specs.Inner.Bodies.{PushesSegment}
+use Rattle.hcl_syntax.specs.declared.segments.Body.{Body}
 use Rattle.hcl_grammar.specs.declared.item.Item.{Item}
 use Rattle.hcl_grammar.proofs.NumberedLemmas.{number_of}
 use Rattle.hcl_syntax.proofs.WordRangeLemmas.{words_none}
@@ -16,18 +16,18 @@ use Rattle.hcl_syntax.proofs.FirstPieceLemmas.{first_piece}
 
 -- the items so far, with those of the remaining pieces, are all items
 pub record AreItems (ts : List Lexeme) (level from to : ℕ) (old new : List Item) (start : ℕ) : Type 0 where
-  pub is : new ++ flat_map (item_of (items_at (level + 1)) level) (pieces 0 (words ts start to)) ≡ old ++ items_at level (words ts from to)
+  pub is : new ++ flat_map (item_of (items_at (level + 1)) level) (segments 0 (words ts start to)) ≡ old ++ items_at level (words ts from to)
   pub from_on : from ≤ start
 
 pub items_begin : (ts : List Lexeme) (level from to : ℕ) (old : List Item) → AreItems ts level from to old old from
 items_begin ts level from to old = record { is = ap (λ r. old ++ r) (sym (items_at_pieces level (words ts from to))); from_on = omega arith }
 
 pub items_step : (ts : List Lexeme) (level from to : ℕ) (old new mid next : List Item) (start end : ℕ) (b : Body) → start < to → end ≡ min (newline_from ts 0 start) to
-    → PutsPiece ts level start end new mid b → next ≡ mid ++ items_at (level + 1) (words ts b.first b.end) → AreItems ts level from to old new start → AreItems ts level from to old next (end + 1)
+    → PushesSegment ts level start end new mid b → next ≡ mid ++ items_at (level + 1) (words ts b.first b.end) → AreItems ts level from to old new start → AreItems ts level from to old next (end + 1)
 items_step ts level from to old new mid next start end b less at piece deeper h = record {
   is =
-      ap (λ r. r ++ flat_map f (pieces 0 (words ts (end + 1) to))) (deeper ∙ piece.is (items_at (level + 1)) refl)
-      ∙ append_assoc new (f (words ts start end)) (flat_map f (pieces 0 (words ts (end + 1) to)))
+      ap (λ r. r ++ flat_map f (segments 0 (words ts (end + 1) to))) (deeper ∙ piece.is (items_at (level + 1)) refl)
+      ∙ append_assoc new (f (words ts start end)) (flat_map f (segments 0 (words ts (end + 1) to)))
       ∙ ap (λ r. new ++ r) (sym (first_piece f refl ts start to end less at))
       ∙ h.is;
   from_on = omega (arith, h.from_on, at, less);
@@ -38,7 +38,7 @@ items_step ts level from to old new mid next start end b less at piece deeper h 
 
 -- a piece without a body
 pub items_step_alone : (ts : List Lexeme) (level from to : ℕ) (old new mid : List Item) (start end : ℕ) (b : Body) → start < to → end ≡ min (newline_from ts 0 start) to
-    → PutsPiece ts level start end new mid b → b.end ≤ b.first → AreItems ts level from to old new start → AreItems ts level from to old mid (end + 1)
+    → PushesSegment ts level start end new mid b → b.end ≤ b.first → AreItems ts level from to old new start → AreItems ts level from to old mid (end + 1)
 items_step_alone ts level from to old new mid start end b less at piece none h =
     items_step ts level from to old new mid mid start end b less at piece
     (sym (append-nil mid) ∙ ap (λ ws. mid ++ items_at (level + 1) ws) (sym (words_none ts b.first b.end none))) h

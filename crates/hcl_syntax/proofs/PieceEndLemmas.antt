@@ -11,7 +11,7 @@ use Rattle.hcl_grammar.specs.Items.{deepen, is_closed}
 use Rattle.hcl_tokens.specs.Balanced.{is_closes, is_opens, nesting}
 use Rattle.hcl_tokens.specs.declared.token.Nesting.{Nesting}
 use Rattle.hcl_tokens.specs.declared.token.Nesting.TheVariants.{Opens, Closes, Neither}
-use Rattle.hcl_syntax.specs.Inner.Pieces.{AreEnds, CanBegin, first_len, is_passed, leads, newline_from, AreNewlinesAhead}
+use Rattle.hcl_syntax.specs.Inner.Segments.{AreEnds, CanBegin, first_len, is_passed, leads, newline_from, AreNewlinesAhead}
 use Rattle.hcl_grammar.proofs.NumberedLemmas.{drop_at}
 
 -- the effect of a kind on the depth

@@ -8,7 +8,7 @@ use Rattle.hcl_tokens.specs.declared.token.Kind.{Kind}
 use Rattle.hcl_tokens.specs.declared.token.Kind.TheVariants as kind
 use Rattle.hcl_grammar.specs.Numbered.{Numbered, is_comment, end_of}
 use Rattle.hcl_grammar.specs.Items.{closing_quote, after_brace, block_end}
-use Rattle.hcl_syntax.specs.Inner.Pieces.{words}
+use Rattle.hcl_syntax.specs.Inner.Segments.{words}
 use Rattle.hcl_grammar.proofs.NumberedLemmas.{number_of}
 use Rattle.hcl_syntax.proofs.WordRangeLemmas.{words_parts, words_step, words_past, words_here, open_word}
 

@@ -9,7 +9,7 @@ use Rattle.hcl_tokens.specs.declared.token.Kind.{Kind}
 use Rattle.hcl_tokens.specs.declared.token.Kind.TheVariants as kind
 use Rattle.hcl_grammar.specs.Numbered.{Numbered, numbered_from, without_comments, is_comment}
 use Rattle.hcl_grammar.proofs.NumberedLemmas.{drop_at, number_of}
-use Rattle.hcl_syntax.specs.Inner.Pieces.{tokens_between, words}
+use Rattle.hcl_syntax.specs.Inner.Segments.{tokens_between, words}
 
 -- from a token on
 pub between_here : (ts : List Lexeme) (from to : ℕ) (t : Lexeme) → slice_get ts from ≡ Some t → from < to → tokens_between ts from to ≡ number_of from t ∷ tokens_between ts (from + 1) to

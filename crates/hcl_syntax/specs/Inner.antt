@@ -2,6 +2,6 @@
 pub mod Standings
 pub mod Cursors
 pub mod Parsing
-pub mod Pieces
+pub mod Segments
 pub mod Bodies
 pub mod ShortOperands

@@ -3,8 +3,8 @@
 ghost use Rattle.std.specs.Prelude.{◌≡◌, IfOk};
 ghost use Rattle.hcl_grammar.specs.Items.{outline};
 
-use crate::piece_end::{newlines, token_count};
-use crate::pieces::put_items;
+use crate::segment_end::{newlines, token_count};
+use crate::segments::push_items;
 use hcl_grammar::{Accepted, Outline};
 use std::alloc::{AllocError, Global};
 
@@ -25,6 +25,6 @@ pub fn outline(alloc: Global, accepted: &Accepted<'_, '_>) -> Result<Outline, Al
     let count = token_count(tokens);
     let room = (tokens.len() / TOKENS_AN_ITEM / 4 * 4).min(MOST_ROOM);
     let mut items = Outline::with_room(alloc, room)?;
-    put_items(tokens, &ends, 0, 0, count, &mut items)?;
+    push_items(tokens, &ends, 0, 0, count, &mut items)?;
     Ok(items)
 }

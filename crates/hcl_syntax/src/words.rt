@@ -3,7 +3,7 @@
 ghost use Rattle.std.specs.Prelude.{◌≡◌, ◌≤◌, [], filter, length, MatchOption};
 ghost use Rattle.hcl_tokens.specs.Kinds.{is};
 ghost use Rattle.hcl_tokens.specs.declared.token.Kind.TheVariants.{Assign, BraceClose, BraceOpen, QuoteClose};
-ghost use Rattle.hcl_syntax.specs.Inner.Pieces.{IsFirst, words};
+ghost use Rattle.hcl_syntax.specs.Inner.Segments.{IsFirst, words};
 ghost use Rattle.hcl_grammar.specs.Items.{block_end, closing_quote};
 ghost use Rattle.hcl_grammar.specs.Numbered.{end_of, is_comment};
 

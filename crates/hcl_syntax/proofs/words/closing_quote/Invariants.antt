@@ -1,5 +1,5 @@
 use Rattle.std.proofs.Common.{◌≡◌}
-use Rattle.hcl_syntax.specs.Inner.Pieces.{words}
+use Rattle.hcl_syntax.specs.Inner.Segments.{words}
 use Rattle.hcl_grammar.specs.Items.{closing_quote}
 use Rattle.hcl_syntax.proofs.words.closing_quote.Given as goal
 

@@ -1,5 +1,5 @@
 use Rattle.std.proofs.Common.{◌≡◌}
-use Rattle.hcl_syntax.specs.Inner.Pieces.{words}
+use Rattle.hcl_syntax.specs.Inner.Segments.{words}
 use Rattle.hcl_syntax.proofs.words.first_word.Given as goal
 
 abbrev pub invariant-loop-number : goal.invariant-loop-number

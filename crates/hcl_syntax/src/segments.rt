@@ -2,8 +2,8 @@
 
 ghost use Rattle.std.specs.Prelude.{◌≡◌, ◌<◌, ◌≤◌, ◌+◌, ◌++◌, length, IfOk, OnOk};
 ghost use Rattle.hcl_source.specs.Load.{max_source};
-ghost use Rattle.hcl_syntax.specs.Inner.Pieces.{AreEnds, CanBegin, items_at, words};
-ghost use Rattle.hcl_syntax.specs.Inner.Bodies.{IsAfterBrace, PutsBlock, PutsPiece};
+ghost use Rattle.hcl_syntax.specs.Inner.Segments.{AreEnds, CanBegin, items_at, words};
+ghost use Rattle.hcl_syntax.specs.Inner.Bodies.{IsAfterBrace, PushesBlock, PushesSegment};
 ghost use Rattle.hcl_grammar.specs.Items.{label_at, labels};
 
 use crate::words::{block_end, closing_quote, first_word, is_assign, is_brace_open, words_end};
@@ -19,7 +19,7 @@ struct Body {
 }
 
 /// Appends the label that begins with a token: an identifier, or a quote.
-fn put_label(
+fn push_label_at(
     tokens: &Tokens<'_>,
     number: u32,
     kind: Kind,
@@ -42,7 +42,7 @@ fn put_label(
 }
 
 /// Appends the labels before the first opening brace, and returns one past the number of that brace, or the end.
-fn put_labels(
+fn push_labels(
     tokens: &Tokens<'_>,
     from: u32,
     to: u32,
@@ -59,13 +59,13 @@ fn put_labels(
         if is_brace_open(token.kind) {
             return Ok(number + 1);
         }
-        put_label(tokens, number, token.kind, to, items)?;
+        push_label_at(tokens, number, token.kind, to, items)?;
     }
     Ok(to)
 }
 
 /// Appends a block and its labels. Its kind is the token of this number, and its piece ends before `to`.
-fn put_block(
+fn push_block_at(
     tokens: &Tokens<'_>,
     level: u32,
     kind: u32,
@@ -74,11 +74,11 @@ fn put_block(
 ) -> Result<Body, AllocError>
     requires within { to ≤ length tokens.now.tokens }
     requires before { kind < to }
-    ensures { IfOk result (PutsBlock tokens.now.tokens level kind to items.old items.new) }
+    ensures { IfOk result (PushesBlock tokens.now.tokens level kind to items.old items.new) }
 {
     let end = block_end(tokens, kind + 1, to);
     items.push_block(level, kind, end)?;
-    let first = put_labels(tokens, kind + 1, to, items)?;
+    let first = push_labels(tokens, kind + 1, to, items)?;
     Ok(Body {
         first,
         end: end.saturating_sub(1),
@@ -86,7 +86,7 @@ fn put_block(
 }
 
 /// Appends the item of a piece, except the items of its body.
-fn put_piece(
+fn push_segment(
     tokens: &Tokens<'_>,
     level: u32,
     from: u32,
@@ -95,16 +95,16 @@ fn put_piece(
 ) -> Result<Body, AllocError>
     requires within { to ≤ length tokens.now.tokens }
     requires ordered { from ≤ to }
-    ensures { IfOk result (PutsPiece tokens.now.tokens level from to items.old items.new) }
+    ensures { IfOk result (PushesSegment tokens.now.tokens level from to items.old items.new) }
 {
     let Some(name) = first_word(tokens, from, to) else {
         return Ok(Body { first: to, end: to });
     };
     let Some(second) = first_word(tokens, name.number + 1, to) else {
-        return put_block(tokens, level, name.number, to, items);
+        return push_block_at(tokens, level, name.number, to, items);
     };
     if !is_assign(second.kind) {
-        return put_block(tokens, level, name.number, to, items);
+        return push_block_at(tokens, level, name.number, to, items);
     }
     let end = words_end(tokens, name.number + 1, to);
     items.push_attribute(level, name.number, second.number + 1, end)?;
@@ -114,7 +114,7 @@ fn put_piece(
 /// Appends the items of the tokens from one number to before another. `ends` has, for each place where a piece can
 /// begin, the first newline from there on outside all openers, so that finding the end of a piece looks at no token
 /// twice.
-pub fn put_items(
+pub fn push_items(
     tokens: &Tokens<'_>,
     ends: &[u32],
     level: u32,
@@ -133,13 +133,13 @@ pub fn put_items(
     let mut start = from;
     while start < to {
         let end = ends[start as usize].min(to);
-        let body = put_piece(tokens, level, start, end, items)?;
+        let body = push_segment(tokens, level, start, end, items)?;
         start = end + 1;
         // Attributes have no body, so they make no call.
         if body.first >= body.end {
             continue;
         }
-        put_items(tokens, ends, level + 1, body.first, body.end, items)?;
+        push_items(tokens, ends, level + 1, body.first, body.end, items)?;
     }
     Ok(())
 }

@@ -1,6 +1,6 @@
 use Rattle.std.proofs.Common.{[], ◌∷◌, ◌++◌}
 use Rattle.hcl_syntax.proofs.PieceEndLemmas.{IsFilled}
-use Rattle.hcl_syntax.proofs.piece_end.newlines.Given as goal
+use Rattle.hcl_syntax.proofs.segment_end.newlines.Given as goal
 
 abbrev pub invariant-loop-next : goal.invariant-loop-next
 invariant-loop-next l = IsFilled l.tokens.tokens l.ends.items (l.rest.items ++ l.top ∷ []) l.next

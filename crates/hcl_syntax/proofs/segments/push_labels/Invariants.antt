@@ -1,8 +1,8 @@
 use Rattle.std.proofs.Common.{◌≡◌}
 use Rattle.hcl_grammar.specs.Items.{after_brace}
-use Rattle.hcl_syntax.specs.Inner.Pieces.{words}
+use Rattle.hcl_syntax.specs.Inner.Segments.{words}
 use Rattle.hcl_syntax.proofs.LabelLemmas.{AreLabels}
-use Rattle.hcl_syntax.proofs.pieces.put_labels.Given as goal
+use Rattle.hcl_syntax.proofs.segments.push_labels.Given as goal
 
 abbrev pub invariant-loop-number : goal.invariant-loop-number
 invariant-loop-number l = record {

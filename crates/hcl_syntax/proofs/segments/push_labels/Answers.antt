@@ -3,7 +3,7 @@ use Rattle.hcl_tokens.specs.Scanned.{lexeme}
 use Rattle.hcl_syntax.proofs.PieceEndLemmas.{brace_begins}
 use Rattle.hcl_syntax.proofs.SoughtLemmas.{brace_here, brace_past}
 use Rattle.hcl_syntax.proofs.LabelLemmas.{labels_brace, labels_more}
-use Rattle.hcl_syntax.proofs.pieces.put_labels.Goals as goal
+use Rattle.hcl_syntax.proofs.segments.push_labels.Goals as goal
 
 pub returns-then-is_brace_open-clause-labels : goal.returns-then-is_brace_open-clause-labels
 returns-then-is_brace_open-clause-labels c =
@@ -26,7 +26,7 @@ loop-number-preserved c =
     let ts = c.args.tokens.now.tokens in
     let other = sym c.is_brace_open.ensures ∙ c.if-is_brace_open.false in
     record {
-      labels = labels_more ts c.args.from c.args.to c.args.items.now c.loop-number.items c.loop-number.number (lexeme c.get-token.result) c.put_label.new.items c.get-token.ensures.token
-          c.loop-number-test.true other c.in_ok-put_label.ensures c.loop-number.invariant.labels;
+      labels = labels_more ts c.args.from c.args.to c.args.items.now c.loop-number.items c.loop-number.number (lexeme c.get-token.result) c.push_label_at.new.items c.get-token.ensures.token
+          c.loop-number-test.true other c.in_ok-push_label_at.ensures c.loop-number.invariant.labels;
       after = sym (brace_past ts c.loop-number.number c.args.to (lexeme c.get-token.result) c.get-token.ensures.token c.loop-number-test.true other) ∙ c.loop-number.invariant.after;
     }

@@ -15,7 +15,7 @@ ghost use Rattle.hcl_tokens.specs.Balanced.{is_closer, is_opener};
 ghost use Rattle.hcl_tokens.specs.Lexemes.{Lexeme};
 ghost use Rattle.hcl_tokens.specs.Kinds.{is};
 ghost use Rattle.hcl_tokens.specs.declared.token.Kind.TheVariants.{Newline};
-ghost use Rattle.hcl_syntax.specs.Inner.Pieces.{AreEnds, AreNewlinesAhead};
+ghost use Rattle.hcl_syntax.specs.Inner.Segments.{AreEnds, AreNewlinesAhead};
 
 use hcl_tokens::{Kind, MAX_SOURCE, Nesting, Tokens};
 use std::alloc::{AllocError, Global};
