@@ -17,11 +17,11 @@ ghost use Rattle.hcl_scan.specs.Inner.Scanners.{state_of, IsSound, IsStart, IsNe
 use crate::expression::{Surroundings, next_in_expression};
 use crate::found::Found;
 use crate::heredoc::{closer_len, marker_line, marker_of};
-use crate::stack::{Opener, StackStorage, Stack};
+use crate::stack::{Opener, Stack, StackStorage};
 use crate::template::next_in_template;
 use crate::text::past_blanks;
 use hcl_source::FaultKind;
-use hcl_tokens::{TokenEntry, Kind};
+use hcl_tokens::{Kind, TokenEntry};
 use std::marker::Model;
 
 /// A fault and its offset.

@@ -5,7 +5,7 @@ ghost use Rattle.hcl_source.specs.Load.{max_source};
 ghost use Rattle.hcl_tokens.specs.declared.token.TokenEntry.{TokenEntry};
 ghost use Rattle.hcl_tokens.specs.Inner.StoredEntries.{entry_given};
 
-use crate::token::{TokenEntry, Kind};
+use crate::token::{Kind, TokenEntry};
 use std::alloc::{AllocError, Global};
 use std::marker::Model;
 

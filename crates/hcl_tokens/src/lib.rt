@@ -15,5 +15,5 @@ pub use hcl_source::{
     ByteSink, ByteSource, Failed, Fault, FaultKind, Flushes, FromRead, LoadError, MAX_SOURCE,
     MemorySink, MemorySource, Position, SINK_ROOM, Source, ToWrite, WriteFault, write_fully,
 };
-pub use token::{TokenEntry, Kind, Nesting, ScanError, Token};
+pub use token::{Kind, Nesting, ScanError, Token, TokenEntry};
 pub use tokens::{MAX_OPEN, Tokens};
