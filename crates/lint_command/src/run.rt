@@ -17,7 +17,7 @@ use crate::collect::{Collected, collect};
 use crate::options::{Job, LintOptions, options};
 use crate::usage::NUMBER;
 use crate::words::{say, tree_linter};
-use command_line::{Streams, write_pieces};
+use command_line::{Streams, write_parts};
 use file_tree::tree::Tree;
 use file_tree::walk::Found;
 use hcl_scan::{ByteSink, ByteSource, Failed};
@@ -231,7 +231,7 @@ fn tell_lost<E: ByteSink>(err: &mut E) -> u8
         (error_line tree_linter (codes "out of memory")) }
     ensures exit { result ≡ 1 }
 {
-    let _ = write_pieces(err, &[b"tfrules-all: error: out of memory\n"]);
+    let _ = write_parts(err, &[b"tfrules-all: error: out of memory\n"]);
     1
 }
 
@@ -253,7 +253,7 @@ fn close<O: ByteSink, E: ByteSink>(
     let Ok(text) = foot_of(alloc, status, ran, rest) else {
         return tell_lost(&mut streams.err);
     };
-    let _ = write_pieces(&mut streams.out, &[text.as_slice()]);
+    let _ = write_parts(&mut streams.out, &[text.as_slice()]);
     finish(rest, ran, &streams.out, &mut streams.err)
 }
 

@@ -8,7 +8,7 @@ ghost use Rattle.module_config.specs.Words.{bad_line, config_lines, configured_w
 use crate::config_file::{ConfigFile, ConfigText};
 use crate::configure::Configured;
 use crate::start::Start;
-use command_line::write_pieces;
+use command_line::write_parts;
 use file_tree::quote::write_quoted;
 use file_tree::walk::Found;
 use hcl_source::{ByteSink, Failed};
@@ -25,7 +25,7 @@ fn tell_line_words<S: ByteSink>(sink: &mut S, bad: &BadLine) -> Result<(), Faile
     let mut line = Buffer::new();
     let line = line.format(bad.line).as_bytes();
     let text = bad.text.as_bytes();
-    write_pieces(sink, &[b":", line, b": ", text, b"\n"])
+    write_parts(sink, &[b":", line, b": ", text, b"\n"])
 }
 
 /// Writes a name as it is shown, and the fault of a line of this file.
@@ -47,7 +47,7 @@ fn tell_line<S: ByteSink>(sink: &mut S, name: &[u8], bad: &BadLine) -> Result<()
     ensures took { Took (writer S.ByteSink sink.old sink.new) (bad_line name.now bad.now) }
     ensures failed { S.failed sink.new ≡ is_err result }
 {
-    if write_pieces(sink, &[b"tfrules-all: error: "]).is_err() {
+    if write_parts(sink, &[b"tfrules-all: error: "]).is_err() {
         return Err(Failed);
     }
     tell_named_line(sink, name, bad)
@@ -165,11 +165,11 @@ pub fn tell_unlinted<S: ByteSink>(sink: &mut S, count: usize) -> Result<(), Fail
         return Ok(());
     }
     if count == 1 {
-        return write_pieces(sink, &[b"1 module not linted: its options aren't known\n"]);
+        return write_parts(sink, &[b"1 module not linted: its options aren't known\n"]);
     }
     let mut number = Buffer::new();
     let number = number.format(count).as_bytes();
-    write_pieces(
+    write_parts(
         sink,
         &[number, b" modules not linted: their options aren't known\n"],
     )

@@ -7,11 +7,11 @@ ghost use Rattle.file_tree.specs.Quotes.{quoted};
 ghost use Rattle.file_tree.specs.Files.{Name};
 ghost use Rattle.tree_format.specs.Reports.{about, listed, refused_words, report_of, rights_words, snippet_text, worse};
 ghost use Rattle.tree_format.specs.declared.mode.Ending.TheVariants.{Line};
-ghost use Rattle.tree_format.specs.Inner.Pieces.{place_words};
+ghost use Rattle.tree_format.specs.Inner.Parts.{place_words};
 
 use crate::mode::{Ending, Mode};
 use crate::outcome::Outcome;
-use command_line::{Streams, write_pieces};
+use command_line::{Streams, write_parts};
 use file_tree::quote::write_quoted;
 use file_tree::tree::Replaced;
 use hcl_scan::{ByteSink, Failed, Fault};
@@ -27,7 +27,7 @@ fn write_named<S: ByteSink>(sink: &mut S, name: &[u8], pieces: &[&[u8]]) -> Resu
     if write_quoted(sink, name).is_err() {
         return Err(Failed);
     }
-    write_pieces(sink, pieces)
+    write_parts(sink, pieces)
 }
 
 /// Writes `NAME: TEXT`.
@@ -88,7 +88,7 @@ fn tell_refused<S: ByteSink>(
         return Err(Failed);
     }
     match snippet {
-        Some(text) => write_pieces(sink, &[text.as_slice()]),
+        Some(text) => write_parts(sink, &[text.as_slice()]),
         None => Ok(()),
     }
 }
@@ -101,7 +101,7 @@ fn tell_name<S: ByteSink>(sink: &mut S, ending: Ending, name: &[u8]) -> Result<(
 {
     match ending {
         Ending::Line => write_named(sink, name, &[b"\n"]),
-        Ending::Null => write_pieces(sink, &[name, b"\0"]),
+        Ending::Null => write_parts(sink, &[name, b"\0"]),
     }
 }
 
@@ -164,7 +164,7 @@ pub fn report<O: ByteSink, E: ByteSink>(
             Mode::List(ending) => tell_name(&mut streams.out, ending, name),
             Mode::Diff => tell_name(&mut streams.out, Ending::Line, name),
         },
-        Outcome::Differs(text) => write_pieces(&mut streams.out, &[text.as_slice()]),
+        Outcome::Differs(text) => write_parts(&mut streams.out, &[text.as_slice()]),
         Outcome::Refused(fault, snippet) => tell_refused(&mut streams.err, name, fault, snippet),
         Outcome::Failed(fault) => tell_about(&mut streams.err, name, fault.text()),
     }

@@ -7,7 +7,7 @@ ghost use Rattle.tree_format.specs.Inner.Counts.{CanGrow, tally_with};
 
 use crate::mode::Mode;
 use crate::outcome::Outcome;
-use command_line::write_pieces;
+use command_line::write_parts;
 use hcl_scan::{ByteSink, Failed};
 use itoa::Buffer;
 
@@ -99,7 +99,7 @@ fn tell_counts<S: ByteSink>(sink: &mut S, mode: Mode, tally: &Tally) -> Result<(
     let unchanged = unchanged.format(tally.unchanged).as_bytes();
     let word = files_word(tally.changed).as_bytes();
     let words = changed_words(mode).as_bytes();
-    write_pieces(sink, &[changed, word, words, unchanged, b" unchanged"])
+    write_parts(sink, &[changed, word, words, unchanged, b" unchanged"])
 }
 
 /// Writes `, N WORD`, or nothing where there are none.
@@ -113,7 +113,7 @@ fn tell_part<S: ByteSink>(sink: &mut S, count: u64, word: &'static str) -> Resul
     }
     let mut digits = Buffer::new();
     let digits = digits.format(count).as_bytes();
-    write_pieces(sink, &[b", ", digits, word.as_bytes()])
+    write_parts(sink, &[b", ", digits, word.as_bytes()])
 }
 
 /// Writes how many files were refused, and how many could not be looked at, where there are such.
@@ -140,7 +140,7 @@ fn tell_some<S: ByteSink>(sink: &mut S, mode: Mode, tally: &Tally) -> Result<(),
     if tell_faults(sink, tally).is_err() {
         return Err(Failed);
     }
-    write_pieces(sink, &[b"\n"])
+    write_parts(sink, &[b"\n"])
 }
 
 /// Writes the last line of a run.
@@ -150,7 +150,7 @@ pub fn tell_tally<S: ByteSink>(sink: &mut S, mode: Mode, tally: &Tally) -> Resul
     ensures failed { S.failed sink.new ≡ is_err result }
 {
     if is_empty(tally) {
-        return write_pieces(sink, &[b"no files found\n"]);
+        return write_parts(sink, &[b"no files found\n"]);
     }
     tell_some(sink, mode, tally)
 }

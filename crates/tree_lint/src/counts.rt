@@ -5,7 +5,7 @@ ghost use Rattle.command_line.specs.Rows.{Took, writer};
 ghost use Rattle.tree_lint.specs.Numbers.{counts_of, issues_word, issues_words, modules_word, modules_words, some_line, summary_line};
 ghost use Rattle.tree_lint.specs.Inner.Growth.{HasRoom, counts_with, one_if};
 
-use command_line::write_pieces;
+use command_line::write_parts;
 use hcl_scan::{ByteSink, Failed};
 use itoa::Buffer;
 
@@ -93,14 +93,14 @@ fn tell_issues<S: ByteSink>(sink: &mut S, counts: &Counts) -> Result<(), Failed>
     ensures failed { S.failed sink.new ≡ is_err result }
 {
     if counts.issues == 0 {
-        return write_pieces(sink, &[b"no issues in "]);
+        return write_parts(sink, &[b"no issues in "]);
     }
     let mut issues = Buffer::new();
     let mut reported = Buffer::new();
     let issues = issues.format(counts.issues).as_bytes();
     let reported = reported.format(counts.reported).as_bytes();
     let word = issues_word(counts.issues).as_bytes();
-    write_pieces(sink, &[issues, word, reported, b" of "])
+    write_parts(sink, &[issues, word, reported, b" of "])
 }
 
 /// Writes how many modules there are, and how many of them were refused, if there are such.
@@ -113,11 +113,11 @@ fn tell_modules<S: ByteSink>(sink: &mut S, counts: &Counts) -> Result<(), Failed
     let modules = modules.format(counts.modules).as_bytes();
     let word = modules_word(counts.modules).as_bytes();
     if counts.refused == 0 {
-        return write_pieces(sink, &[modules, word, b"\n"]);
+        return write_parts(sink, &[modules, word, b"\n"]);
     }
     let mut refused = Buffer::new();
     let refused = refused.format(counts.refused).as_bytes();
-    write_pieces(sink, &[modules, word, b", ", refused, b" refused\n"])
+    write_parts(sink, &[modules, word, b", ", refused, b" refused\n"])
 }
 
 /// Writes the last line of a run over some modules.
@@ -139,7 +139,7 @@ pub fn tell_summary<S: ByteSink>(sink: &mut S, counts: &Counts) -> Result<(), Fa
     ensures failed { S.failed sink.new ≡ is_err result }
 {
     if counts.modules == 0 {
-        return write_pieces(sink, &[b"no modules found\n"]);
+        return write_parts(sink, &[b"no modules found\n"]);
     }
     tell_some(sink, counts)
 }

@@ -7,7 +7,7 @@ ghost use Rattle.tree_lint.specs.Refusals.{named_words, refusal_line, refusal_of
 ghost use Rattle.tree_lint.specs.Faults.{fault_lines, refusal_by};
 ghost use Rattle.tree_lint.specs.Inner.Showing.{told_comment};
 
-use command_line::write_pieces;
+use command_line::write_parts;
 use comment_faults::CommentFault;
 use file_tree::fault::TreeFault;
 use file_tree::quote::write_quoted;
@@ -59,7 +59,7 @@ fn tell_place<'p, S: ByteSink>(
     let line = line.format(at.line).as_bytes();
     let column = column.format(at.column).as_bytes();
     let text = text.as_bytes();
-    write_pieces(
+    write_parts(
         sink,
         &[b":", line, b":", column, b": ", text, b"\n", snippet],
     )
@@ -79,7 +79,7 @@ fn tell_words<'p, S: ByteSink>(
 {
     match at {
         Some(at) => tell_place(sink, at, text, snippet),
-        None => write_pieces(sink, &[b": ", text.as_bytes(), b"\n", snippet]),
+        None => write_parts(sink, &[b": ", text.as_bytes(), b"\n", snippet]),
     }
 }
 
@@ -103,7 +103,7 @@ pub fn tell_refusal<S: ByteSink>(sink: &mut S, refusal: Refusal<'_>) -> Result<(
         (refusal_line (refusal_told refusal.entry)) }
     ensures failed { S.failed sink.new ≡ is_err result }
 {
-    if write_pieces(sink, &[b"tfrules-all: error: "]).is_err() {
+    if write_parts(sink, &[b"tfrules-all: error: "]).is_err() {
         return Err(Failed);
     }
     tell_named(sink, refusal)

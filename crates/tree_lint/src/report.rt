@@ -20,7 +20,7 @@ use crate::refusal::{Refusal, tell_comment, tell_refusal};
 use crate::run::Task;
 use crate::shown::Shown;
 use crate::terminal::show_lines;
-use command_line::{Streams, write_pieces};
+use command_line::{Streams, write_parts};
 use file_tree::path::place;
 use hcl_scan::{ByteSink, Failed, write_fully};
 use lint_forms::Form;
@@ -165,7 +165,7 @@ fn show_form<O: ByteSink>(
     ensures err { OnErr result (out.new ≡ out.old) }
 {
     let text = linted_text(alloc, form, is_after, one.files.as_slice(), linted)?;
-    let _ = write_pieces(out, &[text.as_slice()]);
+    let _ = write_parts(out, &[text.as_slice()]);
     Ok(())
 }
 

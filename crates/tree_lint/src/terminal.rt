@@ -7,7 +7,7 @@ ghost use Rattle.tfrules_command.specs.Report.{report_by};
 ghost use Rattle.tree_lint.specs.Runs.{shown_issue};
 
 use crate::module_lines::ModuleLines;
-use command_line::write_pieces;
+use command_line::write_parts;
 use hcl_scan::{ByteSink, Failed, Source};
 use tf_rules::{IssueList, ListedIssue};
 use tfrules_command::report::{show_count, show_issue};
@@ -30,7 +30,7 @@ fn show_with_line<O: ByteSink, N: ShownNames>(
     if show_issue(out, names, issue).is_err() {
         return Err(Failed);
     }
-    write_pieces(out, &[line.as_slice()])
+    write_parts(out, &[line.as_slice()])
 }
 
 /// Writes each of the issues.

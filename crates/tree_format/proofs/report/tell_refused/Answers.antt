@@ -7,4 +7,4 @@ use Rattle.tree_format.proofs.report.tell_refused.Goals as goal
 pub returns-in-Some-clause-took : goal.returns-in-Some-clause-took
 returns-in-Some-clause-took g c =
     took_after _ _ _ _ _ _ (all_taken _ _ _ _ (c.tell_fault.ensures.failed ∙ sym c.is_err.ensures.value ∙ c.if-is_err.false) c.tell_fault.ensures.took)
-    (subst (TookBy _ _ _) (append-nil _ ∙ c.as_slice.ensures.value ∙ sym (ap snippet_text c.in-Some.is)) c.write_pieces.ensures.took)
+    (subst (TookBy _ _ _) (append-nil _ ∙ c.as_slice.ensures.value ∙ sym (ap snippet_text c.in-Some.is)) c.write_parts.ensures.took)

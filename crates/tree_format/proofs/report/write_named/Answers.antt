@@ -7,4 +7,4 @@ returns-then-is_err-clause-took g c = took_front _ _ _ _ _ (c.write_quoted.ensur
 
 pub returns-clause-took : goal.returns-clause-took
 returns-clause-took g c =
-    took_after _ _ _ _ _ _ (all_taken _ _ _ _ (c.write_quoted.ensures.failed ∙ sym c.is_err.ensures.value ∙ c.if-is_err.false) c.write_quoted.ensures.took) c.write_pieces.ensures.took
+    took_after _ _ _ _ _ _ (all_taken _ _ _ _ (c.write_quoted.ensures.failed ∙ sym c.is_err.ensures.value ∙ c.if-is_err.false) c.write_quoted.ensures.took) c.write_parts.ensures.took

@@ -13,4 +13,4 @@ returns-then-is_err-2-clause-took g c =
 pub returns-clause-took : goal.returns-clause-took
 returns-clause-took g c =
     took_after _ _ _ _ _ _ (all_taken _ _ _ _ (c.tell_counts.ensures.failed ∙ sym c.is_err.ensures.value ∙ c.if-is_err.false) c.tell_counts.ensures.took)
-    (took_after _ _ _ _ _ _ (all_taken _ _ _ _ (c.tell_faults.ensures.failed ∙ sym c.is_err-2.ensures.value ∙ c.if-is_err-2.false) c.tell_faults.ensures.took) c.write_pieces.ensures.took)
+    (took_after _ _ _ _ _ _ (all_taken _ _ _ _ (c.tell_faults.ensures.failed ∙ sym c.is_err-2.ensures.value ∙ c.if-is_err-2.false) c.tell_faults.ensures.took) c.write_parts.ensures.took)

@@ -6,5 +6,5 @@ use Rattle.tree_lint.proofs.counts.tell_issues.Goals as goal
 
 pub returns-then-counts-eq0-clause-took : goal.returns-then-counts-eq0-clause-took
 returns-then-counts-eq0-clause-took g c =
-    subst (λ (text : List ℕ). TookBy (g.S.ByteSink.failed c.write_pieces.new.sink) (g.S.ByteSink.taken c.args.sink.now) (g.S.ByteSink.taken c.write_pieces.new.sink) text)
-    (sym (ap (λ (n : ℕ). if n == 0 then codes "no issues in " else decimal n ++ (issues_word n ++ (decimal c.args.counts.now.reported ++ codes " of "))) c.if-counts-eq0.true)) c.write_pieces.ensures.took
+    subst (λ (text : List ℕ). TookBy (g.S.ByteSink.failed c.write_parts.new.sink) (g.S.ByteSink.taken c.args.sink.now) (g.S.ByteSink.taken c.write_parts.new.sink) text)
+    (sym (ap (λ (n : ℕ). if n == 0 then codes "no issues in " else decimal n ++ (issues_word n ++ (decimal c.args.counts.now.reported ++ codes " of "))) c.if-counts-eq0.true)) c.write_parts.ensures.took

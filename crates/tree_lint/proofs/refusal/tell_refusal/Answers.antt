@@ -3,8 +3,8 @@ use Rattle.command_line.proofs.WriterLemmas.{all_taken, took_after, took_front}
 use Rattle.tree_lint.proofs.refusal.tell_refusal.Goals as goal
 
 pub returns-then-is_err-clause-took : goal.returns-then-is_err-clause-took
-returns-then-is_err-clause-took g c = took_front _ _ _ _ _ (c.write_pieces.ensures.failed ∙ sym c.is_err.ensures.value ∙ c.if-is_err.true) c.write_pieces.ensures.took
+returns-then-is_err-clause-took g c = took_front _ _ _ _ _ (c.write_parts.ensures.failed ∙ sym c.is_err.ensures.value ∙ c.if-is_err.true) c.write_parts.ensures.took
 
 pub returns-clause-took : goal.returns-clause-took
 returns-clause-took g c =
-    took_after _ _ _ _ _ _ (all_taken _ _ _ _ (c.write_pieces.ensures.failed ∙ sym c.is_err.ensures.value ∙ c.if-is_err.false) c.write_pieces.ensures.took) c.tell_named.ensures.took
+    took_after _ _ _ _ _ _ (all_taken _ _ _ _ (c.write_parts.ensures.failed ∙ sym c.is_err.ensures.value ∙ c.if-is_err.false) c.write_parts.ensures.took) c.tell_named.ensures.took

@@ -9,4 +9,4 @@ returns-then-is_err-clause-took g c = took_front _ _ _ _ _ (c.show_issue.ensures
 pub returns-clause-took : goal.returns-clause-took
 returns-clause-took g c =
     took_after _ _ _ _ _ _ (all_taken _ _ _ _ (c.show_issue.ensures.failed ∙ sym c.is_err.ensures.value ∙ c.if-is_err.false) c.show_issue.ensures.took)
-    (retold _ _ _ _ _ (append-nil c.as_slice.result.now ∙ c.as_slice.ensures.value ∙ c.snippet-line.ensures.snippet) c.write_pieces.ensures.took)
+    (retold _ _ _ _ _ (append-nil c.as_slice.result.now ∙ c.as_slice.ensures.value ∙ c.snippet-line.ensures.snippet) c.write_parts.ensures.took)

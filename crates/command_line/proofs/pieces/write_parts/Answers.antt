@@ -1,6 +1,6 @@
 use Rattle.std.proofs.Common.{refl}
 use Rattle.command_line.proofs.WriterLemmas.{goes_on, goes_wrong, piece_here, took_less}
-use Rattle.command_line.proofs.pieces.write_pieces.Goals as goal
+use Rattle.command_line.proofs.pieces.write_parts.Goals as goal
 
 pub returns-in-Err-clause-took : goal.returns-in-Err-clause-took
 returns-in-Err-clause-took g c =

@@ -1,7 +1,7 @@
 use Rattle.std.proofs.Common.{◌≡◌, false, drop, map}
 use Rattle.std.specs.List.{concat}
 use Rattle.command_line.proofs.WriterLemmas.{Goes}
-use Rattle.command_line.proofs.pieces.write_pieces.Given as goal
+use Rattle.command_line.proofs.pieces.write_parts.Given as goal
 
 -- what is taken of the rest from now on is taken of all from the start on
 abbrev pub invariant-loop-piece : goal.invariant-loop-piece
