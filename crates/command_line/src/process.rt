@@ -15,7 +15,7 @@ pub enum NoWords {
 }
 
 /// The arguments as a list. Not by `collect`, which goes on where a reservation was refused.
-fn listed(alloc: Global, arguments: env::Args) -> Result<Vec<String>, AllocError> {
+fn collect_words(alloc: Global, arguments: env::Args) -> Result<Vec<String>, AllocError> {
     let mut words = Vec::new(alloc);
     for argument in arguments {
         words.push(argument)?;
@@ -32,7 +32,7 @@ pub fn process_words(rt: &HostRuntime) -> Result<Vec<String>, NoWords> {
         }
         Err(_) => return Err(NoWords::NotGiven),
     };
-    match listed(rt.alloc(), arguments) {
+    match collect_words(rt.alloc(), arguments) {
         Ok(words) if !words.is_empty() => Ok(words),
         _ => Err(NoWords::NotGiven),
     }

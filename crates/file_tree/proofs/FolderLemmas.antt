@@ -1,7 +1,7 @@
 -- The files of one folder.
 use Rattle.std.proofs.Common.{◌≡◌, ◌⊎◌, ◌++◌, ◌∷◌, [], ℕ, suc, Bool, true, false, List, Option, Some, None, Contains, arith, inl, inr, refl, subst, sym}
 use Rattle.std.proofs.lemmas.List.Elements.{Contains-push_cases}
-use Rattle.file_tree.specs.Below.{IsEntry, IsFileFor, IsSpecial, Says, listed}
+use Rattle.file_tree.specs.Below.{IsEntry, IsFileFor, IsSpecial, Says, names_in_listing}
 use Rattle.file_tree.specs.Choices.{Chosen, whole}
 use Rattle.file_tree.specs.Files.{Files, Name}
 use Rattle.file_tree.specs.Finds.{IsEntryBy}
@@ -74,12 +74,12 @@ module _ (files : Files) (folder : Name) where
   in_kind Link name old new entry tells h before = in_link name (is_taken name) old new refl entry tells h before
   in_kind Other name old new entry tells h before = in_special name (is_taken name) old new sym entry (inl tells) h before
 
-  in_entry : (listing : List ℕ) (name : Name) (old new : Reached) → Tells (files.listing (place folder)) listing → Contains (listed listing) name → TakesEntry files whole folder name old new → In old → In new
+  in_entry : (listing : List ℕ) (name : Name) (old new : Reached) → Tells (files.listing (place folder)) listing → Contains (names_in_listing listing) name → TakesEntry files whole folder name old new → In old → In new
   in_entry listing name old new tells d (inl h) before = in_same old new h.1 before
   in_entry listing name old new tells d (inr (met, inl h)) before = in_report name h.0 old new (listing, tells, d, met) h.1 before
   in_entry listing name old new tells d (inr (met, inr h)) before = in_kind h.0 name old new (listing, tells, d, met) h.1 h.2 before
 
-  in_all : (listing : List ℕ) (names : List Name) (old new : Reached) → Tells (files.listing (place folder)) listing → ((name : Name) → Contains names name → Contains (listed listing) name)
+  in_all : (listing : List ℕ) (names : List Name) (old new : Reached) → Tells (files.listing (place folder)) listing → ((name : Name) → Contains names name → Contains (names_in_listing listing) name)
       → TakesAll files whole folder names old new → In old → In new
   in_all listing [] old new tells some h before = in_same old new h before
   in_all listing (name ∷ names) old new tells some h before =
@@ -90,7 +90,7 @@ module _ (files : Files) (folder : Name) where
 
   in_folder : (old new : Reached) → TakesFolder files whole folder old new → In old → In new
   in_folder old new (inl h) before = in_adds (place folder) (Some h.0) None old new h.1 (inl refl) before
-  in_folder old new (inr h) before = in_all h.0 (listed h.0) old new h.1 (λ n d. d) h.2 before
+  in_folder old new (inr h) before = in_all h.0 (names_in_listing h.0) old new h.1 (λ n d. d) h.2 before
 
   -- none is passed over
   pub finds_in : (old new : Reached) (ordered : List Found) → TakesFolder files whole folder old new → old.found ≡ [] → Orders new.found ordered → FindsIn files folder ordered

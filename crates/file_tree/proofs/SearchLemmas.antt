@@ -3,7 +3,7 @@ use Rattle.std.proofs.Common.{◌≡◌, ◌∙◌, ◌⊎◌, ◌++◌, ◌∷�
 use Rattle.std.specs.Prelude.{◌&&◌}
 use Rattle.std.proofs.lemmas.Grind.{flat_map-append}
 use Rattle.std.proofs.lemmas.List.Elements.{Contains-append_cases, Contains-append_left, Contains-append_right, Contains-push, Contains-push_cases}
-use Rattle.file_tree.specs.Below.{listed}
+use Rattle.file_tree.specs.Below.{names_in_listing}
 use Rattle.file_tree.specs.Choices.{Chosen, any, whole}
 use Rattle.file_tree.specs.Files.{Faults, Files, Name}
 use Rattle.file_tree.specs.Finds.{AreReal, Finds}
@@ -86,7 +86,7 @@ module _ (found : List Found) (folders : List Name) where
 
   after_folder : (files : Files) (chosen : Chosen) (folder : Name) (old new : Reached) → TakesFolder files chosen folder old new → TakesFolder files chosen folder (after old) (after new)
   after_folder files chosen folder old new (inl h) = inl (h.0, after_adds (place folder) (Some h.0) None old new h.1)
-  after_folder files chosen folder old new (inr h) = inr (h.0, h.1, after_all files chosen folder (listed h.0) old new h.2)
+  after_folder files chosen folder old new (inr h) = inr (h.0, h.1, after_all files chosen folder (names_in_listing h.0) old new h.2)
 
 -- ---- another folder
 
@@ -170,7 +170,7 @@ whole_all files folder (name ∷ names) old new h = (h.0, h.1, whole_all files f
 
 whole_folder : (files : Files) (folder : Name) (old new : Reached) → TakesFolder files any folder old new → TakesFolder files whole folder old new
 whole_folder files folder old new (inl h) = inl h
-whole_folder files folder old new (inr h) = inr (h.0, h.1, whole_all files folder (listed h.0) old new h.2)
+whole_folder files folder old new (inr h) = inr (h.0, h.1, whole_all files folder (names_in_listing h.0) old new h.2)
 
 -- ---- each folder in order
 

@@ -3,13 +3,13 @@ use Rattle.std.proofs.Common.{◌≡◌, ◌≢◌, ◌∙◌, ◌<◌, ◌+◌,
 use Rattle.std.specs.Prelude.{◌&&◌, IfOk}
 use Rattle.std.proofs.lemmas.List.{map-append, map_more}
 use Rattle.std.proofs.lemmas.List.Elements.{Contains-append_left, Contains-push, Contains-push_cases}
-use Rattle.file_tree.specs.Below.{HasFile, HasFolder, IsBelow, IsEntry, IsFileFor, IsNamed, IsOther, IsSpecial, Leads, Says, is_met, listed}
+use Rattle.file_tree.specs.Below.{HasFile, HasFolder, IsBelow, IsEntry, IsFileFor, IsNamed, IsOther, IsSpecial, Leads, Says, is_met, names_in_listing}
 use Rattle.file_tree.specs.Choices.{Chosen, is_excluded, is_wanted}
 use Rattle.file_tree.specs.Files.{Files, Name, identity_of, is_link}
 use Rattle.hcl_source.specs.Devices.{Tells}
 use Rattle.file_tree.specs.Finds.{Accounts, Finds, IsEntryBy, IsFolderOf, IsOf, IsOfBy}
 use Rattle.file_tree.specs.Names.{is_taken}
-use Rattle.file_tree.specs.Paths.{inside, place, reported, tidied, top, within}
+use Rattle.file_tree.specs.Paths.{inside, place, report_name, tidied, top, within}
 use Rattle.file_tree.specs.Inner.Walking.{Adds, Covers, Enters, IsFault, Reached, TakesAll, TakesAsked, TakesEntry, TakesFolder, TakesGiven, TakesIf, TakesKind, TakesKindGiven, TakesLink, TakesLinked, TakesNamed, TakesNamedFile, TakesSpecial, TakesWanted, Walked, file_by}
 use Rattle.file_tree.specs.Ordered.{HasName, IsFound, Orders}
 use Rattle.file_tree.specs.declared.fault.TreeFault.{TreeFault}
@@ -79,10 +79,10 @@ grows_all files chosen folder (name ∷ names) old new h = grows_then old h.0 ne
 
 grows_folder : (files : Files) (chosen : Chosen) (folder : Name) (old new : Reached) → TakesFolder files chosen folder old new → Grows old new
 grows_folder files chosen folder old new (inl h) = grows_adds (place folder) (Some h.0) _ old new h.1
-grows_folder files chosen folder old new (inr h) = grows_all files chosen folder (listed h.0) old new h.2
+grows_folder files chosen folder old new (inr h) = grows_all files chosen folder (names_in_listing h.0) old new h.2
 
 grows_file : (files : Files) (identity : Identity) (path : Name) (old new : Reached) → TakesNamedFile files identity path old new → Grows old new
-grows_file files identity path old new (inl h) = grows_adds (reported path) (Some h.0) None old new h.1
+grows_file files identity path old new (inl h) = grows_adds (report_name path) (Some h.0) None old new h.1
 grows_file files identity path old new (inr h) = grows_adds (tidied path) None _ old new h.2
 
 grows_wanted : (kind : Kind) (files : Files) (path : Name) (old new : Reached) → TakesWanted kind files path old new → Grows old new
@@ -103,7 +103,7 @@ grows_kind_given files chosen Other path old new h = grows_named (is_wanted chos
 
 grows_given : (files : Files) (chosen : Chosen) (path : Name) (old new : Reached) → TakesGiven files chosen path old new → Grows old new
 grows_given files chosen path old new (inl h) = grows_same old new h.1
-grows_given files chosen path old new (inr (_, inl h)) = grows_adds (reported path) (Some h.0) _ old new h.1
+grows_given files chosen path old new (inr (_, inl h)) = grows_adds (report_name path) (Some h.0) _ old new h.1
 grows_given files chosen path old new (inr (_, inr h)) = grows_kind_given files chosen h.0 path old new h.2
 
 module _ (old new : Reached) (grows : Grows old new) where
@@ -245,8 +245,8 @@ pub file_looked : (files : Files) (chosen : Chosen) (folder last : Name) (old ne
 file_looked files chosen folder last old new (inl h) has = inl (fault_added (place folder) h.0 old new h.1)
 file_looked files chosen folder last old new (inr h) has =
     let same : has.0.0 ≡ h.0 = told_some (files.listing (place folder)) has.0.0 h.0 has.0.1 h.1 in
-    let within : Contains (listed h.0) last = subst (λ l. Contains (listed l) last) same has.0.2 in
-    inr (all_file files chosen folder (listed h.0) last old new h.2 within has.0.3 has.1 has.2)
+    let within : Contains (names_in_listing h.0) last = subst (λ l. Contains (names_in_listing l) last) same has.0.2 in
+    inr (all_file files chosen folder (names_in_listing h.0) last old new h.2 within has.0.3 has.1 has.2)
 
 file_met : (files : Files) (chosen : Chosen) (folder last : Name) (old new : Reached) → TakesFolder files chosen folder old new → HasFile true files chosen folder last → Covers new folder [] last
 file_met files chosen folder last old new takes has = inr (file_looked files chosen folder last old new takes has)
@@ -256,8 +256,8 @@ folder_met : (files : Files) (chosen : Chosen) (folder part : Name) (parts : Lis
 folder_met files chosen folder part parts last old new (inl h) has = inr (inl (fault_added (place folder) h.0 old new h.1))
 folder_met files chosen folder part parts last old new (inr h) has =
     let same : has.0.0 ≡ h.0 = told_some (files.listing (place folder)) has.0.0 h.0 has.0.1 h.1 in
-    let within : Contains (listed h.0) part = subst (λ l. Contains (listed l) part) same has.0.2 in
-    turn (all_folder files chosen folder (listed h.0) part old new h.2 within has.0.3 has.1)
+    let within : Contains (names_in_listing h.0) part = subst (λ l. Contains (names_in_listing l) part) same has.0.2 in
+    turn (all_folder files chosen folder (names_in_listing h.0) part old new h.2 within has.0.3 has.1)
   where
     turn : Contains new.folders (inside folder part) ⊎ IsFault new.found (folder ++ part) → Covers new folder (part ∷ parts) last
     turn (inl c) = inr (inr (inr (covers_at new (inside folder part) parts last c)))
@@ -379,14 +379,14 @@ module _ (files : Files) (chosen : Chosen) (paths : List Name) (path : Name) (c 
   sound_kind Link name old new entry tells h sound = sound_link name (is_taken name) old new refl entry tells h sound
   sound_kind Other name old new entry tells h sound = sound_special name (chosen.specials && is_taken name) chosen.specials old new refl refl entry (inl tells) h sound
 
-  sound_entry : (listing : List ℕ) (name : Name) (old new : Reached) → Tells (files.listing (place (within (top path) parts))) listing → Contains (listed listing) name
+  sound_entry : (listing : List ℕ) (name : Name) (old new : Reached) → Tells (files.listing (place (within (top path) parts))) listing → Contains (names_in_listing listing) name
       → TakesEntry files chosen (within (top path) parts) name old new → Sound files chosen paths old → Sound files chosen paths new
   sound_entry listing name old new tells d (inl h) sound = sound_same files chosen paths old new h.1 sound
   sound_entry listing name old new tells d (inr (met, inl h)) sound = sound_report name h.0 old new (listing, tells, d, met) h.1 sound
   sound_entry listing name old new tells d (inr (met, inr h)) sound = sound_kind h.0 name old new (listing, tells, d, met) h.1 h.2 sound
 
   sound_all : (listing : List ℕ) (names : List Name) (old new : Reached) → Tells (files.listing (place (within (top path) parts))) listing
-      → ((name : Name) → Contains names name → Contains (listed listing) name) → TakesAll files chosen (within (top path) parts) names old new → Sound files chosen paths old → Sound files chosen paths new
+      → ((name : Name) → Contains names name → Contains (names_in_listing listing) name) → TakesAll files chosen (within (top path) parts) names old new → Sound files chosen paths old → Sound files chosen paths new
   sound_all listing [] old new tells some h sound = sound_same files chosen paths old new h sound
   sound_all listing (name ∷ names) old new tells some h sound =
       sound_all listing names h.0 new tells (λ n d. some n (later n d)) h.2
@@ -398,7 +398,7 @@ module _ (files : Files) (chosen : Chosen) (paths : List Name) (path : Name) (c 
   sound_within : (old new : Reached) → TakesFolder files chosen (within (top path) parts) old new → Sound files chosen paths old → Sound files chosen paths new
   sound_within old new (inl h) sound =
       sound_adds files chosen paths path (place (within (top path) parts)) (Some h.0) None old new h.1 c (inl (inr (within (top path) parts, (parts, is, leads, refl, allowed), inl refl)), refl) sound
-  sound_within old new (inr h) sound = sound_all h.0 (listed h.0) old new h.1 (λ n d. d) h.2 sound
+  sound_within old new (inr h) sound = sound_all h.0 (names_in_listing h.0) old new h.1 (λ n d. d) h.2 sound
 
 sound_folder : (files : Files) (chosen : Chosen) (paths : List Name) (folder : Name) (old new : Reached) → Deep files chosen paths folder → TakesFolder files chosen folder old new → Sound files chosen paths old → Sound files chosen paths new
 sound_folder files chosen paths folder old new deep takes sound =
@@ -417,10 +417,10 @@ pub walked_folder : (files : Files) (chosen : Chosen) (paths : List Name) (folde
 walked_folder files chosen paths folder old new walked takes = record {
   real = sound.0;
   deeper = sound.1;
-  given = λ path c is. either (found_stays old new grows (tidied path)) (fault_stays old new grows (reported path)) (walked.given path c is);
-  other = λ path c is. either (fault_stays old new grows (tidied path)) (fault_stays old new grows (reported path)) (walked.other path c is);
+  given = λ path c is. either (found_stays old new grows (tidied path)) (fault_stays old new grows (report_name path)) (walked.given path c is);
+  other = λ path c is. either (fault_stays old new grows (tidied path)) (fault_stays old new grows (report_name path)) (walked.other path c is);
   below = λ path parts last c is.
-      either (fault_stays old new grows (reported path)) (covers_step files chosen folder old new takes (top path) parts last is.1 is.2) (walked.below path parts last c is);
+      either (fault_stays old new grows (report_name path)) (covers_step files chosen folder old new takes (top path) parts last is.1 is.2) (walked.below path parts last c is);
 }
   where
     grows : Grows old new
@@ -444,7 +444,7 @@ of_more files chosen paths path f h = (h.0, Contains-append_left paths (path ∷
 module _ (files : Files) (chosen : Chosen) (paths : List Name) (path : Name) (c : Contains paths path) (allowed : is_excluded chosen (tidied path) ≡ false) where
   sound_file : (identity : Identity) (old new : Reached) → Says false (files.kind path) (File identity) → is_wanted chosen (tidied path) ≡ true → TakesNamedFile files identity path old new
       → Sound files chosen paths old → Sound files chosen paths new
-  sound_file identity old new tells is (inl h) sound = sound_adds files chosen paths path (reported path) (Some h.0) None old new h.1 c (inl (inl (refl, allowed)), refl) sound
+  sound_file identity old new tells is (inl h) sound = sound_adds files chosen paths path (report_name path) (Some h.0) None old new h.1 c (inl (inl (refl, allowed)), refl) sound
   sound_file identity old new tells is (inr h) sound =
       sound_adds files chosen paths path (tidied path) None (Some (file_by (is_link h.0) identity)) old new h.2 c
       (inl (((File identity, tells, λ e. cc), is, allowed), refl, (tells, (h.0, h.1, refl)))) sound
@@ -473,7 +473,7 @@ module _ (files : Files) (chosen : Chosen) (paths : List Name) (path : Name) (c 
 
 sound_given : (files : Files) (chosen : Chosen) (paths : List Name) (path : Name) (c : Contains paths path) (old new : Reached) → TakesGiven files chosen path old new → Sound files chosen paths old → Sound files chosen paths new
 sound_given files chosen paths path c old new (inl h) sound = sound_same files chosen paths old new h.1 sound
-sound_given files chosen paths path c old new (inr (allowed, inl h)) sound = sound_adds files chosen paths path (reported path) (Some h.0) None old new h.1 c (inl (inl (refl, allowed)), refl) sound
+sound_given files chosen paths path c old new (inr (allowed, inl h)) sound = sound_adds files chosen paths path (report_name path) (Some h.0) None old new h.1 c (inl (inl (refl, allowed)), refl) sound
 sound_given files chosen paths path c old new (inr (allowed, inr h)) sound = sound_kind_given files chosen paths path c allowed h.0 old new h.1 h.2 sound
 
 -- the effect of a path that isn't excluded
@@ -481,17 +481,17 @@ asked_given : (files : Files) (chosen : Chosen) (path : Name) (old new : Reached
 asked_given files chosen path old new (inl h) allowed = absurd (true≢false (sym h.0 ∙ allowed))
 asked_given files chosen path old new (inr h) allowed = h.1
 
-file_told : (files : Files) (identity : Identity) (path : Name) (old new : Reached) → TakesNamedFile files identity path old new → IsFound new.found (tidied path) ⊎ IsFault new.found (reported path)
-file_told files identity path old new (inl h) = inr (fault_added (reported path) h.0 old new h.1)
+file_told : (files : Files) (identity : Identity) (path : Name) (old new : Reached) → TakesNamedFile files identity path old new → IsFound new.found (tidied path) ⊎ IsFault new.found (report_name path)
+file_told files identity path old new (inl h) = inr (fault_added (report_name path) h.0 old new h.1)
 file_told files identity path old new (inr h) = inl (found_added (tidied path) _ old new h.2)
 
-wanted_told : (kind : Kind) (files : Files) (path : Name) (old new : Reached) → TakesWanted kind files path old new → IsFound new.found (tidied path) ⊎ IsFault new.found (reported path)
+wanted_told : (kind : Kind) (files : Files) (path : Name) (old new : Reached) → TakesWanted kind files path old new → IsFound new.found (tidied path) ⊎ IsFault new.found (report_name path)
 wanted_told Folder files path old new h = inl (found_added (tidied path) None old new h)
 wanted_told (File identity) files path old new h = file_told files identity path old new h
 wanted_told Link files path old new h = inl (found_added (tidied path) None old new h)
 wanted_told Other files path old new h = inl (found_added (tidied path) None old new h)
 
-named_found : (v : Bool) (kind : Kind) (files : Files) (path : Name) (old new : Reached) → v ≡ true → TakesNamed v kind files path old new → IsFound new.found (tidied path) ⊎ IsFault new.found (reported path)
+named_found : (v : Bool) (kind : Kind) (files : Files) (path : Name) (old new : Reached) → v ≡ true → TakesNamed v kind files path old new → IsFound new.found (tidied path) ⊎ IsFault new.found (report_name path)
 named_found true kind files path old new e h = wanted_told kind files path old new h
 named_found false kind files path old new e h = absurd (true≢false (sym e))
 
@@ -505,20 +505,20 @@ named_kind files chosen (File identity) path old new ne h = h
 named_kind files chosen Link path old new ne h = h
 named_kind files chosen Other path old new ne h = h
 
-given_itself : (files : Files) (chosen : Chosen) (path : Name) (old new : Reached) → TakesAsked files chosen path old new → IsNamed true files chosen path → IsFound new.found (tidied path) ⊎ IsFault new.found (reported path)
-given_itself files chosen path old new (inl h) is = inr (fault_added (reported path) h.0 old new h.1)
+given_itself : (files : Files) (chosen : Chosen) (path : Name) (old new : Reached) → TakesAsked files chosen path old new → IsNamed true files chosen path → IsFound new.found (tidied path) ⊎ IsFault new.found (report_name path)
+given_itself files chosen path old new (inl h) is = inr (fault_added (report_name path) h.0 old new h.1)
 given_itself files chosen path old new (inr h) is =
     named_found _ h.0 files path old new is.1
     (named_kind files chosen h.0 path old new (subst (λ k. k ≢ Folder) (told_some (files.kind path) is.0.0 h.0 is.0.1 h.1) is.0.2) h.2)
 
-given_other : (files : Files) (chosen : Chosen) (path : Name) (old new : Reached) → TakesAsked files chosen path old new → IsOther true files chosen path → IsFault new.found (tidied path) ⊎ IsFault new.found (reported path)
-given_other files chosen path old new (inl h) is = inr (fault_added (reported path) h.0 old new h.1)
+given_other : (files : Files) (chosen : Chosen) (path : Name) (old new : Reached) → TakesAsked files chosen path old new → IsOther true files chosen path → IsFault new.found (tidied path) ⊎ IsFault new.found (report_name path)
+given_other files chosen path old new (inl h) is = inr (fault_added (report_name path) h.0 old new h.1)
 given_other files chosen path old new (inr h) is =
     inl (named_told _ h.0 files path old new is.1
     (named_kind files chosen h.0 path old new (subst (λ k. k ≢ Folder) (told_some (files.kind path) is.0.0 h.0 is.0.1 h.1) is.0.2) h.2))
 
-given_folder : (files : Files) (chosen : Chosen) (path : Name) (old new : Reached) → TakesAsked files chosen path old new → files.kind path ≡ Some Folder → IsFault new.found (reported path) ⊎ Contains new.folders (top path)
-given_folder files chosen path old new (inl h) is = inl (fault_added (reported path) h.0 old new h.1)
+given_folder : (files : Files) (chosen : Chosen) (path : Name) (old new : Reached) → TakesAsked files chosen path old new → files.kind path ≡ Some Folder → IsFault new.found (report_name path) ⊎ Contains new.folders (top path)
+given_folder files chosen path old new (inl h) is = inl (fault_added (report_name path) h.0 old new h.1)
 given_folder files chosen path old new (inr h) is =
     inr (folder_added (top path) old new (subst (λ k. TakesKindGiven files chosen k path old new) (sym (told_some (files.kind path) Folder h.0 is h.1)) h.2))
 
@@ -543,18 +543,18 @@ walked_given files chosen paths path old new walked takes = record {
     taken : (other : Name) → path ≡ other → is_excluded chosen (tidied other) ≡ false → TakesAsked files chosen other old new
     taken other e allowed = asked_given files chosen other old new (subst (λ p. TakesGiven files chosen p old new) e takes) allowed
 
-    itself : (other : Name) → IsNamed true files chosen other → Contains paths other ⊎ (path ≡ other) → IsFound new.found (tidied other) ⊎ IsFault new.found (reported other)
-    itself other is (inl c) = either (found_stays old new grows (tidied other)) (fault_stays old new grows (reported other)) (walked.given other c is)
+    itself : (other : Name) → IsNamed true files chosen other → Contains paths other ⊎ (path ≡ other) → IsFound new.found (tidied other) ⊎ IsFault new.found (report_name other)
+    itself other is (inl c) = either (found_stays old new grows (tidied other)) (fault_stays old new grows (report_name other)) (walked.given other c is)
     itself other is (inr e) = given_itself files chosen other old new (taken other e is.2) is
 
-    told : (other : Name) → IsOther true files chosen other → Contains paths other ⊎ (path ≡ other) → IsFault new.found (tidied other) ⊎ IsFault new.found (reported other)
-    told other is (inl c) = either (fault_stays old new grows (tidied other)) (fault_stays old new grows (reported other)) (walked.other other c is)
+    told : (other : Name) → IsOther true files chosen other → Contains paths other ⊎ (path ≡ other) → IsFault new.found (tidied other) ⊎ IsFault new.found (report_name other)
+    told other is (inl c) = either (fault_stays old new grows (tidied other)) (fault_stays old new grows (report_name other)) (walked.other other c is)
     told other is (inr e) = given_other files chosen other old new (taken other e is.2) is
 
     down : (other : Name) (parts : List Name) (last : Name) → IsBelow true files chosen other parts last → Contains paths other ⊎ (path ≡ other)
-        → IsFault new.found (reported other) ⊎ Covers new (top other) parts last
+        → IsFault new.found (report_name other) ⊎ Covers new (top other) parts last
     down other parts last is (inl c) =
-        either (fault_stays old new grows (reported other)) (covers_stays old new grows (top other) parts last) (walked.below other parts last c is)
+        either (fault_stays old new grows (report_name other)) (covers_stays old new grows (top other) parts last) (walked.below other parts last c is)
     down other parts last is (inr e) =
         either (λ f. f) (covers_at new (top other) parts last) (given_folder files chosen other old new (taken other e is.3) is.0)
 
@@ -587,9 +587,9 @@ module _ (files : Files) (chosen : Chosen) (paths : List Name) (found ordered : 
   finds_from = record {
     rises = o.rises;
     real = λ f c. walked.real f (o.only f c);
-    given = λ path c is. either (o.kept (tidied path)) (told_fault (reported path)) (walked.given path c is);
-    other = λ path c is. either (told_fault (tidied path)) (told_fault (reported path)) (walked.other path c is);
-    below = λ path parts last c is. either (told_fault (reported path)) (accounts_from (top path) parts last) (walked.below path parts last c is);
+    given = λ path c is. either (o.kept (tidied path)) (told_fault (report_name path)) (walked.given path c is);
+    other = λ path c is. either (told_fault (tidied path)) (told_fault (report_name path)) (walked.other path c is);
+    below = λ path parts last c is. either (told_fault (report_name path)) (accounts_from (top path) parts last) (walked.below path parts last c is);
   }
 
 -- ---- in the code's terms

@@ -16,8 +16,8 @@ Says true told x = told ≡ Some x
 Says false told x = Tells told x
 
 -- the names that a listing has, each ended by NUL
-abbrev pub listed : List ℕ → List Name
-listed listing = slice_split (λ b. b == 0) listing
+abbrev pub names_in_listing : List ℕ → List Name
+names_in_listing listing = slice_split (λ b. b == 0) listing
 
 -- a name that is looked at if the walk meets it in a folder
 abbrev pub is_met : Chosen → Name → Name → Bool
@@ -25,7 +25,7 @@ is_met chosen folder name = not (length name == 0) && not (is_passed_over name) 
 
 -- a folder has this name, and the name is one to be looked at
 abbrev pub IsEntry : Bool → Files → Chosen → Name → Name → Type 0
-IsEntry sure files chosen folder name = (listing : List ℕ) × Says sure (files.listing (place folder)) listing × Contains (listed listing) name × (is_met chosen folder name ≡ true)
+IsEntry sure files chosen folder name = (listing : List ℕ) × Says sure (files.listing (place folder)) listing × Contains (names_in_listing listing) name × (is_met chosen folder name ≡ true)
 
 -- a folder has a folder of this name
 abbrev pub HasFolder : Bool → Files → Chosen → Name → Name → Type 0

@@ -2,11 +2,11 @@
 use Rattle.std.specs.Prelude.{◌≡◌, ℕ, refl, true, false, List, [], ◌∷◌, ◌++◌, Option, Some, None, codes, if◌then◌else◌}
 use Rattle.std.specs.Str.{bytes_eq}
 use Rattle.std.proofs.Common.{inl, inr, lit<}
-use Rattle.file_tree.specs.Below.{HasFile, HasFolder, IsBelow, is_met, listed}
+use Rattle.file_tree.specs.Below.{HasFile, HasFolder, IsBelow, is_met, names_in_listing}
 use Rattle.file_tree.specs.Choices.{Chosen, chosen_by, is_excluded, is_wanted, whole}
 use Rattle.file_tree.specs.Files.{Files, Name}
 use Rattle.file_tree.specs.Names.{is_taken}
-use Rattle.file_tree.specs.Paths.{place, reported, tidied, top, within}
+use Rattle.file_tree.specs.Paths.{place, report_name, tidied, top, within}
 use Rattle.file_tree.specs.declared.kind.Identity.{Identity}
 use Rattle.file_tree.specs.declared.kind.Kind.{Kind}
 use Rattle.file_tree.specs.declared.kind.Kind.TheVariants.{File, Folder, Other}
@@ -39,10 +39,10 @@ root_folder : top (codes "/") ≡ codes "/"
 root_folder = refl
 
 -- the name under which a path is reported
-as_a_folder : reported (codes "./a/b/") ≡ codes "a/b/"
+as_a_folder : report_name (codes "./a/b/") ≡ codes "a/b/"
 as_a_folder = refl
 
-nothing_left : reported (codes "./") ≡ codes "./"
+nothing_left : report_name (codes "./") ≡ codes "./"
 nothing_left = refl
 
 -- parts of a name that lead down
@@ -57,7 +57,7 @@ listed_there = refl
 
 -- ---- names in folders
 
-two_names : listed (97 ∷ 0 ∷ 98 ∷ 99 ∷ 0 ∷ []) ≡ codes "a" ∷ codes "bc" ∷ [] ∷ []
+two_names : names_in_listing (97 ∷ 0 ∷ 98 ∷ 99 ∷ 0 ∷ []) ≡ codes "a" ∷ codes "bc" ∷ [] ∷ []
 two_names = refl
 
 -- nothing is excluded

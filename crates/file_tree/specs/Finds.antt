@@ -5,7 +5,7 @@ use Rattle.file_tree.specs.Below.{IsBelow, IsEntry, IsNamed, IsOther, IsSpecial,
 use Rattle.file_tree.specs.Choices.{Chosen, is_excluded}
 use Rattle.file_tree.specs.Files.{Faults, Files, Name, identity_of, is_link, with_faults}
 use Rattle.file_tree.specs.Ordered.{HasName, IsFound, Rises}
-use Rattle.file_tree.specs.Paths.{inside, place, reported, tidied, top, within}
+use Rattle.file_tree.specs.Paths.{inside, place, report_name, tidied, top, within}
 use Rattle.file_tree.specs.declared.fault.TreeFault.{TreeFault}
 use Rattle.file_tree.specs.declared.fault.TreeFault.TheVariants.{OtherKind}
 use Rattle.file_tree.specs.declared.kind.Identity.{Identity}
@@ -46,7 +46,7 @@ IsFileOf files chosen path name file =
 -- a reported name: that of the path, of its folder or of one below, or of an entry there
 abbrev pub IsReportOf : Files → Chosen → Name → Name → Type 0
 IsReportOf files chosen path name =
-    ((name ≡ reported path) × (is_excluded chosen (tidied path) ≡ false))
+    ((name ≡ report_name path) × (is_excluded chosen (tidied path) ≡ false))
     ⊎ ((folder : Name) × IsFolderOf files chosen path folder × ((name ≡ place folder) ⊎ ((last : Name) × IsEntry false files chosen folder last × (name ≡ folder ++ last))))
 
 -- a file reported because its name isn't of a kind that is taken: that of the path
@@ -76,10 +76,10 @@ Accounts told folder (part ∷ parts) last = told (place folder) ⊎ (told (fold
 pub record Finds (files : Files) (chosen : Chosen) (paths : List Name) (found : List Found) : Type 0 where
   pub rises : Rises found
   pub real : (f : Found) → Contains found f → IsOf files chosen paths f
-  pub given : (path : Name) → Contains paths path → IsNamed true files chosen path → IsFound found (tidied path) ⊎ HasName found (reported path)
-  pub other : (path : Name) → Contains paths path → IsOther true files chosen path → HasName found (tidied path) ⊎ HasName found (reported path)
+  pub given : (path : Name) → Contains paths path → IsNamed true files chosen path → IsFound found (tidied path) ⊎ HasName found (report_name path)
+  pub other : (path : Name) → Contains paths path → IsOther true files chosen path → HasName found (tidied path) ⊎ HasName found (report_name path)
   pub below : (path : Name) (parts : List Name) (last : Name) → Contains paths path → IsBelow true files chosen path parts last
-      → HasName found (reported path) ⊎ Accounts (HasName found) (top path) parts last
+      → HasName found (report_name path) ⊎ Accounts (HasName found) (top path) parts last
 
 -- ---- reported only after a failed call, or for its name
 

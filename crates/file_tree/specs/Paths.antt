@@ -28,8 +28,8 @@ top path = if length (tidied path) == 0 || bytes_eq (tidied path) (codes "/") th
 
 -- the name under which a path is reported that can't be looked at: tidied, unless nothing is left of it. A `/` at its
 -- end stays: `file/` isn't `file`
-abbrev pub reported : Name → Name
-reported path = if length (tidied path) == 0 then path else tidied path ++ (if ends (codes "/") path then codes "/" else [])
+abbrev pub report_name : Name → Name
+report_name path = if length (tidied path) == 0 then path else tidied path ++ (if ends (codes "/") path then codes "/" else [])
 
 -- ---- folders below
 

@@ -2,9 +2,9 @@
 
 ghost use Rattle.std.specs.Prelude.{◌≡◌, ◌&&◌, ◌==◌, ◌++◌, ◌||◌, IfOk, length, map};
 ghost use Rattle.std.specs.Str.{bytes_eq};
-ghost use Rattle.file_tree.specs.Below.{listed};
+ghost use Rattle.file_tree.specs.Below.{names_in_listing};
 ghost use Rattle.file_tree.specs.Inner.Steps.{added, gap};
-ghost use Rattle.file_tree.specs.Paths.{is_step, place, reported, root, tidied, top};
+ghost use Rattle.file_tree.specs.Paths.{is_step, place, report_name, root, tidied, top};
 
 use std::alloc::{AllocError, Global};
 
@@ -13,7 +13,7 @@ static SLASH: &[u8] = b"/";
 static NOTHING: &[u8] = b"";
 
 /// One text and then the other.
-pub fn joined(alloc: Global, front: &[u8], back: &[u8]) -> Result<Vec<u8>, AllocError>
+pub fn join(alloc: Global, front: &[u8], back: &[u8]) -> Result<Vec<u8>, AllocError>
     ensures { IfOk result (λ all. all.items ≡ front.now ++ back.now) }
 {
     let mut all = Vec::new(alloc);
@@ -24,7 +24,7 @@ pub fn joined(alloc: Global, front: &[u8], back: &[u8]) -> Result<Vec<u8>, Alloc
 
 /// The names between the NULs of a text, and before the first and after the last.
 pub fn names_in<'a>(alloc: Global, text: &'a [u8]) -> Result<Vec<&'a [u8]>, AllocError>
-    ensures { IfOk result (λ names. map (λ name. name.now) names.items ≡ listed text.entry.now) }
+    ensures { IfOk result (λ names. map (λ name. name.now) names.items ≡ names_in_listing text.entry.now) }
 {
     let mut names = Vec::new(alloc);
     for name in text.split(|b| *b == 0) {
@@ -96,20 +96,20 @@ pub fn top(alloc: Global, path: &[u8]) -> Result<Vec<u8>, AllocError>
     if tidied.is_empty() || tidied.as_slice() == b"/".as_slice() {
         return Ok(tidied);
     }
-    joined(alloc, tidied.as_slice(), b"/")
+    join(alloc, tidied.as_slice(), b"/")
 }
 
 /// The name under which a given path is reported that can't be looked at: tidied, unless nothing is left of it.
-pub fn reported(alloc: Global, path: &[u8]) -> Result<Vec<u8>, AllocError>
-    ensures { IfOk result (λ name. name.items ≡ reported path.now) }
+pub fn report_name(alloc: Global, path: &[u8]) -> Result<Vec<u8>, AllocError>
+    ensures { IfOk result (λ name. name.items ≡ report_name path.now) }
 {
     let tidied = tidy(alloc, path)?;
     if tidied.is_empty() {
-        return joined(alloc, path, b"");
+        return join(alloc, path, b"");
     }
     // A slash at the end stays: `file/` isn't `file`.
     if path.ends_with(b"/") {
-        return joined(alloc, tidied.as_slice(), b"/");
+        return join(alloc, tidied.as_slice(), b"/");
     }
     Ok(tidied)
 }

@@ -18,7 +18,7 @@ use crate::choice::{Choice, Chooser};
 use crate::fault::TreeFault;
 use crate::kind::{Identity, Kind};
 use crate::names::{is_passed_over, is_taken};
-use crate::path::{joined, names_in, place, reported, tidy, top};
+use crate::path::{join, names_in, place, report_name, tidy, top};
 use crate::tree::Tree;
 use std::alloc::{AllocError, Global};
 
@@ -211,7 +211,7 @@ impl Walk {
         let Entry { name, path } = met;
         match kind {
             Kind::Folder => {
-                let folder = joined(alloc, path.as_slice(), b"/")?;
+                let folder = join(alloc, path.as_slice(), b"/")?;
                 self.add_folder(folder)
             }
             Kind::File(identity) => self.take_file(is_taken(name), path, identity),
@@ -260,7 +260,7 @@ impl Walk {
         if !is_met(name) {
             return Ok(());
         }
-        let path = joined(alloc, folder, name)?;
+        let path = join(alloc, folder, name)?;
         if chooser.is_excluded(path.as_slice()) {
             return Ok(());
         }
@@ -310,7 +310,7 @@ impl Walk {
                 self.take_entries(alloc, chooser, folder, names.as_slice(), tree)
             }
             Err(fault) => {
-                let path = joined(alloc, place, b"")?;
+                let path = join(alloc, place, b"")?;
                 self.add(path, Some(fault), None)
             }
         }
@@ -339,7 +339,7 @@ impl Walk {
                 self.add(operand.tidied, None, Some(file))
             }
             Err(fault) => {
-                let name = reported(alloc, operand.path)?;
+                let name = report_name(alloc, operand.path)?;
                 self.add(name, Some(fault), None)
             }
         }
@@ -416,7 +416,7 @@ impl Walk {
         match tree.kind(operand.path) {
             Ok(kind) => self.take_kind_given(alloc, chooser, kind, operand, tree),
             Err(fault) => {
-                let name = reported(alloc, operand.path)?;
+                let name = report_name(alloc, operand.path)?;
                 self.add(name, Some(fault), None)
             }
         }

@@ -5,7 +5,7 @@ ghost use Rattle.file_tree.specs.Unchanged.{Unchanged};
 ghost use Rattle.module_config.specs.Inner.Looking.{IsEntryOf, LooksFirst, LooksUp, StuckBy};
 
 use file_tree::fault::TreeFault;
-use file_tree::path::joined;
+use file_tree::path::join;
 use file_tree::tree::Tree;
 use file_tree::walk::Found;
 use std::alloc::Global;
@@ -45,7 +45,7 @@ fn has<T: Tree>(alloc: Global, folder: &[u8], entry: &[u8], tree: &mut T) -> Res
     ensures err { IfErr result (StuckBy (λ asked. asked ≡ folder.now ++ entry.now)
         (T.faults tree.old) (T.faults tree.new)) }
 {
-    match joined(alloc, folder, entry) {
+    match join(alloc, folder, entry) {
         Ok(name) => stands(name, tree),
         Err(_) => Err(Stuck::OutOfMemory),
     }

@@ -13,7 +13,7 @@ use crate::first::{Stuck, first_with};
 use crate::start::Start;
 use crate::ups::ups;
 use file_tree::fault::TreeFault;
-use file_tree::path::{joined, place};
+use file_tree::path::{join, place};
 use file_tree::tree::Tree;
 use file_tree::walk::Found;
 use module_find::Module;
@@ -151,7 +151,7 @@ fn file_at(alloc: Global, folders: &[&[u8]], at: usize) -> Result<Option<Vec<u8>
     if at >= folders.len() {
         return Ok(None);
     }
-    let name = joined(alloc, folders[at], b".tfrules")?;
+    let name = join(alloc, folders[at], b".tfrules")?;
     Ok(Some(name))
 }
 

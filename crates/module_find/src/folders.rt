@@ -9,7 +9,7 @@ ghost use Rattle.module_find.specs.Modules.{AreFolders, AreFoldersOf, is_gone_by
 
 use crate::lost::{is_lost, is_missing};
 use crate::names::{folder_of, is_module_file, is_of_module};
-use file_tree::path::joined;
+use file_tree::path::join;
 use file_tree::walk::{Found, Looked, in_order};
 use std::alloc::{AllocError, Global};
 
@@ -54,7 +54,7 @@ fn add_folder(alloc: Global, found: &Found, folders: &mut Vec<Found>) -> Result<
     if is_last(folders.as_slice(), folder) {
         return Ok(());
     }
-    let name = joined(alloc, folder, b"")?;
+    let name = join(alloc, folder, b"")?;
     let folder = Found {
         name,
         fault: None,
@@ -114,7 +114,7 @@ fn is_gone(found: &Found) -> bool
 fn copy_of(alloc: Global, found: &Found) -> Result<Found, AllocError>
     ensures { IfOk result (λ copy. told_as copy ≡ told_as found.now) }
 {
-    let name = joined(alloc, found.name.as_slice(), b"")?;
+    let name = join(alloc, found.name.as_slice(), b"")?;
     Ok(Found {
         name,
         fault: found.fault,

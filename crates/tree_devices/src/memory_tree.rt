@@ -13,7 +13,7 @@ use crate::memory_reader::MemoryReader;
 use crate::stored::Stored;
 use file_tree::fault::TreeFault;
 use file_tree::kind::{Identity, Kind};
-use file_tree::path::joined;
+use file_tree::path::join;
 use file_tree::tree::{Replaced, Tree, WritableTree, Writing};
 use hcl_scan::ByteSource;
 use std::alloc::{AllocError, Global};
@@ -185,7 +185,7 @@ impl<'a> MemoryTree<'a> {
         if name.starts_with(b"/") {
             return Vec::from_slice(self.alloc, name);
         }
-        let mut path = joined(self.alloc, self.current, b"/")?;
+        let mut path = join(self.alloc, self.current, b"/")?;
         path.extend_from_slice(name)?;
         Ok(path)
     }
@@ -217,7 +217,7 @@ impl<'a> MemoryTree<'a> {
         if entry.stands != Stands::Folder {
             return Ok(());
         }
-        let folder = joined(self.alloc, entry.name, b"/")?;
+        let folder = join(self.alloc, entry.name, b"/")?;
         self.keep_answers(folder.as_slice())
     }
 

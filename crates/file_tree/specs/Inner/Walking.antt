@@ -1,14 +1,14 @@
 -- A walk, step by step: the found names, and the folders still to be listed.
 use Rattle.std.specs.Prelude.{◌≡◌, ◌≢◌, ◌⊎◌, ◌&&◌, ℕ, Bool, true, false, List, [], ◌∷◌, ◌++◌, Option, Some, None, map}
 use Rattle.std.specs.List.{Contains}
-use Rattle.file_tree.specs.Below.{IsBelow, IsNamed, IsOther, is_met, listed}
+use Rattle.file_tree.specs.Below.{IsBelow, IsNamed, IsOther, is_met, names_in_listing}
 use Rattle.file_tree.specs.Choices.{Chosen, is_excluded, is_wanted}
 use Rattle.file_tree.specs.Files.{Faults, Files, Name, is_link}
 use Rattle.hcl_source.specs.Devices.{Tells}
 use Rattle.file_tree.specs.Finds.{AreReal, Failure, IsFolderOf, IsOf, with_failures}
 use Rattle.file_tree.specs.Names.{is_taken}
 use Rattle.file_tree.specs.Ordered.{IsFound}
-use Rattle.file_tree.specs.Paths.{inside, place, reported, tidied, top}
+use Rattle.file_tree.specs.Paths.{inside, place, report_name, tidied, top}
 use Rattle.file_tree.specs.declared.fault.TreeFault.{TreeFault}
 use Rattle.file_tree.specs.declared.fault.TreeFault.TheVariants.{OtherKind}
 use Rattle.file_tree.specs.declared.kind.Identity.{Identity}
@@ -94,12 +94,12 @@ TakesAll files chosen folder (name ∷ names) old new = (between : Reached) × T
 -- the effect of a folder
 abbrev pub TakesFolder : Files → Chosen → Name → Reached → Reached → Type 0
 TakesFolder files chosen folder old new =
-    Reports (place folder) old new ⊎ ((listing : List ℕ) × Tells (files.listing (place folder)) listing × TakesAll files chosen folder (listed listing) old new)
+    Reports (place folder) old new ⊎ ((listing : List ℕ) × Tells (files.listing (place folder)) listing × TakesAll files chosen folder (names_in_listing listing) old new)
 
 -- the effect of a given path that leads to a file, by the kind of its name
 abbrev pub TakesNamedFile : Files → Identity → Name → Reached → Reached → Type 0
 TakesNamedFile files identity path old new =
-    Reports (reported path) old new ⊎ ((entry : Kind) × Tells (files.entry (tidied path)) entry × Adds (tidied path) None (Some (file_by (is_link entry) identity)) old new)
+    Reports (report_name path) old new ⊎ ((entry : Kind) × Tells (files.entry (tidied path)) entry × Adds (tidied path) None (Some (file_by (is_link entry) identity)) old new)
 
 -- the effect of a given path that is to be looked at
 abbrev pub TakesWanted : Kind → Files → Name → Reached → Reached → Type 0
@@ -116,7 +116,7 @@ TakesKindGiven files chosen Folder path old new = Enters (top path) old new
 TakesKindGiven files chosen kind path old new = TakesNamed (is_wanted chosen (tidied path)) kind files path old new
 
 abbrev pub TakesAsked : Files → Chosen → Name → Reached → Reached → Type 0
-TakesAsked files chosen path old new = Reports (reported path) old new ⊎ ((kind : Kind) × Tells (files.kind path) kind × TakesKindGiven files chosen kind path old new)
+TakesAsked files chosen path old new = Reports (report_name path) old new ⊎ ((kind : Kind) × Tells (files.kind path) kind × TakesKindGiven files chosen kind path old new)
 
 abbrev pub TakesGiven : Files → Chosen → Name → Reached → Reached → Type 0
 TakesGiven files chosen path old new =
@@ -135,10 +135,10 @@ Covers r folder (part ∷ parts) last = Contains r.folders folder ⊎ (IsFault r
 pub record Walked (files : Files) (chosen : Chosen) (paths : List Name) (r : Reached) : Type 0 where
   pub real : (f : Found) → Contains r.found f → IsOf files chosen paths f
   pub deeper : (folder : Name) → Contains r.folders folder → (path : Name) × Contains paths path × IsFolderOf files chosen path folder
-  pub other : (path : Name) → Contains paths path → IsOther true files chosen path → IsFault r.found (tidied path) ⊎ IsFault r.found (reported path)
-  pub given : (path : Name) → Contains paths path → IsNamed true files chosen path → IsFound r.found (tidied path) ⊎ IsFault r.found (reported path)
+  pub other : (path : Name) → Contains paths path → IsOther true files chosen path → IsFault r.found (tidied path) ⊎ IsFault r.found (report_name path)
+  pub given : (path : Name) → Contains paths path → IsNamed true files chosen path → IsFound r.found (tidied path) ⊎ IsFault r.found (report_name path)
   pub below : (path : Name) (parts : List Name) (last : Name) → Contains paths path → IsBelow true files chosen path parts last
-      → IsFault r.found (reported path) ⊎ Covers r (top path) parts last
+      → IsFault r.found (report_name path) ⊎ Covers r (top path) parts last
 
 -- ---- the answers of the device's calls
 
