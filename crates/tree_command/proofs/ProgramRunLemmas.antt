@@ -6,7 +6,7 @@ use Rattle.file_tree.specs.Asked.{Asked}
 use Rattle.file_tree.specs.Files.{Faults, Files, Name}
 use Rattle.file_tree.specs.declared.walk.Found.{Found}
 use Rattle.std.specs.List.{concat}
-use Rattle.tree_format.specs.Reports.{worst}
+use Rattle.tree_format.specs.Reports.{worst_status}
 use Rattle.tree_format.specs.Runs.{HasWhole, IsRun, Settled, reports_of}
 use Rattle.tree_format.specs.States.{State}
 use Rattle.tree_format.specs.Tally.{Tallies}
@@ -33,7 +33,7 @@ abbrev errs : Mode → List Found → List Outcome → List ℕ
 errs mode seen answers = concat (map (λ r. r.err) (reports_of mode seen answers))
 
 abbrev statuses : Mode → List Found → List Outcome → ℕ
-statuses mode seen answers = worst (map (λ r. r.status) (reports_of mode seen answers))
+statuses mode seen answers = worst_status (map (λ r. r.status) (reports_of mode seen answers))
 
 -- what was taken whole stays so, whatever more is said
 still_whole : (w fin : Writer) (text last : List ℕ) → w.failed ≡ false → fin.before ≡ w.before → TookBy fin.failed w.after fin.after last → HasWhole w text → HasWhole fin text

@@ -9,7 +9,7 @@ ghost use Rattle.tree_command.specs.Formatter.{formatter};
 ghost use Rattle.tree_command.specs.Line.{asking_of_texts, asking_of_words, mode_of_texts, mode_of_words, reads_names};
 ghost use Rattle.tree_command.specs.declared.usage.Usage.TheVariants.{BadLine};
 ghost use Rattle.tree_format.specs.declared.mode.Mode.{Mode};
-ghost use Rattle.tree_format.specs.Runs.{IsSafe, Kept};
+ghost use Rattle.tree_format.specs.Runs.{IsSafe, MayBecome};
 ghost use Rattle.tree_format.specs.States.{state_of};
 
 use crate::formatter_words::formatter_words;
@@ -105,7 +105,7 @@ fn run<T: WritableTree, P: Progress, O: ByteSink, E: ByteSink>(
     requires err { E.failed streams.old.err ≡ false }
     // However the run goes, each file is then as it was, or, where files are to be written, it has the format of its bytes.
     ensures kept { (name : List ℕ)
-        → Kept job.entry.mode ((T.files tree.old).told name) ((T.files tree.new).told name) }
+        → MayBecome job.entry.mode ((T.files tree.old).told name) ((T.files tree.new).told name) }
     ensures ends { FormatsOr (P.shows progress.old) job.entry.quiet job.entry.mode
         (part_told job.entry.part)
         (map (λ operand. operand.now) operands.now) (state_of T.Tree tree.old)
@@ -140,7 +140,7 @@ fn run_null<T: WritableTree, P: Progress, R: ByteSource, O: ByteSink, E: ByteSin
     requires err { E.failed streams.old.err ≡ false }
     // However the run goes, each file is then as it was, or, where files are to be written, it has the format of its bytes.
     ensures kept { (name : List ℕ)
-        → Kept job.entry.mode ((T.files tree.old).told name) ((T.files tree.new).told name) }
+        → MayBecome job.entry.mode ((T.files tree.old).told name) ((T.files tree.new).told name) }
     ensures ends { ReadsAndFormats (P.shows progress.old) job.entry.quiet job.entry.mode
         (part_told job.entry.part)
         (R.failed input.new) (R.left input.old)
@@ -174,7 +174,7 @@ fn run_named<T: WritableTree, P: Progress, O: ByteSink, E: ByteSink>(
     requires err { E.failed streams.old.err ≡ false }
     // However the run goes, each file is then as it was, or, where files are to be written, it has the format of its bytes.
     ensures kept { (name : List ℕ)
-        → Kept job.entry.mode ((T.files tree.old).told name) ((T.files tree.new).told name) }
+        → MayBecome job.entry.mode ((T.files tree.old).told name) ((T.files tree.new).told name) }
     ensures ends { FormatsNamed (P.shows progress.old) job.entry.quiet job.entry.mode
         (part_told job.entry.part)
         (map (λ name. name.now) names.now) (state_of T.Tree tree.old) (state_of T.Tree tree.new)
@@ -242,7 +242,7 @@ fn run_asked<T: WritableTree, P: Progress, R: ByteSource, O: ByteSink, E: ByteSi
     requires err { E.failed streams.old.err ≡ false }
     // However the run goes, each file is then as it was, or, where files are to be written, it has the format of its bytes.
     ensures kept { (name : List ℕ)
-        → Kept options.now.mode ((T.files tree.old).told name) ((T.files tree.new).told name) }
+        → MayBecome options.now.mode ((T.files tree.old).told name) ((T.files tree.new).told name) }
     // Standard input is read only for names.
     ensures unread { options.now.given.null ≡ false → input.new ≡ input.old }
     ensures ends { EndsAsked (P.shows progress.old) (asking_of options.now)
@@ -281,7 +281,7 @@ fn run_line<'w, T: WritableTree, P: Progress, R: ByteSource, O: ByteSink, E: Byt
     // It has its format only where the words ask for that.
     ensures kept { (mode : Mode)
         → mode_of_texts (map (λ word. word.now) line.entry.texts.now) ≡ Some mode
-        → (name : List ℕ) → Kept mode ((T.files tree.old).told name)
+        → (name : List ℕ) → MayBecome mode ((T.files tree.old).told name)
         ((T.files tree.new).told name) }
     // Standard input is read only for names.
     ensures unread { reads_names (asking_of_texts (map (λ word. word.now) line.entry.texts.now)
@@ -316,7 +316,7 @@ pub fn program<T: WritableTree, P: Progress, R: ByteSource, O: ByteSink, E: Byte
         → IsSafe ((T.files tree.old).told name) ((T.files tree.new).told name) }
     // It has its format only where the words ask for that.
     ensures kept { (mode : Mode) → mode_of_words (map (λ word. word.now) words.now) ≡ Some mode
-        → (name : List ℕ) → Kept mode ((T.files tree.old).told name)
+        → (name : List ℕ) → MayBecome mode ((T.files tree.old).told name)
         ((T.files tree.new).told name) }
     // Standard input is read only where the words ask for names from there.
     ensures unread { reads_names (asking_of_words (map (λ word. word.now) words.now)) ≡ false

@@ -201,7 +201,7 @@ impl Calls {
         if self.failures.group {
             Replaced::Narrowed
         } else {
-            Replaced::Kept
+            Replaced::MayBecome
         }
     }
 
@@ -221,7 +221,7 @@ impl Calls {
             Ok(()) => Ok(self.kept()),
             Err(TreeFault::NoneBeside | TreeFault::NotReplaced) if writing.in_place => {
                 self.write_over(name, is_same)?;
-                Ok(Replaced::Kept)
+                Ok(Replaced::MayBecome)
             }
             Err(fault) => Err(fault),
         }

@@ -156,7 +156,7 @@ impl<'a> WritableTree for PlannedTree<'a> {
         _writing: Writing,
     ) -> Result<Replaced, TreeFault> {
         match self.call() {
-            Ok(()) => Ok(Replaced::Kept),
+            Ok(()) => Ok(Replaced::MayBecome),
             Err(fault) => Err(fault),
         }
     }

@@ -10,7 +10,7 @@ use Rattle.command_line.specs.Rows.{End, TookBy, Writer}
 use Rattle.file_tree.specs.Files.{Name}
 use Rattle.tree_format.specs.States.{State}
 use Rattle.file_tree.specs.declared.walk.Found.{Found}
-use Rattle.tree_format.specs.Reports.{Report, report_of, worse, worst}
+use Rattle.tree_format.specs.Reports.{Report, report_of, worse_status, worst_status}
 use Rattle.tree_format.specs.Inner.Counts.{CanGrow, tally_with}
 use Rattle.tree_format.specs.Runs.{HasWhole, Looked, Sees, but_last, is_failed, reports_of}
 use Rattle.tree_format.specs.Tally.{Tallies, is_changed, is_formatted, is_refused, tally_of}
@@ -26,11 +26,11 @@ or_true : (v : Bool) → (v || true) ≡ true
 or_true true = refl
 or_true false = refl
 
-pub first_good : (one other : ℕ) → worse one other ≢ 4 → one ≢ 4
-first_good one other bad e = bad (ap (λ n. worse n other) e)
+pub first_good : (one other : ℕ) → worse_status one other ≢ 4 → one ≢ 4
+first_good one other bad e = bad (ap (λ n. worse_status n other) e)
 
-pub second_good : (one other : ℕ) → worse one other ≢ 4 → other ≢ 4
-second_good one other bad e = bad (ap (λ n. worse one n) e ∙ ap (λ (v : Bool). if v then 4 else (if one == 2 || 4 == 2 then 2 else max one 4)) (or_true (one == 4)))
+pub second_good : (one other : ℕ) → worse_status one other ≢ 4 → other ≢ 4
+second_good one other bad e = bad (ap (λ n. worse_status one n) e ∙ ap (λ (v : Bool). if v then 4 else (if one == 2 || 4 == 2 then 2 else max one 4)) (or_true (one == 4)))
 
 pub good_answer : (mode : Mode) (name : Name) (answer : Outcome) → (report_of mode name answer).status ≢ 4 → is_failed answer ≡ false
 good_answer mode name outcome.Formatted good = refl
@@ -59,9 +59,9 @@ one_text : (f : Report → List ℕ) (rs : List Report) (r : Report) → concat 
 one_text f [] r = append-nil (f r)
 one_text f (x ∷ rs) r = ap (λ t. f x ++ t) (one_text f rs r) ∙ sym (append_assoc (f x) (concat (map f rs)) (f r))
 
-fold_more : (n : ℕ) (rs : List Report) (r : Report) → fold worse n (map (λ r. r.status) (rs ++ r ∷ [])) ≡ worse (fold worse n (map (λ r. r.status) rs)) r.status
+fold_more : (n : ℕ) (rs : List Report) (r : Report) → fold worse_status n (map (λ r. r.status) (rs ++ r ∷ [])) ≡ worse_status (fold worse_status n (map (λ r. r.status) rs)) r.status
 fold_more n [] r = refl
-fold_more n (x ∷ rs) r = fold_more (worse n x.status) rs r
+fold_more n (x ∷ rs) r = fold_more (worse_status n x.status) rs r
 
 -- what the run says, and its statuses
 
@@ -72,7 +72,7 @@ abbrev errs : Mode → List Found → List Outcome → List ℕ
 errs mode seen answers = concat (map (λ r. r.err) (reports_of mode seen answers))
 
 abbrev statuses : Mode → List Found → List Outcome → ℕ
-statuses mode seen answers = worst (map (λ r. r.status) (reports_of mode seen answers))
+statuses mode seen answers = worst_status (map (λ r. r.status) (reports_of mode seen answers))
 
 -- ---- the tally
 
@@ -112,7 +112,7 @@ pub record SoFar (shows : Bool) (mode : Mode) (seen : List Found) (a b : State) 
   pub looks : Looked shows mode seen answers a b
   pub output : Appends out out' (concat (map (λ r. r.out) (reports_of mode seen answers)))
   pub message : Appends err err' (concat (map (λ r. r.err) (reports_of mode seen answers)))
-  pub exit : status ≡ worst (map (λ r. r.status) (reports_of mode seen answers))
+  pub exit : status ≡ worst_status (map (λ r. r.status) (reports_of mode seen answers))
   pub counts : tally ≡ tally_of answers
 
 pub so_far_none : (shows : Bool) (mode : Mode) (a : State) (out err : Option (List ℕ)) (tally : Tally) → tally ≡ tally_of [] → SoFar shows mode [] a a out out err err 0 tally
@@ -120,15 +120,15 @@ so_far_none shows mode a out err tally e = record { answers = []; looks = refl; 
 
 pub so_far_more : (shows : Bool) (mode : Mode) (seen more : List Found) (found : Found) (answer : Outcome) (a b c : State) (o o' o'' e e' e'' : Option (List ℕ)) (s s' : ℕ) (t t' : Tally) (f g : Bool)
     → more ≡ seen ++ found ∷ [] → SoFar shows mode seen a b o o' e e' s t → t' ≡ tally_with t answer → Sees shows mode found answer b c → f ≡ false → TookBy f o' o'' (report_of mode found.name.items answer).out → g ≡ false
-    → TookBy g e' e'' (report_of mode found.name.items answer).err → s' ≡ worse s (report_of mode found.name.items answer).status → SoFar shows mode more a c o o'' e e'' s' t'
+    → TookBy g e' e'' (report_of mode found.name.items answer).err → s' ≡ worse_status s (report_of mode found.name.items answer).status → SoFar shows mode more a c o o'' e e'' s' t'
 so_far_more shows mode seen more found answer a b c o o' o'' e e' e'' s s' t t' f g all before tallied sees good out good' err status =
     subst (λ l. SoFar shows mode l a c o o'' e e'' s' t') (sym all) (record {
       answers = before.answers ++ answer ∷ [];
       looks = looked_more shows mode seen before.answers found answer a b c before.looks sees;
       output = text (λ r. r.out) o o' o'' before.output (subst (λ v. TookBy v o' o'' (report_of mode found.name.items answer).out) good out);
       message = text (λ r. r.err) e e' e'' before.message (subst (λ v. TookBy v e' e'' (report_of mode found.name.items answer).err) good' err);
-      exit = status ∙ ap (λ n. worse n (report_of mode found.name.items answer).status) before.exit
-          ∙ sym (ap (λ rs. worst (map (λ r. r.status) rs)) reports ∙ fold_more 0 (reports_of mode seen before.answers) (report_of mode found.name.items answer));
+      exit = status ∙ ap (λ n. worse_status n (report_of mode found.name.items answer).status) before.exit
+          ∙ sym (ap (λ rs. worst_status (map (λ r. r.status) rs)) reports ∙ fold_more 0 (reports_of mode seen before.answers) (report_of mode found.name.items answer));
       counts = tallied ∙ ap (λ (u : Tally). tally_with u answer) before.counts ∙ sym (tally_more before.answers answer);
     })
   where
@@ -202,7 +202,7 @@ run_cut shows mode found seen rest here answer a b c o' e' s t t' out err all be
     message = subst (TookBy err.failed err.before err.after) (sym (append-nil (concat (map (λ r. r.err) (reports_of mode (seen ++ here ∷ []) (before.answers ++ answer ∷ []))))))
         (text (λ r. r.err) err.failed err.before e' err.after before.message message);
     stops = record { output = stop (λ r. r.out) out o' before.output output; message = stop (λ r. r.err) err e' before.message message };
-    exit = sym (ap (λ (v : Bool). if v then 4 else worst (map (λ r. r.status) (reports_of mode (seen ++ here ∷ []) (before.answers ++ answer ∷ [])))) bad);
+    exit = sym (ap (λ (v : Bool). if v then 4 else worst_status (map (λ r. r.status) (reports_of mode (seen ++ here ∷ []) (before.answers ++ answer ∷ [])))) bad);
   },
   tallied ∙ ap (λ (u : Tally). tally_with u answer) before.counts ∙ sym (tally_more before.answers answer),
 )

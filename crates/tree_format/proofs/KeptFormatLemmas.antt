@@ -41,7 +41,7 @@ use Rattle.tree_format.specs.Looks.{Asks, AsksIn, Left, Looks, Notes, Visits, fa
 use Rattle.source_snippet.specs.Snippets.{snippet_if}
 use Rattle.tree_format.specs.Refusals.{is_about_line, shown_line}
 use Rattle.tree_format.specs.Reports.{snippet_text}
-use Rattle.tree_format.specs.Runs.{IsSafe, Kept, Settled, is_failed}
+use Rattle.tree_format.specs.Runs.{IsSafe, MayBecome, Settled, is_failed}
 use Rattle.tree_format.specs.Inner.Steps.{Completes, IsShown, LoadNotes, LoadsFile, Makes, MakesAsking, PrintAsked, outcome_by, outcome_of_scan}
 use Rattle.tree_format.specs.declared.mode.Mode.{Mode}
 use Rattle.tree_format.specs.declared.mode.Mode.TheVariants.{Write, Check, List as Listed, Diff}
@@ -58,36 +58,36 @@ format_once x y z f g =
 
 -- ---- runs one after another
 
-pub kept_same : (mode : Mode) (a b : Option (List ℕ)) → b ≡ a → Kept mode a b
+pub kept_same : (mode : Mode) (a b : Option (List ℕ)) → b ≡ a → MayBecome mode a b
 kept_same (Write w) None b e = e
 kept_same (Write w) (Some x) b e = inl e
 kept_same Check a b e = e
 kept_same (Listed ending) a b e = e
 kept_same Diff a b e = e
 
-kept_on : (w : Writing) (x y : List ℕ) (c : Option (List ℕ)) → IsFormat x y → Kept (Write w) (Some y) c → Kept (Write w) (Some x) c
+kept_on : (w : Writing) (x y : List ℕ) (c : Option (List ℕ)) → IsFormat x y → MayBecome (Write w) (Some y) c → MayBecome (Write w) (Some x) c
 kept_on w x y c f (inl e) = inr (y, f, e)
 kept_on w x y c f (inr (z, g, e)) = inr (y, f, e ∙ ap (λ l. Some l) (format_once x y z f g))
 
-pub kept_trans : (mode : Mode) (a b c : Option (List ℕ)) → Kept mode a b → Kept mode b c → Kept mode a c
-kept_trans (Write w) None b c e k = subst (λ o. Kept (Write w) o c) e k
-kept_trans (Write w) (Some x) b c (inl e) k = subst (λ o. Kept (Write w) o c) e k
-kept_trans (Write w) (Some x) b c (inr (y, f, e)) k = kept_on w x y c f (subst (λ o. Kept (Write w) o c) e k)
+pub kept_trans : (mode : Mode) (a b c : Option (List ℕ)) → MayBecome mode a b → MayBecome mode b c → MayBecome mode a c
+kept_trans (Write w) None b c e k = subst (λ o. MayBecome (Write w) o c) e k
+kept_trans (Write w) (Some x) b c (inl e) k = subst (λ o. MayBecome (Write w) o c) e k
+kept_trans (Write w) (Some x) b c (inr (y, f, e)) k = kept_on w x y c f (subst (λ o. MayBecome (Write w) o c) e k)
 kept_trans Check a b c e k = k ∙ e
 kept_trans (Listed ending) a b c e k = k ∙ e
 kept_trans Diff a b c e k = k ∙ e
 
 -- ---- one look
 
-written : (w : Writing) (a : Option (List ℕ)) (bytes formatted : List ℕ) → Tells a bytes → IsFormat bytes formatted → Kept (Write w) a (option_map (λ _. formatted) a)
+written : (w : Writing) (a : Option (List ℕ)) (bytes formatted : List ℕ) → Tells a bytes → IsFormat bytes formatted → MayBecome (Write w) a (option_map (λ _. formatted) a)
 written w None bytes formatted t f = refl
 written w (Some x) bytes formatted t f = inr (formatted, subst (λ l. IsFormat l formatted) (sym t) f, refl)
 
 put_kept : (w : Writing) (old : Files) (name bytes formatted other : List ℕ) → Tells (old.told name) bytes → IsFormat bytes formatted
-    → Kept (Write w) (old.told other) ((put old name formatted).told other)
+    → MayBecome (Write w) (old.told other) ((put old name formatted).told other)
 put_kept w old name bytes formatted other t f = by (bytes_eq other name) refl
   where
-    by : (v : Bool) → bytes_eq other name ≡ v → Kept (Write w) (old.told other) (if v then option_map (λ _. formatted) (old.told other) else old.told other)
+    by : (v : Bool) → bytes_eq other name ≡ v → MayBecome (Write w) (old.told other) (if v then option_map (λ _. formatted) (old.told other) else old.told other)
     by true e = written w (old.told other) bytes formatted (subst (λ n. Tells (old.told n) bytes) (sym ((bytes_eq-Decides other name).0 e)) t) f
     by false e = kept_same (Write w) (old.told other) (old.told other) refl
 
@@ -95,18 +95,18 @@ same_told : (old new : Files) (other : Name) → new ≡ old → new.told other 
 same_told old new other e = ap (λ (f : Files). f.told other) e
 
 left_kept : (mode : Mode) (old new : Files) (name bytes formatted other : List ℕ) → Tells (old.told name) bytes → IsFormat bytes formatted → Left mode old new name formatted
-    → Kept mode (old.told other) (new.told other)
+    → MayBecome mode (old.told other) (new.told other)
 left_kept (Write w) old new name bytes formatted other t f l =
-    subst (λ (files : Files). Kept (Write w) (old.told other) (files.told other)) (sym l) (put_kept w old name bytes formatted other t f)
+    subst (λ (files : Files). MayBecome (Write w) (old.told other) (files.told other)) (sym l) (put_kept w old name bytes formatted other t f)
 left_kept Check old new name bytes formatted other t f l = same_told old new other l
 left_kept (Listed ending) old new name bytes formatted other t f l = same_told old new other l
 left_kept Diff old new name bytes formatted other t f l = same_told old new other l
 
-unmoved : (mode : Mode) (old new : Files) (other : Name) → new ≡ old → Kept mode (old.told other) (new.told other)
+unmoved : (mode : Mode) (old new : Files) (other : Name) → new ≡ old → MayBecome mode (old.told other) (new.told other)
 unmoved mode old new other e = kept_same mode (old.told other) (new.told other) (same_told old new other e)
 
 pub visit_kept : (shows : Bool) (mode : Mode) (old new : Files) (given : Name) (name : Name) (answer : Outcome) → Visits shows mode old new given name answer → (other : Name)
-    → Kept mode (old.told other) (new.told other)
+    → MayBecome mode (old.told other) (new.told other)
 visit_kept shows mode old new given name outcome.Formatted v other = unmoved mode old new other v.2.1
 visit_kept shows mode old new given name (outcome.Changed how) v other = left_kept mode old new name v.0 v.2.1.formatted other v.1 v.2.1.is v.2.1.left
 visit_kept shows mode old new given name (outcome.Differs text) v other = unmoved mode old new other v.2.1.left
@@ -402,18 +402,18 @@ no_format x y f (inr (is, inr (s, v, large, e))) g =
     let same : length y ≡ length (print s.tokens) = ap length g.printed ∙ ap (λ o. length (print (source_or s o).tokens)) (one_verdict one_kind x (Ok g.source) (Ok s) g.accepted v) in
     omega (arith, same, large, g.fits)
 
-settled_on : (w : Writing) (x y : List ℕ) (c : Option (List ℕ)) → IsFormat x y → Kept (Write w) (Some y) c → Settled (Write w) (Some x) c
+settled_on : (w : Writing) (x y : List ℕ) (c : Option (List ℕ)) → IsFormat x y → MayBecome (Write w) (Some y) c → Settled (Write w) (Some x) c
 settled_on w x y c f (inl e) = inl (y, f, e)
 settled_on w x y c f (inr (z, g, e)) = inl (y, f, e ∙ ap (λ l. Some l) (format_once x y z f g))
 
-refused_on : (w : Writing) (x : List ℕ) (c : Option (List ℕ)) (f : Fault) → IsFault x f → Kept (Write w) (Some x) c → Settled (Write w) (Some x) c
+refused_on : (w : Writing) (x : List ℕ) (c : Option (List ℕ)) (f : Fault) → IsFault x f → MayBecome (Write w) (Some x) c → Settled (Write w) (Some x) c
 refused_on w x c f is (inl e) = inr (f, is, e)
 refused_on w x c f is (inr (z, g, e)) = absurd (no_format x z f is g)
 
-pub settled_kept : (mode : Mode) (a b c : Option (List ℕ)) → Settled mode a b → Kept mode b c → Settled mode a c
+pub settled_kept : (mode : Mode) (a b c : Option (List ℕ)) → Settled mode a b → MayBecome mode b c → Settled mode a c
 settled_kept (Write w) None b c s k = tt
-settled_kept (Write w) (Some x) b c (inl (y, f, e)) k = settled_on w x y c f (subst (λ o. Kept (Write w) o c) e k)
-settled_kept (Write w) (Some x) b c (inr (f, is, e)) k = refused_on w x c f is (subst (λ o. Kept (Write w) o c) e k)
+settled_kept (Write w) (Some x) b c (inl (y, f, e)) k = settled_on w x y c f (subst (λ o. MayBecome (Write w) o c) e k)
+settled_kept (Write w) (Some x) b c (inr (f, is, e)) k = refused_on w x c f is (subst (λ o. MayBecome (Write w) o c) e k)
 settled_kept Check a b c s k = tt
 settled_kept (Listed ending) a b c s k = tt
 settled_kept Diff a b c s k = tt
@@ -456,7 +456,7 @@ visit_settled shows (Listed ending) old new given name answer v good = tt
 visit_settled shows Diff old new given name answer v good = tt
 
 -- one file more, of the files of these names
-module _ {X : Type 0} (mode : Mode) (name : X → List ℕ) (first old new : Name → Option (List ℕ)) (kept : (n : Name) → Kept mode (old n) (new n)) where
+module _ {X : Type 0} (mode : Mode) (name : X → List ℕ) (first old new : Name → Option (List ℕ)) (kept : (n : Name) → MayBecome mode (old n) (new n)) where
   pub all_settled : (xs : List X) (i : ℕ) (x : X) → i < length xs → All (λ x. Settled mode (first (name x)) (old (name x))) (take i xs)
       → Settled mode (first (name (get_or xs i x))) (new (name (get_or xs i x))) → All (λ x. Settled mode (first (name x)) (new (name x))) (take (i + 1) xs)
   all_settled xs i x lt all here =
@@ -464,7 +464,7 @@ module _ {X : Type 0} (mode : Mode) (name : X → List ℕ) (first old new : Nam
       (All-weaker (λ x. Settled mode (first (name x)) (old (name x))) (λ x. Settled mode (first (name x)) (new (name x))) (λ x s. settled_kept mode (first (name x)) (old (name x)) (new (name x)) s (kept (name x))) (take i xs) all)
       here
 
-pub settled_after : (mode : Mode) (a b c : Option (List ℕ)) → Kept mode a b → Settled mode b c → Settled mode a c
+pub settled_after : (mode : Mode) (a b c : Option (List ℕ)) → MayBecome mode a b → Settled mode b c → Settled mode a c
 settled_after (Write w) None b c k s = tt
 settled_after (Write w) (Some x) b c (inl e) s = subst (λ o. Settled (Write w) o c) e s
 settled_after (Write w) (Some x) b c (inr (y, f, e)) s = by (subst (λ o. Settled (Write w) o c) e s)
@@ -479,17 +479,17 @@ settled_after Diff a b c k s = tt
 -- ---- whole runs
 
 -- a run over files of which a walk changed nothing
-pub kept_from : (mode : Mode) (old mid new : Files) → mid ≡ old → ((name : Name) → Kept mode (mid.told name) (new.told name)) → (name : Name) → Kept mode (old.told name) (new.told name)
-kept_from mode old mid new same k name = subst (λ (files : Files). Kept mode (files.told name) (new.told name)) same (k name)
+pub kept_from : (mode : Mode) (old mid new : Files) → mid ≡ old → ((name : Name) → MayBecome mode (mid.told name) (new.told name)) → (name : Name) → MayBecome mode (old.told name) (new.told name)
+kept_from mode old mid new same k name = subst (λ (files : Files). MayBecome mode (files.told name) (new.told name)) same (k name)
 
-pub kept_still : (mode : Mode) (old new : Files) → new ≡ old → (name : Name) → Kept mode (old.told name) (new.told name)
+pub kept_still : (mode : Mode) (old new : Files) → new ≡ old → (name : Name) → MayBecome mode (old.told name) (new.told name)
 kept_still mode old new same name = unmoved mode old new name same
 
 pub safe_same : (a b : Option (List ℕ)) → b ≡ a → IsSafe a b
 safe_same None b e = e
 safe_same (Some x) b e = inl e
 
-pub safe_kept : (mode : Mode) (a b : Option (List ℕ)) → Kept mode a b → IsSafe a b
+pub safe_kept : (mode : Mode) (a b : Option (List ℕ)) → MayBecome mode a b → IsSafe a b
 safe_kept (Write w) a b k = k
 safe_kept Check a b k = safe_same a b k
 safe_kept (Listed ending) a b k = safe_same a b k

@@ -15,14 +15,14 @@ use Rattle.file_tree.specs.Files.{Files, Name, put}
 use Rattle.tree_format.specs.States.{State}
 use Rattle.file_tree.specs.declared.fault.TreeFault.{TreeFault}
 use Rattle.file_tree.specs.declared.tree.Replaced.{Replaced}
-use Rattle.file_tree.specs.declared.tree.Replaced.TheVariants.{Kept as AllKept, Narrowed}
+use Rattle.file_tree.specs.declared.tree.Replaced.TheVariants.{MayBecome as AllKept, Narrowed}
 use Rattle.file_tree.specs.declared.walk.Found.{Found}
 use Rattle.tree_format.specs.GoodRuns.{AreTold, is_narrowed}
 use Rattle.tree_format.specs.Format.{IsFault, IsFormat, IsTextFault}
 use Rattle.tree_format.specs.Looks.{Left, Looks, Visits, shown_diff}
 use Rattle.tree_format.specs.Refusals.{shown_line}
-use Rattle.tree_format.specs.Reports.{Report, refused_words, report_of, worse, worst}
-use Rattle.tree_format.specs.Runs.{IsRun, Kept, Looked, SeesBy, is_failed, reports_of}
+use Rattle.tree_format.specs.Reports.{Report, refused_words, report_of, worse_status, worst_status}
+use Rattle.tree_format.specs.Runs.{IsRun, MayBecome, Looked, SeesBy, is_failed, reports_of}
 use Rattle.tree_format.specs.declared.mode.Mode.{Mode}
 use Rattle.tree_format.specs.declared.mode.Mode.TheVariants.{Write, Check, List as Listed, Diff}
 use Rattle.tree_format.specs.declared.outcome.Outcome.{Outcome}
@@ -173,7 +173,7 @@ one_seen_by shows mode name None answer other a b a' b' some same s t good good'
 
 -- ---- what is told stays told
 
-kept_some : (mode : Mode) (x y : Option (List ℕ)) → Kept mode x y → IsSome x → IsSome y
+kept_some : (mode : Mode) (x y : Option (List ℕ)) → MayBecome mode x y → IsSome x → IsSome y
 kept_some (Write w) None y k some = absurd (cc)
 kept_some (Write w) (Some x) y (inl e) some = subst (λ o. IsSome o) (sym e) refl
 kept_some (Write w) (Some x) y (inr f) some = subst (λ o. IsSome o) (sym f.2) refl
@@ -304,13 +304,13 @@ plain_statuses mode (f ∷ seen) (x ∷ xs) = λ i. plain_status mode f.name.ite
 -- ---- runs that don't have status 4
 
 good_looks : (shows : Bool) (mode : Mode) (seen : List Found) (answers : List Outcome) (a b : State) (n : ℕ) → Looked shows mode seen answers a b
-    → fold worse n (map (λ r. r.status) (reports_of mode seen answers)) ≢ 4 → (n ≢ 4) × (list_any is_failed answers ≡ false)
+    → fold worse_status n (map (λ r. r.status) (reports_of mode seen answers)) ≢ 4 → (n ≢ 4) × (list_any is_failed answers ≡ false)
 good_looks shows mode [] [] a b n l ne = (ne, refl)
 good_looks shows mode [] (x ∷ xs) a b n l ne = absurd l
 good_looks shows mode (f ∷ seen) [] a b n l ne = absurd l
 good_looks shows mode (f ∷ seen) (x ∷ xs) a b n l ne =
     let s = (report_of mode f.name.items x).status in
-    let rest = good_looks shows mode seen xs l.0 b (worse n s) l.2 ne in
+    let rest = good_looks shows mode seen xs l.0 b (worse_status n s) l.2 ne in
     (first_good n s rest.0, ap (λ v. v || list_any is_failed xs) (good_answer mode f.name.items x (second_good n s rest.0)) ∙ rest.1)
 
 good_writers : (v : Bool) (status n : ℕ) → status ≡ (if v then 4 else n) → status ≢ 4 → (v ≡ false) × (status ≡ n)
@@ -321,12 +321,12 @@ good_writers false status n e ne = (refl, e)
 record Good (shows : Bool) (mode : Mode) (found : List Found) (before after : State) (answers : List Outcome) (status : ℕ) : Type 0 where
   pub looks : Visited shows mode found answers before after
   pub good : list_any is_failed answers ≡ false
-  pub exit : status ≡ worst (map (λ r. r.status) (reports_of mode found answers))
+  pub exit : status ≡ worst_status (map (λ r. r.status) (reports_of mode found answers))
 
 good_run : (shows : Bool) (mode : Mode) (found : List Found) (last : List Outcome → List ℕ) (before after : State) (end : End) (run : IsRun shows mode found last before after end) → end.status ≢ 4
     → (found ≡ run.seen) × Good shows mode found before after run.answers end.status
 good_run shows mode found last before after end run ne =
-    let writers = good_writers (end.out.failed || end.err.failed) end.status (worst (map (λ r. r.status) (reports_of mode run.seen run.answers))) run.exit ne in
+    let writers = good_writers (end.out.failed || end.err.failed) end.status (worst_status (map (λ r. r.status) (reports_of mode run.seen run.answers))) run.exit ne in
     let all : found ≡ run.seen = run.all ∙ ap (λ l. run.seen ++ l) (run.whole writers.0) ∙ append-nil run.seen in (
       all,
       subst (λ l. Good shows mode l before after run.answers end.status) (sym all) (record {
@@ -347,7 +347,7 @@ one_run shows mode found last other_last before other_before after other_after e
     let p = one_looked shows mode found (map plain run.answers) (map plain other.answers) before after other_before other_after told same (plain_looked shows mode found run.answers before after g.1.looks)
     (plain_looked shows mode found other.answers other_before other_after h.1.looks) (plain_even run.answers ∙ g.1.good) (plain_even other.answers ∙ h.1.good) in (
       ap (λ l. outs mode l run.answers) (sym g.0) ∙ plain_outs mode found run.answers ∙ ap (λ rs. map (λ (r : Report). r.out) rs) p.0 ∙ sym (plain_outs mode found other.answers) ∙ ap (λ l. outs mode l other.answers) h.0,
-      g.1.exit ∙ ap worst (plain_statuses mode found run.answers) ∙ ap (λ rs. worst (map (λ (r : Report). r.status) rs)) p.0 ∙ ap worst (sym (plain_statuses mode found other.answers)) ∙ sym h.1.exit,
+      g.1.exit ∙ ap worst_status (plain_statuses mode found run.answers) ∙ ap (λ rs. worst_status (map (λ (r : Report). r.status) rs)) p.0 ∙ ap worst_status (sym (plain_statuses mode found other.answers)) ∙ sym h.1.exit,
       p.1,
       λ kept other_kept.
           let one = one_looked shows mode found run.answers other.answers before after other_before other_after told same g.1.looks h.1.looks (even_answers run.answers g.1.good kept) (even_answers other.answers h.1.good other_kept) in

@@ -8,14 +8,14 @@ use Rattle.file_tree.specs.Files.{Name}
 use Rattle.tree_format.specs.States.{State}
 use Rattle.file_tree.specs.declared.tree.Replaced.{Replaced}
 use Rattle.file_tree.specs.declared.walk.Found.{Found}
-use Rattle.tree_format.specs.Reports.{report_of, worse, worst}
+use Rattle.tree_format.specs.Reports.{report_of, worse_status, worst_status}
 use Rattle.tree_format.specs.Runs.{IsRun, Looked, is_failed, reports_of}
 use Rattle.tree_format.specs.declared.mode.Mode.{Mode}
 use Rattle.tree_format.specs.declared.mode.Mode.TheVariants.{Write, Check, List as Listed, Diff}
 use Rattle.tree_format.specs.declared.outcome.Outcome.{Outcome}
 use Rattle.tree_format.specs.declared.outcome.Outcome.TheVariants as outcome
 
-worse_four : (one other : ℕ) → worse one other ≡ 4 → (one ≡ 4) ⊎ (other ≡ 4)
+worse_four : (one other : ℕ) → worse_status one other ≡ 4 → (one ≡ 4) ⊎ (other ≡ 4)
 worse_four one other e = by (eqb_tells one 4) (eqb_tells other 4)
   where
     none : (v : Bool) → one ≢ 4 → other ≢ 4 → (if v then 2 else max one other) ≡ 4 → ⊥
@@ -48,7 +48,7 @@ status_good mode name (outcome.Failed fault) good = absurd (no good)
     no : true ≡ false → ⊥
     no h = cc
 
-worse_good : (one other : ℕ) → one ≢ 4 → other ≢ 4 → worse one other ≢ 4
+worse_good : (one other : ℕ) → one ≢ 4 → other ≢ 4 → worse_status one other ≢ 4
 worse_good one other p q e = by (worse_four one other e)
   where
     by : (one ≡ 4) ⊎ (other ≡ 4) → ⊥
@@ -56,13 +56,13 @@ worse_good one other p q e = by (worse_four one other e)
     by (inr h) = q h
 
 pub fold_four : (shows : Bool) (mode : Mode) (seen : List Found) (answers : List Outcome) (a b : State) (n : ℕ) → n ≢ 4 → Looked shows mode seen answers a b
-    → fold worse n (map (λ r. r.status) (reports_of mode seen answers)) ≡ 4 → list_any is_failed answers ≡ true
+    → fold worse_status n (map (λ r. r.status) (reports_of mode seen answers)) ≡ 4 → list_any is_failed answers ≡ true
 fold_four shows mode [] [] a b n good l e = absurd (good e)
 fold_four shows mode [] (x ∷ answers) a b n good l e = absurd l
 fold_four shows mode (f ∷ seen) [] a b n good l e = absurd l
 fold_four shows mode (f ∷ seen) (x ∷ answers) a b n good l e =
     by
-    (λ h. fold_four shows mode seen answers l.0 b (worse n (report_of mode f.name.items x).status) (worse_good n (report_of mode f.name.items x).status good (status_good mode f.name.items x h)) l.2 e)
+    (λ h. fold_four shows mode seen answers l.0 b (worse_status n (report_of mode f.name.items x).status) (worse_good n (report_of mode f.name.items x).status good (status_good mode f.name.items x h)) l.2 e)
     (is_failed x) refl
   where
     by : (is_failed x ≡ false → list_any is_failed answers ≡ true) → (v : Bool) → is_failed x ≡ v → list_any is_failed (x ∷ answers) ≡ true
@@ -73,4 +73,4 @@ pub real_failures : (shows : Bool) (mode : Mode) (found : List Found) (last : Li
     → (end.out.failed || end.err.failed) ≡ false → list_any is_failed run.answers ≡ true
 real_failures shows mode found last before after end run four good =
     fold_four shows mode run.seen run.answers before after 0 (not_four 0 (lit< tt)) run.looks
-    (sym (run.exit ∙ ap (λ (v : Bool). if v then 4 else worst (map (λ r. r.status) (reports_of mode run.seen run.answers))) good) ∙ four)
+    (sym (run.exit ∙ ap (λ (v : Bool). if v then 4 else worst_status (map (λ r. r.status) (reports_of mode run.seen run.answers))) good) ∙ four)

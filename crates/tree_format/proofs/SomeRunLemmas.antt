@@ -30,14 +30,14 @@ use Rattle.file_tree.specs.Files.{Files, Name, with_fault, put}
 use Rattle.tree_format.specs.States.{State}
 use Rattle.file_tree.specs.declared.fault.TreeFault.{TreeFault}
 use Rattle.file_tree.specs.Asked.{Asked, with_asked}
-use Rattle.file_tree.specs.declared.tree.Replaced.TheVariants.{Kept as AllKept}
+use Rattle.file_tree.specs.declared.tree.Replaced.TheVariants.{MayBecome as AllKept}
 use Rattle.file_tree.specs.declared.walk.Found.{Found}
 use Rattle.tree_format.specs.GoodRuns.{HasFormatOrFault, AreReady, HasLineRoom, HasRoom, Holds, IsReady}
 use Rattle.tree_format.specs.Format.{IsFault, IsFormat}
 use Rattle.tree_format.specs.Looks.{Asks, Looks, Visits, failure_of, shown_diff}
 use Rattle.tree_format.specs.Refusals.{shown_line}
-use Rattle.tree_format.specs.Reports.{worst}
-use Rattle.tree_format.specs.Runs.{IsRun, Kept, Looked, SeesBy, is_failed, reports_of}
+use Rattle.tree_format.specs.Reports.{worst_status}
+use Rattle.tree_format.specs.Runs.{IsRun, MayBecome, Looked, SeesBy, is_failed, reports_of}
 use Rattle.tree_format.specs.declared.mode.Mode.{Mode}
 use Rattle.tree_format.specs.declared.mode.Mode.TheVariants.{Write, Check, List as Listed, Diff}
 use Rattle.tree_format.specs.declared.outcome.Outcome.{Outcome}
@@ -203,7 +203,7 @@ line_room : (shows : Bool) (bytes : List ℕ) → IsFormat bytes bytes → HasLi
 line_room false bytes f = tt
 line_room true bytes f = λ fault is. absurd (no_format bytes bytes fault is f)
 
-ready_kept : (shows : Bool) (mode : Mode) (name : Name) (a b : Option (List ℕ)) → Kept mode a b → IsReady shows mode name a → IsReady shows mode name b
+ready_kept : (shows : Bool) (mode : Mode) (name : Name) (a b : Option (List ℕ)) → MayBecome mode a b → IsReady shows mode name a → IsReady shows mode name b
 ready_kept shows (Write w) name None b k ready = absurd ready
 ready_kept shows (Write w) name (Some x) b (inl e) ready = subst (IsReady shows (Write w) name) (sym e) ready
 ready_kept shows (Write w) name (Some x) b (inr f) ready = subst (IsReady shows (Write w) name) (sym f.2) (inl (f.0, formatted_again x f.0 f.1), tt, line_room shows f.0 (formatted_again x f.0 f.1))
@@ -247,7 +247,7 @@ pub a_run : (shows : Bool) (mode : Mode) (found : List Found) (before : State) �
     → (after : State) × (end : End) × (run : IsRun shows mode found (λ answers. []) before after end) × (end.status ≢ 4)
 a_run shows mode found before ready =
     let looks = some_looks shows mode found before ready in
-    let status = worst (map (λ r. r.status) (reports_of mode found looks.0)) in (
+    let status = worst_status (map (λ r. r.status) (reports_of mode found looks.0)) in (
       looks.1,
       record { out = quiet; err = quiet; status = status },
       record {

@@ -8,7 +8,7 @@ use Rattle.file_tree.specs.Files.{Name}
 use Rattle.file_tree.specs.FaultTexts.{tree_fault_text}
 use Rattle.file_tree.specs.Quotes.{quoted}
 use Rattle.file_tree.specs.declared.tree.Replaced.{Replaced}
-use Rattle.file_tree.specs.declared.tree.Replaced.TheVariants.{Kept, Narrowed}
+use Rattle.file_tree.specs.declared.tree.Replaced.TheVariants.{MayBecome, Narrowed}
 use Rattle.tree_format.specs.declared.mode.Ending.{Ending}
 use Rattle.tree_format.specs.declared.mode.Ending.TheVariants.{Line, Null}
 use Rattle.tree_format.specs.declared.mode.Mode.{Mode}
@@ -37,7 +37,7 @@ narrowed_text = codes "its group cannot be kept: group and others have the right
 
 -- what is said of the rights to a file that was written
 abbrev pub rights_words : Replaced → Name → List ℕ
-rights_words Kept name = []
+rights_words MayBecome name = []
 rights_words Narrowed name = about name narrowed_text
 
 -- a file isn't formatted, or wasn't before
@@ -64,8 +64,8 @@ report_of mode name (outcome.Refused fault snippet) = record { out = []; err = r
 report_of mode name (outcome.Failed fault) = record { out = []; err = about name (tree_fault_text fault); status = 4 }
 
 -- 4 is worse than 2, 2 is worse than 3, and 3 than 0
-abbrev pub worse : ℕ → ℕ → ℕ
-worse one other = if one == 4 || other == 4 then 4 else (if one == 2 || other == 2 then 2 else max one other)
+abbrev pub worse_status : ℕ → ℕ → ℕ
+worse_status one other = if one == 4 || other == 4 then 4 else (if one == 2 || other == 2 then 2 else max one other)
 
-abbrev pub worst : List ℕ → ℕ
-worst statuses = fold worse 0 statuses
+abbrev pub worst_status : List ℕ → ℕ
+worst_status statuses = fold worse_status 0 statuses

@@ -6,7 +6,7 @@ use Rattle.file_tree.specs.Files.{Name}
 use Rattle.file_tree.specs.declared.fault.TreeFault.{TreeFault}
 use Rattle.file_tree.specs.declared.walk.Found.{Found}
 use Rattle.tree_format.specs.Looks.{Asks, Notes, Visits}
-use Rattle.tree_format.specs.Reports.{Report, report_of, worst}
+use Rattle.tree_format.specs.Reports.{Report, report_of, worst_status}
 use Rattle.tree_format.specs.States.{State}
 use Rattle.hcl_source.specs.declared.fault.Fault.{Fault}
 use Rattle.tree_format.specs.Format.{IsFormat, IsFault}
@@ -21,9 +21,9 @@ IsSafe None after = after ≡ None
 IsSafe (Some bytes) after = (after ≡ Some bytes) ⊎ ((formatted : List ℕ) × IsFormat bytes formatted × (after ≡ Some formatted))
 
 -- what a run may make of a file: only where files are to be written it may get its format
-abbrev pub Kept : Mode → Option (List ℕ) → Option (List ℕ) → Type 0
-Kept (Write writing) before after = IsSafe before after
-Kept mode before after = after ≡ before
+abbrev pub MayBecome : Mode → Option (List ℕ) → Option (List ℕ) → Type 0
+MayBecome (Write writing) before after = IsSafe before after
+MayBecome mode before after = after ≡ before
 
 -- a look failed
 abbrev pub is_failed : Outcome → Bool
@@ -91,4 +91,4 @@ pub record IsRun (shows : Bool) (mode : Mode) (found : List Found) (last : List 
   pub output : Took end.out (concat (map (λ r. r.out) (reports_of mode seen answers)))
   pub message : Took end.err (concat (map (λ r. r.err) (reports_of mode seen answers)) ++ last answers)
   pub stops : AreWhole end.out end.err (reports_of mode seen answers)
-  pub exit : end.status ≡ (if end.out.failed || end.err.failed then 4 else worst (map (λ r. r.status) (reports_of mode seen answers)))
+  pub exit : end.status ≡ (if end.out.failed || end.err.failed then 4 else worst_status (map (λ r. r.status) (reports_of mode seen answers)))

@@ -5,7 +5,7 @@ ghost use Rattle.std.specs.List.{concat};
 ghost use Rattle.command_line.specs.Rows.{Took, fault_words, writer};
 ghost use Rattle.file_tree.specs.Quotes.{quoted};
 ghost use Rattle.file_tree.specs.Files.{Name};
-ghost use Rattle.tree_format.specs.Reports.{about, listed, refused_words, report_of, rights_words, snippet_text, worse};
+ghost use Rattle.tree_format.specs.Reports.{about, listed, refused_words, report_of, rights_words, snippet_text, worse_status};
 ghost use Rattle.tree_format.specs.declared.mode.Ending.TheVariants.{Line};
 ghost use Rattle.tree_format.specs.Inner.Parts.{place_words};
 
@@ -112,7 +112,7 @@ fn tell_rights<S: ByteSink>(sink: &mut S, how: Replaced, name: &[u8]) -> Result<
     ensures failed { S.failed sink.new ≡ is_err result }
 {
     match how {
-        Replaced::Kept => Ok(()),
+        Replaced::MayBecome => Ok(()),
         Replaced::Narrowed => tell_about(
             sink,
             name,
@@ -187,8 +187,8 @@ pub fn status_of(mode: Mode, outcome: &Outcome) -> u8
 }
 
 /// The worse of two statuses: 4 is worse than 2, and 2 than 3.
-pub fn worse(one: u8, other: u8) -> u8
-    ensures { result ≡ worse one other }
+pub fn worse_status(one: u8, other: u8) -> u8
+    ensures { result ≡ worse_status one other }
 {
     if one == 4 || other == 4 {
         return 4;

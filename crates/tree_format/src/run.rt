@@ -2,7 +2,7 @@
 
 ghost use Rattle.std.specs.Prelude.{◌≡◌, ◌≢◌, ℕ, List, [], All, false};
 ghost use Rattle.command_line.specs.Rows.{end_of_streams};
-ghost use Rattle.tree_format.specs.Runs.{Kept, Sees, Settled, is_failed};
+ghost use Rattle.tree_format.specs.Runs.{MayBecome, Sees, Settled, is_failed};
 ghost use Rattle.tree_format.specs.States.{state_of};
 ghost use Rattle.tree_format.specs.Tally.{Tallies};
 
@@ -10,7 +10,7 @@ use crate::look::visit;
 use crate::mode::Mode;
 use crate::outcome::Outcome;
 use crate::progress::Progress;
-use crate::report::{report, status_of, worse};
+use crate::report::{report, status_of, worse_status};
 use crate::tally::Tally;
 use command_line::Streams;
 use file_tree::tree::WritableTree;
@@ -28,7 +28,7 @@ fn look<T: WritableTree>(
     tree: &mut T,
 ) -> Outcome
     ensures kept { (name : List ℕ)
-        → Kept mode ((T.files tree.old).told name) ((T.files tree.new).told name) }
+        → MayBecome mode ((T.files tree.old).told name) ((T.files tree.new).told name) }
     ensures settled { let real = (T.files tree.old).real found.now.name.items in
         is_failed result ≡ false
         → Settled mode ((T.files tree.old).told real) ((T.files tree.new).told real) }
@@ -67,7 +67,7 @@ pub fn run_over<T: WritableTree, P: Progress, O: ByteSink, E: ByteSink>(
     requires err { E.failed streams.old.err ≡ false }
     // However the run goes, each file is then as it was, or, where files are to be written, it has the format of its bytes.
     ensures kept { (name : List ℕ)
-        → Kept mode ((T.files tree.old).told name) ((T.files tree.new).told name) }
+        → MayBecome mode ((T.files tree.old).told name) ((T.files tree.new).told name) }
     // Where nothing failed, nothing is left to do for the files that were found.
     ensures done { result.status ≢ 4
         → All (λ f. Settled mode ((T.files tree.old).told ((T.files tree.old).real f.name.items))
@@ -93,7 +93,7 @@ pub fn run_over<T: WritableTree, P: Progress, O: ByteSink, E: ByteSink>(
             return Ran { status: 4, tally };
         }
         progress.reported();
-        status = worse(status, status_of(mode, &outcome));
+        status = worse_status(status, status_of(mode, &outcome));
     }
     Ran { status, tally }
 }

@@ -217,7 +217,7 @@ impl Streams {
             if self.has_failed() {
                 return (count, count.saturating_sub(1), 4);
             }
-            status = worse(status, line.said.status());
+            status = worse_status(status, line.said.status());
         }
         (count, count, status)
     }
@@ -288,7 +288,7 @@ impl Streams {
 }
 
 // 4 is worse than 2, and 2 than 3.
-fn worse(one: u8, other: u8) -> u8 {
+fn worse_status(one: u8, other: u8) -> u8 {
     for status in [4, 2, 3] {
         if one == status || other == status {
             return status;

@@ -3,7 +3,7 @@ use Rattle.std.proofs.lemmas.List.{length-take-le, take_all}
 use Rattle.std.proofs.lemmas.List.Elements.{All-get_or, All-nil}
 use Rattle.std.specs.Prelude.{◌≢◌, All}
 use Rattle.command_line.specs.Rows.{TookBy}
-use Rattle.tree_format.specs.Reports.{report_of, worse}
+use Rattle.tree_format.specs.Reports.{report_of, worse_status}
 use Rattle.tree_format.specs.Runs.{Settled}
 use Rattle.file_tree.specs.declared.walk.Found.{Found}
 use Rattle.tree_format.proofs.FileRunLemmas.{can_grow, first_good, good_answer, left_good, one_bad, right_good, run_all, run_cut, second_good, so_far_more, so_far_none, tallies_as}
@@ -25,18 +25,18 @@ loop-found-preserved g c =
       λ name. kept_trans _ _ _ _ (c.loop-found.invariant.2 name) (c.look-outcome.ensures.kept name),
       λ name. c.look-outcome.ensures.real name ∙ c.loop-found.invariant.3 name,
       λ ne. all_settled c.args.mode (λ f. first.real f.name.items) first.told old.told new.told c.look-outcome.ensures.kept c.args.all.now c.loop-found.found-index c.found-item.result c.loop-found-test.true
-          (c.loop-found.invariant.4 (first_good _ _ (λ e. ne (c.worse-status.ensures ∙ e))))
+          (c.loop-found.invariant.4 (first_good _ _ (λ e. ne (c.worse_status-status.ensures ∙ e))))
           (subst (λ (f : Found). Settled c.args.mode (first.told (first.real f.name.items)) (new.told (first.real f.name.items)))
           c.found-item.is
           (settled_after _ _ _ _ (c.loop-found.invariant.2 _)
-          (subst (λ n. Settled c.args.mode (old.told n) (new.told n)) (c.loop-found.invariant.3 c.found-item.result.name.items) (c.look-outcome.ensures.settled (good_answer c.args.mode name c.look-outcome.result (λ e. second_good _ _ (λ e. ne (c.worse-status.ensures ∙ e)) (c.status_of.ensures name ∙ e))))))),
+          (subst (λ n. Settled c.args.mode (old.told n) (new.told n)) (c.loop-found.invariant.3 c.found-item.result.name.items) (c.look-outcome.ensures.settled (good_answer c.args.mode name c.look-outcome.result (λ e. second_good _ _ (λ e. ne (c.worse_status-status.ensures ∙ e)) (c.status_of.ensures name ∙ e))))))),
       λ name other. c.look-outcome.ensures.elsewhere name
           (subst (λ n. name ≢ n) (sym (c.loop-found.invariant.3 c.found-item.result.name.items)) (subst (λ (f : Found). name ≢ first.real f.name.items) (sym c.found-item.is) (All-get_or (λ (f : Found). name ≢ first.real f.name.items) c.args.all.now c.loop-found.found-index c.found-item.result c.loop-found-test.true other)))
           ∙ c.loop-found.invariant.5 name other,
       so_far_more _ c.args.mode (take c.loop-found.found-index c.args.all.now) _ c.found-item.result c.look-outcome.result _ _ _ _ _ _ _ _ _ _ _ _ _ _ _ (take_one c.args.all.now c.loop-found.found-index c.found-item.result c.loop-found-test.true c.found-item.is)
           c.loop-found.invariant.6 c.add-tally.ensures c.look-outcome.ensures.sees good (subst (λ n. TookBy (g.O.ByteSink.failed c.report.new.streams.out) (g.O.ByteSink.taken c.loop-found.streams.out) (g.O.ByteSink.taken c.report.new.streams.out) (report_of c.args.mode n c.look-outcome.result).out) c.as_slice.ensures.value c.report.ensures.out)
           good' (subst (λ n. TookBy (g.E.ByteSink.failed c.report.new.streams.err) (g.E.ByteSink.taken c.loop-found.streams.err) (g.E.ByteSink.taken c.report.new.streams.err) (report_of c.args.mode n c.look-outcome.result).err) c.as_slice.ensures.value c.report.ensures.err)
-          (c.worse-status.ensures ∙ ap (worse c.loop-found.status) (c.status_of.ensures name)),
+          (c.worse_status-status.ensures ∙ ap (worse_status c.loop-found.status) (c.status_of.ensures name)),
     )
 
 pub returns-then-is_err-clause-kept : goal.returns-then-is_err-clause-kept
