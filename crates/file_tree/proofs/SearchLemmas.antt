@@ -20,7 +20,7 @@ use Rattle.file_tree.specs.declared.kind.Kind.{Kind}
 use Rattle.file_tree.specs.declared.kind.Kind.TheVariants.{File, Folder, Link, Other}
 use Rattle.file_tree.specs.declared.walk.Found.{Found}
 use Rattle.file_tree.specs.declared.walk.FoundFile.{FoundFile}
-use Rattle.file_tree.specs.declared.walk.Looked.{Looked}
+use Rattle.file_tree.specs.declared.walk.ListedFolder.{ListedFolder}
 use Rattle.file_tree.specs.declared.walk.Search.{Search}
 use Rattle.file_tree.specs.declared.walk.Walk.{Walk}
 use Rattle.file_tree.proofs.FolderLemmas.{finds_in}
@@ -94,8 +94,8 @@ module _ (folder : Name) (here : Reached) (old new : Search) (k : Keeps folder h
   found_more : (searched new).found ≡ (searched old).found ++ here.found
   found_more =
       (λ i. all_found (k.named i).items (k.looked i))
-      ∙ ap (λ l. old.walk.found.items ++ l) (flat_map-append (λ (l : Looked). l.found.items) old.looked.items (k.l ∷ []) ∙ ap (λ l. flat_map (λ (l : Looked). l.found.items) old.looked.items ++ l) (append-nil k.l.found.items ∙ k.found_is))
-      ∙ sym (append_assoc old.walk.found.items (flat_map (λ (l : Looked). l.found.items) old.looked.items) here.found)
+      ∙ ap (λ l. old.walk.found.items ++ l) (flat_map-append (λ (l : ListedFolder). l.found.items) old.looked.items (k.l ∷ []) ∙ ap (λ l. flat_map (λ (l : ListedFolder). l.found.items) old.looked.items ++ l) (append-nil k.l.found.items ∙ k.found_is))
+      ∙ sym (append_assoc old.walk.found.items (flat_map (λ (l : ListedFolder). l.found.items) old.looked.items) here.found)
 
   all_after : after (searched old).found (searched old).folders here ≡ searched new
   all_after = λ i. record { found = sym found_more i; folders = sym k.folders i }
@@ -119,9 +119,9 @@ looks_hears files chosen folder was is old new h = record {
 looks_more : (files : Files) (chosen : Chosen) (folder : Name) (was is : Faults) (old new : Search) → LooksInto files chosen folder was is old new → AreLooks files chosen old.looked.items → AreLooks files chosen new.looked.items
 looks_more files chosen folder was is old new h before = λ l c. by l (Contains-push_cases old.looked.items h.keeps.l l (subst (λ ls. Contains ls l) h.keeps.looked c))
   where
-    by : (l : Looked) → Contains old.looked.items l ⊎ (h.keeps.l ≡ l) → IsLook files chosen l
+    by : (l : ListedFolder) → Contains old.looked.items l ⊎ (h.keeps.l ≡ l) → IsLook files chosen l
     by l (inl c) = before l c
-    by l (inr e) = subst (λ (l : Looked). IsLook files chosen l) e (h.here, subst (λ d. TakesFolder files chosen d nothing h.here) (sym h.keeps.folder_is) h.takes, h.keeps.found_is)
+    by l (inr e) = subst (λ (l : ListedFolder). IsLook files chosen l) e (h.here, subst (λ d. TakesFolder files chosen d nothing h.here) (sym h.keeps.folder_is) h.takes, h.keeps.found_is)
 
 -- ---- folders in turn
 
@@ -146,7 +146,7 @@ searches_more files later chosen was mid is first old between new rest folder sa
 
 -- ---- all folders
 
-none_looked : (files : Files) (chosen : Chosen) (looked : List Looked) → looked ≡ [] → AreLooks files chosen looked
+none_looked : (files : Files) (chosen : Chosen) (looked : List ListedFolder) → looked ≡ [] → AreLooks files chosen looked
 none_looked files chosen looked none = λ l c. absurd (none_in l (subst (λ ls. Contains ls l) none c))
 
 pub sees_all : (files later : Files) (chosen : Chosen) (paths : List Name) (was mid is : Faults) (walk : Walk) (first last : Search) → later ≡ files → first.walk ≡ walk → first.looked.items ≡ [] → Walked files chosen paths (reached walk)
@@ -177,55 +177,55 @@ whole_folder files folder old new (inr h) = inr (h.0, h.1, whole_all files folde
 abbrev Has : (Found → Type 0) → List Found → Type 0
 Has Q found = (f : Found) × Contains found f × Q f
 
-pub ordered_more : (ls os : List Looked) (l o : Looked) → AreOrdered ls os → o.folder.items ≡ l.folder.items → Orders l.found.items o.found.items → AreOrdered (ls ++ l ∷ []) (os ++ o ∷ [])
+pub ordered_more : (ls os : List ListedFolder) (l o : ListedFolder) → AreOrdered ls os → o.folder.items ≡ l.folder.items → Orders l.found.items o.found.items → AreOrdered (ls ++ l ∷ []) (os ++ o ∷ [])
 ordered_more [] [] l o so same is = (same, is, tt)
 ordered_more [] (p ∷ os) l o so same is = absurd so
 ordered_more (k ∷ ls) [] l o so same is = absurd so
 ordered_more (k ∷ ls) (p ∷ os) l o so same is = (so.0, so.1, ordered_more ls os l o so.2 same is)
 
-ordered_only : (ls os : List Looked) → AreOrdered ls os → (f : Found) → Contains (flat_map (λ (l : Looked). l.found.items) os) f → Contains (flat_map (λ (l : Looked). l.found.items) ls) f
+ordered_only : (ls os : List ListedFolder) → AreOrdered ls os → (f : Found) → Contains (flat_map (λ (l : ListedFolder). l.found.items) os) f → Contains (flat_map (λ (l : ListedFolder). l.found.items) ls) f
 ordered_only [] [] so f c = absurd (none_in f c)
 ordered_only [] (o ∷ os) so f c = absurd so
 ordered_only (l ∷ ls) [] so f c = absurd so
-ordered_only (l ∷ ls) (o ∷ os) so f c = by (λ d. ordered_only ls os so.2 f d) (Contains-append_cases o.found.items (flat_map (λ (l : Looked). l.found.items) os) f c)
+ordered_only (l ∷ ls) (o ∷ os) so f c = by (λ d. ordered_only ls os so.2 f d) (Contains-append_cases o.found.items (flat_map (λ (l : ListedFolder). l.found.items) os) f c)
   where
-    by : (Contains (flat_map (λ (l : Looked). l.found.items) os) f → Contains (flat_map (λ (l : Looked). l.found.items) ls) f) → Contains o.found.items f ⊎ Contains (flat_map (λ (l : Looked). l.found.items) os) f → Contains (l.found.items ++ flat_map (λ (l : Looked). l.found.items) ls) f
-    by rest (inl d) = Contains-append_left l.found.items (flat_map (λ (l : Looked). l.found.items) ls) f (so.1.only f d)
-    by rest (inr d) = Contains-append_right l.found.items (flat_map (λ (l : Looked). l.found.items) ls) f (rest d)
+    by : (Contains (flat_map (λ (l : ListedFolder). l.found.items) os) f → Contains (flat_map (λ (l : ListedFolder). l.found.items) ls) f) → Contains o.found.items f ⊎ Contains (flat_map (λ (l : ListedFolder). l.found.items) os) f → Contains (l.found.items ++ flat_map (λ (l : ListedFolder). l.found.items) ls) f
+    by rest (inl d) = Contains-append_left l.found.items (flat_map (λ (l : ListedFolder). l.found.items) ls) f (so.1.only f d)
+    by rest (inr d) = Contains-append_right l.found.items (flat_map (λ (l : ListedFolder). l.found.items) ls) f (rest d)
 
 module _ (Q : Found → Type 0) (one : (found ordered : List Found) → Orders found ordered → Has Q found → Has Q ordered) where
-  ordered_has : (ls os : List Looked) → AreOrdered ls os → Has Q (flat_map (λ (l : Looked). l.found.items) ls) → Has Q (flat_map (λ (l : Looked). l.found.items) os)
+  ordered_has : (ls os : List ListedFolder) → AreOrdered ls os → Has Q (flat_map (λ (l : ListedFolder). l.found.items) ls) → Has Q (flat_map (λ (l : ListedFolder). l.found.items) os)
   ordered_has [] [] so h = h
   ordered_has [] (o ∷ os) so h = absurd so
   ordered_has (l ∷ ls) [] so h = absurd so
-  ordered_has (l ∷ ls) (o ∷ os) so h = by (λ g. ordered_has ls os so.2 g) (Contains-append_cases l.found.items (flat_map (λ (l : Looked). l.found.items) ls) h.0 h.1)
+  ordered_has (l ∷ ls) (o ∷ os) so h = by (λ g. ordered_has ls os so.2 g) (Contains-append_cases l.found.items (flat_map (λ (l : ListedFolder). l.found.items) ls) h.0 h.1)
     where
-      here : Has Q o.found.items → Has Q (o.found.items ++ flat_map (λ (l : Looked). l.found.items) os)
-      here g = (g.0, Contains-append_left o.found.items (flat_map (λ (l : Looked). l.found.items) os) g.0 g.1, g.2)
+      here : Has Q o.found.items → Has Q (o.found.items ++ flat_map (λ (l : ListedFolder). l.found.items) os)
+      here g = (g.0, Contains-append_left o.found.items (flat_map (λ (l : ListedFolder). l.found.items) os) g.0 g.1, g.2)
 
-      later : Has Q (flat_map (λ (l : Looked). l.found.items) os) → Has Q (o.found.items ++ flat_map (λ (l : Looked). l.found.items) os)
-      later g = (g.0, Contains-append_right o.found.items (flat_map (λ (l : Looked). l.found.items) os) g.0 g.1, g.2)
+      later : Has Q (flat_map (λ (l : ListedFolder). l.found.items) os) → Has Q (o.found.items ++ flat_map (λ (l : ListedFolder). l.found.items) os)
+      later g = (g.0, Contains-append_right o.found.items (flat_map (λ (l : ListedFolder). l.found.items) os) g.0 g.1, g.2)
 
-      by : (Has Q (flat_map (λ (l : Looked). l.found.items) ls) → Has Q (flat_map (λ (l : Looked). l.found.items) os)) → Contains l.found.items h.0 ⊎ Contains (flat_map (λ (l : Looked). l.found.items) ls) h.0 → Has Q (o.found.items ++ flat_map (λ (l : Looked). l.found.items) os)
+      by : (Has Q (flat_map (λ (l : ListedFolder). l.found.items) ls) → Has Q (flat_map (λ (l : ListedFolder). l.found.items) os)) → Contains l.found.items h.0 ⊎ Contains (flat_map (λ (l : ListedFolder). l.found.items) ls) h.0 → Has Q (o.found.items ++ flat_map (λ (l : ListedFolder). l.found.items) os)
       by rest (inl c) = here (one l.found.items o.found.items so.1 (h.0, c, h.2))
       by rest (inr c) = later (rest (h.0, c, h.2))
 
-  all_has : (named : List Found) (ls os : List Looked) → AreOrdered ls os → Has Q (all_found named ls) → Has Q (all_found named os)
-  all_has named ls os so h = by (Contains-append_cases named (flat_map (λ (l : Looked). l.found.items) ls) h.0 h.1)
+  all_has : (named : List Found) (ls os : List ListedFolder) → AreOrdered ls os → Has Q (all_found named ls) → Has Q (all_found named os)
+  all_has named ls os so h = by (Contains-append_cases named (flat_map (λ (l : ListedFolder). l.found.items) ls) h.0 h.1)
     where
-      later : Has Q (flat_map (λ (l : Looked). l.found.items) os) → Has Q (all_found named os)
-      later g = (g.0, Contains-append_right named (flat_map (λ (l : Looked). l.found.items) os) g.0 g.1, g.2)
+      later : Has Q (flat_map (λ (l : ListedFolder). l.found.items) os) → Has Q (all_found named os)
+      later g = (g.0, Contains-append_right named (flat_map (λ (l : ListedFolder). l.found.items) os) g.0 g.1, g.2)
 
-      by : Contains named h.0 ⊎ Contains (flat_map (λ (l : Looked). l.found.items) ls) h.0 → Has Q (all_found named os)
-      by (inl c) = (h.0, Contains-append_left named (flat_map (λ (l : Looked). l.found.items) os) h.0 c, h.2)
+      by : Contains named h.0 ⊎ Contains (flat_map (λ (l : ListedFolder). l.found.items) ls) h.0 → Has Q (all_found named os)
+      by (inl c) = (h.0, Contains-append_left named (flat_map (λ (l : ListedFolder). l.found.items) os) h.0 c, h.2)
       by (inr c) = later (ordered_has ls os so (h.0, c, h.2))
 
-all_only : (named : List Found) (ls os : List Looked) → AreOrdered ls os → (f : Found) → Contains (all_found named os) f → Contains (all_found named ls) f
-all_only named ls os so f c = by (Contains-append_cases named (flat_map (λ (l : Looked). l.found.items) os) f c)
+all_only : (named : List Found) (ls os : List ListedFolder) → AreOrdered ls os → (f : Found) → Contains (all_found named os) f → Contains (all_found named ls) f
+all_only named ls os so f c = by (Contains-append_cases named (flat_map (λ (l : ListedFolder). l.found.items) os) f c)
   where
-    by : Contains named f ⊎ Contains (flat_map (λ (l : Looked). l.found.items) os) f → Contains (all_found named ls) f
-    by (inl d) = Contains-append_left named (flat_map (λ (l : Looked). l.found.items) ls) f d
-    by (inr d) = Contains-append_right named (flat_map (λ (l : Looked). l.found.items) ls) f (ordered_only ls os so f d)
+    by : Contains named f ⊎ Contains (flat_map (λ (l : ListedFolder). l.found.items) os) f → Contains (all_found named ls) f
+    by (inl d) = Contains-append_left named (flat_map (λ (l : ListedFolder). l.found.items) ls) f d
+    by (inr d) = Contains-append_right named (flat_map (λ (l : ListedFolder). l.found.items) ls) f (ordered_only ls os so f d)
 
 abbrev Good : Name → Found → Type 0
 Good name f = (f.name.items ≡ name) × (f.fault ≡ None)
@@ -236,7 +236,7 @@ found_from name found h = (h.0, h.1, h.2.0, h.2.1)
 from_found : (name : Name) (found : List Found) → IsFound found name → Has (Good name) found
 from_found name found h = (h.0, h.1, (h.2, h.3))
 
-orders_all : (named : List Found) (ls os : List Looked) (ordered : List Found) → AreOrdered ls os → Orders (all_found named os) ordered → Orders (all_found named ls) ordered
+orders_all : (named : List Found) (ls os : List ListedFolder) (ordered : List Found) → AreOrdered ls os → Orders (all_found named os) ordered → Orders (all_found named ls) ordered
 orders_all named ls os ordered so o = record {
   rises = o.rises;
   only = λ f c. all_only named ls os so f (o.only f c);
@@ -244,7 +244,7 @@ orders_all named ls os ordered so o = record {
   named = λ name h. o.named name (all_has (λ f. f.name.items ≡ name) (λ found ordered p g. p.named name g) named ls os so h);
 }
 
-ordered_each : (files : Files) (ls os : List Looked) → AreOrdered ls os → AreLooks files any ls → (o : Looked) → Contains os o → FindsIn files o.folder.items o.found.items
+ordered_each : (files : Files) (ls os : List ListedFolder) → AreOrdered ls os → AreLooks files any ls → (o : ListedFolder) → Contains os o → FindsIn files o.folder.items o.found.items
 ordered_each files [] [] so looks o c = absurd (none_in o c)
 ordered_each files [] (p ∷ os) so looks o c = absurd so
 ordered_each files (l ∷ ls) [] so looks o c = absurd so
@@ -260,10 +260,10 @@ ordered_each files (l ∷ ls) (p ∷ os) so looks o c = by (λ d. ordered_each f
         (finds_in files l.folder.items nothing look.0 p.found.items (whole_folder files l.folder.items nothing look.0 look.1) refl (subst (λ found. Orders found p.found.items) look.2 so.1))
 
     by : (Contains os o → FindsIn files o.folder.items o.found.items) → (p ≡ o) ⊎ Contains os o → FindsIn files o.folder.items o.found.items
-    by rest (inl e) = subst (λ (x : Looked). FindsIn files x.folder.items x.found.items) e here
+    by rest (inl e) = subst (λ (x : ListedFolder). FindsIn files x.folder.items x.found.items) e here
     by rest (inr d) = rest d
 
-pub sees_any : (files : Files) (told : Chosen) (paths : List Name) (was is : Faults) (s : Search) (ordered : List Looked) → told ≡ any → SeesAll files told paths was is s → AreOrdered s.looked.items ordered → Sees files paths was is s.walk.found.items ordered
+pub sees_any : (files : Files) (told : Chosen) (paths : List Name) (was is : Faults) (s : Search) (ordered : List ListedFolder) → told ≡ any → SeesAll files told paths was is s → AreOrdered s.looked.items ordered → Sees files paths was is s.walk.found.items ordered
 sees_any files told paths was is s ordered same sees so = record {
   finds = λ found o. subst (λ (c : Chosen). Finds files c paths found) same (finds_from files told paths (searched s).found found sees.walked (orders_all s.walk.found.items s.looked.items ordered found so o));
   real = subst (λ (c : Chosen). AreReal files c paths was is (all_found s.walk.found.items ordered)) same

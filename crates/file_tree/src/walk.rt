@@ -48,7 +48,7 @@ struct Walk {
 
 /// The entries found in a folder that was listed.
 #[derive(PartialEq, Eq, PartialOrd, Ord, Drop)]
-pub struct Looked {
+pub struct ListedFolder {
     /// The name of the folder, with a `/` at its end, or empty for the current one.
     pub folder: Vec<u8>,
     /// Its files that are taken, pipes, sockets and devices under such names, and the names that can't be looked at.
@@ -59,7 +59,7 @@ pub struct Looked {
 #[derive(Drop)]
 pub struct Seen {
     pub named: Vec<Found>,
-    pub looked: Vec<Looked>,
+    pub looked: Vec<ListedFolder>,
 }
 
 /// A walk that keeps the entries of each folder apart.
@@ -67,7 +67,7 @@ pub struct Seen {
 struct Search {
     /// The entries found for the names themselves, and the folders still to be listed.
     walk: Walk,
-    looked: Vec<Looked>,
+    looked: Vec<ListedFolder>,
 }
 
 /// What stands in a folder under a name.
@@ -508,7 +508,7 @@ impl Search {
         let Ok(()) = self.walk.folders.append(&mut folders) else {
             return Err(AllocError);
         };
-        let Ok(()) = self.looked.push(Looked { folder, found }) else {
+        let Ok(()) = self.looked.push(ListedFolder { folder, found }) else {
             return Err(AllocError);
         };
         Ok(())
@@ -610,14 +610,14 @@ pub fn find<T: Tree>(
 }
 
 /// These folders, and in each the found names in order, each once.
-fn ordered(alloc: Global, looked: Vec<Looked>) -> Result<Vec<Looked>, AllocError>
+fn ordered(alloc: Global, looked: Vec<ListedFolder>) -> Result<Vec<ListedFolder>, AllocError>
     ensures { IfOk result (λ ordered. AreOrdered looked.items ordered.items) }
 {
     let mut ordered = Vec::new(alloc);
     for one in looked {
-        let Looked { folder, found } = one;
+        let ListedFolder { folder, found } = one;
         let found = in_order(found);
-        let Ok(()) = ordered.push(Looked { folder, found }) else {
+        let Ok(()) = ordered.push(ListedFolder { folder, found }) else {
             return Err(AllocError);
         };
     }

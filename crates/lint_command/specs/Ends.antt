@@ -6,7 +6,7 @@ use Rattle.file_tree.specs.Files.{Faults, Files, Name, Tells}
 use Rattle.file_tree.specs.Quotes.{in_quotes}
 use Rattle.file_tree.specs.Seen.{Sees, all_found}
 use Rattle.file_tree.specs.declared.walk.Found.{Found}
-use Rattle.file_tree.specs.declared.walk.Looked.{Looked}
+use Rattle.file_tree.specs.declared.walk.ListedFolder.{ListedFolder}
 use Rattle.lint_forms.specs.Forms.{form_foot, form_head}
 use Rattle.lint_forms.specs.Remarks.{Remark}
 use Rattle.lint_forms.specs.declared.kind.Form.{Form}
@@ -44,7 +44,7 @@ use Rattle.lint_command.specs.declared.usage.Usage.TheVariants.{Help, Version, L
 -- of the device failed, or for its name
 pub record Collects (files : Files) (shard : Option Shard) (paths : List Name) (was is : Faults) (modules : List Module) (faults : List Found) : Type 0 where
   pub named : List Found  -- what was found of the paths themselves
-  pub looked : List Looked  -- what was found in each folder of the walk
+  pub looked : List ListedFolder  -- what was found in each folder of the walk
   pub walked : Faults  -- those of calls up to the end of the walk
   pub sees : Sees files paths was walked named looked
   pub folders : List Found

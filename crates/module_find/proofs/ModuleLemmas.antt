@@ -17,7 +17,7 @@ use Rattle.file_tree.specs.declared.fault.TreeFault.{TreeFault}
 use Rattle.file_tree.specs.declared.fault.TreeFault.TheVariants.{NotUtf8}
 use Rattle.file_tree.specs.declared.walk.Found.{Found}
 use Rattle.file_tree.specs.declared.walk.FoundFile.{FoundFile}
-use Rattle.file_tree.specs.declared.walk.Looked.{Looked}
+use Rattle.file_tree.specs.declared.walk.ListedFolder.{ListedFolder}
 use Rattle.file_tree.proofs.OrderLemmas.{none_in}
 use Rattle.module_find.specs.Inner.Adding.{AddsFolder, AddsModule, TakesFound, told_by}
 use Rattle.module_find.specs.Modules.{AreFolders, AreFoldersOf, AreModules, IsModule, IsModuleOf, StandsIn, breaks_by, fault_by, file_in, folder_of, is_file_by, is_lost, is_module_file, is_of_module, is_sound, lost_in, name_fault, stands, told_as, told_in}
@@ -101,12 +101,12 @@ folders_more before found i f old new within is so h =
 
 -- ---- folder by folder
 
-pub looked_more : (named : List Found) (looked : List Looked) (i : ℕ) (l : Looked) → i < length looked → l ≡ get_or looked i l → all_found named (take i looked) ++ l.found.items ≡ all_found named (take (i + 1) looked)
+pub looked_more : (named : List Found) (looked : List ListedFolder) (i : ℕ) (l : ListedFolder) → i < length looked → l ≡ get_or looked i l → all_found named (take i looked) ++ l.found.items ≡ all_found named (take (i + 1) looked)
 looked_more named looked i l within is =
-    append_assoc named (flat_map (λ (l : Looked). l.found.items) (take i looked)) l.found.items
+    append_assoc named (flat_map (λ (l : ListedFolder). l.found.items) (take i looked)) l.found.items
     ∙ ap (λ x. named ++ x)
-    (sym (ap (flat_map (λ (l : Looked). l.found.items)) (take_more looked i l within ∙ ap (λ x. take i looked ++ x ∷ []) (sym is))
-    ∙ flat_map-append (λ (l : Looked). l.found.items) (take i looked) (l ∷ []) ∙ ap (λ x. flat_map (λ (l : Looked). l.found.items) (take i looked) ++ x) (append-nil l.found.items)))
+    (sym (ap (flat_map (λ (l : ListedFolder). l.found.items)) (take_more looked i l within ∙ ap (λ x. take i looked ++ x ∷ []) (sym is))
+    ∙ flat_map-append (λ (l : ListedFolder). l.found.items) (take i looked) (l ∷ []) ∙ ap (λ x. flat_map (λ (l : ListedFolder). l.found.items) (take i looked) ++ x) (append-nil l.found.items)))
 
 pub got : {A : Type 0} (xs : List A) (i : ℕ) (x : A) → slice_get xs i ≡ Some x → Contains xs x
 got xs i x e = (i, slice_get_within xs i x e, get_or_from_slice_get xs i x x e)
@@ -207,7 +207,7 @@ module_more name found f old new before h = record {
 
 -- ---- all modules
 
-modules_then : (files : Files) (looked : List Looked) (folders : List Found) (d : Found) (modules : List Module) (m : Module) (beside here : List Found) (was between is : Faults) → AreModules files looked folders modules beside was between → IsModule files looked d.name.items m here between is
+modules_then : (files : Files) (looked : List ListedFolder) (folders : List Found) (d : Found) (modules : List Module) (m : Module) (beside here : List Found) (was between is : Faults) → AreModules files looked folders modules beside was between → IsModule files looked d.name.items m here between is
     → AreModules files looked (folders ++ d ∷ []) (modules ++ m ∷ []) (beside ++ here) was is
 modules_then files looked [] d [] m beside here was between is a h = (
   here,
@@ -230,14 +230,14 @@ modules_then files looked (x ∷ folders) d (y ∷ modules) m beside here was be
     )
 
 -- in whatever order the listed folders are
-module_any : (files : Files) (sorted looked : List Looked) (name : Name) (m : Module) (here : List Found) (was is : Faults) → ((l : Looked) → Contains sorted l → Contains looked l) → IsModule files sorted name m here was is → IsModule files looked name m here was is
+module_any : (files : Files) (sorted looked : List ListedFolder) (name : Name) (m : Module) (here : List Found) (was is : Faults) → ((l : ListedFolder) → Contains sorted l → Contains looked l) → IsModule files sorted name m here was is → IsModule files looked name m here was is
 module_any files sorted looked name m here was is within h = (h.0, by h.1, h.2)
   where
     by : StandsIn files sorted name h.0 was is → StandsIn files looked name h.0 was is
     by (inl s) = inl (s.0, (s.1.0, within s.1.0 s.1.1, s.1.2, s.1.3))
     by (inr s) = inr s
 
-pub modules_more : (files later : Files) (sorted looked : List Looked) (folders : List Found) (d : Found) (old new : Modules) (was between is : Faults) → later ≡ files → ((l : Looked) → Contains sorted l → Contains looked l)
+pub modules_more : (files later : Files) (sorted looked : List ListedFolder) (folders : List Found) (d : Found) (old new : Modules) (was between is : Faults) → later ≡ files → ((l : ListedFolder) → Contains sorted l → Contains looked l)
     → AreModules files looked folders old.modules.items old.faults.items was between → AddsModule later sorted d.name.items old new between is → AreModules files looked (folders ++ d ∷ []) new.modules.items new.faults.items was is
 modules_more files later sorted looked folders d old new was between is same within before h =
     subst (λ l. AreModules files looked (folders ++ d ∷ []) l new.faults.items was is) (sym h.3)

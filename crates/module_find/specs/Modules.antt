@@ -10,7 +10,7 @@ use Rattle.file_tree.specs.declared.fault.TreeFault.{TreeFault}
 use Rattle.file_tree.specs.declared.fault.TreeFault.TheVariants.{DeadLink, Missing, NotAFile, NotUtf8}
 use Rattle.file_tree.specs.declared.walk.Found.{Found}
 use Rattle.file_tree.specs.declared.walk.FoundFile.{FoundFile}
-use Rattle.file_tree.specs.declared.walk.Looked.{Looked}
+use Rattle.file_tree.specs.declared.walk.ListedFolder.{ListedFolder}
 use Rattle.module_find.specs.declared.module.Module.{Module}
 
 -- a file of this name is one of a module
@@ -140,17 +140,17 @@ pub record IsModuleOf (name : Name) (found : List Found) (m : Module) (told : Li
   pub lost : map told_as told ≡ map told_as (flat_map told_in found)
 
 -- the entries of a folder: it was listed before, or it is now, and then the device has these faults before and after
-abbrev pub StandsIn : Files → List Looked → Name → List Found → Faults → Faults → Type 0
+abbrev pub StandsIn : Files → List ListedFolder → Name → List Found → Faults → Faults → Type 0
 StandsIn files looked folder found was is =
-    ((is ≡ was) × ((l : Looked) × Contains looked l × (l.folder.items ≡ folder) × (l.found.items ≡ found)))
+    ((is ≡ was) × ((l : ListedFolder) × Contains looked l × (l.folder.items ≡ folder) × (l.found.items ≡ found)))
     ⊎ (FindsIn files folder found × AreHeard was is found)
 
 -- A MODULE has the entries of its folder
-abbrev pub IsModule : Files → List Looked → Name → Module → List Found → Faults → Faults → Type 0
+abbrev pub IsModule : Files → List ListedFolder → Name → Module → List Found → Faults → Faults → Type 0
 IsModule files looked folder m told was is = (found : List Found) × StandsIn files looked folder found was is × IsModuleOf folder found m told
 
 -- THE MODULES of folders, and all reports for these
-abbrev pub AreModules : Files → List Looked → List Found → List Module → List Found → Faults → Faults → Type 0
+abbrev pub AreModules : Files → List ListedFolder → List Found → List Module → List Found → Faults → Faults → Type 0
 AreModules files looked [] [] told was is = (told ≡ []) × (is ≡ was)
 AreModules files looked [] (m ∷ ms) told was is = ⊥
 AreModules files looked (d ∷ ds) [] told was is = ⊥

@@ -10,7 +10,7 @@ ghost use Rattle.module_find.specs.Modules.{AreFolders, AreFoldersOf, is_gone_by
 use crate::lost::{is_lost, is_missing};
 use crate::names::{folder_of, is_module_file, is_of_module};
 use file_tree::path::join;
-use file_tree::walk::{Found, Looked, in_order};
+use file_tree::walk::{Found, ListedFolder, in_order};
 use std::alloc::{AllocError, Global};
 
 /// Whether a name stands for its folder: a found name, and one that matters to a module and can't be looked at.
@@ -75,7 +75,7 @@ fn add_folders(alloc: Global, found: &[Found], folders: &mut Vec<Found>) -> Resu
 }
 
 /// The folders that names stand for, some of them more than once.
-fn all_folders(alloc: Global, named: &[Found], looked: &[Looked]) -> Result<Vec<Found>, AllocError>
+fn all_folders(alloc: Global, named: &[Found], looked: &[ListedFolder]) -> Result<Vec<Found>, AllocError>
     ensures { IfOk result (λ folders. AreFoldersOf (all_found named.now looked.now)
         folders.items) }
 {
@@ -91,7 +91,7 @@ fn all_folders(alloc: Global, named: &[Found], looked: &[Looked]) -> Result<Vec<
 pub fn folders_of(
     alloc: Global,
     named: &[Found],
-    looked: &[Looked],
+    looked: &[ListedFolder],
 ) -> Result<Vec<Found>, AllocError>
     ensures { IfOk result (λ folders. AreFolders (all_found named.now looked.now)
         folders.items) }
@@ -149,7 +149,7 @@ fn add_faults(alloc: Global, found: &[Found], faults: &mut Vec<Found>) -> Result
 pub fn faults_of(
     alloc: Global,
     named: &[Found],
-    looked: &[Looked],
+    looked: &[ListedFolder],
 ) -> Result<Vec<Found>, AllocError>
     ensures { IfOk result (λ faults. map told_as faults.items
         ≡ map told_as (flat_map lost_of (all_found named.now looked.now))) }

@@ -3,7 +3,7 @@
 ghost use Rattle.std.specs.Prelude.{◌≡◌, ◌&&◌, ◌++◌, ◌∷◌, [], None, Some, IfOk, IfSome, OnOk, map, string_bytes, true};
 ghost use Rattle.std.specs.List.{Contains};
 ghost use Rattle.file_tree.specs.Unchanged.{Unchanged};
-ghost use Rattle.file_tree.specs.declared.walk.Looked.{Looked};
+ghost use Rattle.file_tree.specs.declared.walk.ListedFolder.{ListedFolder};
 ghost use Rattle.module_find.specs.Inner.Adding.{AddsModule, TakesFound, told_by};
 ghost use Rattle.module_find.specs.Modules.{AreModules, IsModule, IsModuleOf, fault_by, is_module_file, told_as};
 
@@ -12,7 +12,7 @@ use crate::module::Module;
 use crate::names::{is_module_file, is_of_module};
 use file_tree::fault::TreeFault;
 use file_tree::tree::Tree;
-use file_tree::walk::{Found, Looked, find_in};
+use file_tree::walk::{Found, ListedFolder, find_in};
 use std::alloc::{AllocError, Global};
 
 fn both(one: bool, other: bool) -> bool
@@ -125,10 +125,10 @@ fn module_of(alloc: Global, folder: Vec<u8>, found: Vec<Found>) -> Result<Sorted
 
 /// Removes and returns the entries of a folder, if it is one of these: their last one is the first by its name. Folders
 /// before it are dropped.
-fn take_looked(looked: &mut Vec<Looked>, folder: &[u8]) -> Option<Vec<Found>>
-    ensures taken { IfSome result (λ found. (l : Looked) × Contains looked.old.items l
+fn take_looked(looked: &mut Vec<ListedFolder>, folder: &[u8]) -> Option<Vec<Found>>
+    ensures taken { IfSome result (λ found. (l : ListedFolder) × Contains looked.old.items l
         × (l.folder.items ≡ folder.now) × (l.found.items ≡ found.items)) }
-    ensures left { (l : Looked) → Contains looked.new.items l → Contains looked.old.items l }
+    ensures left { (l : ListedFolder) → Contains looked.new.items l → Contains looked.old.items l }
 {
     for _ in 0..looked.len() {
         if looked.as_slice().last()?.folder.as_slice() > folder {
@@ -146,11 +146,11 @@ fn take_looked(looked: &mut Vec<Looked>, folder: &[u8]) -> Option<Vec<Found>>
 fn module_in<T: Tree>(
     alloc: Global,
     folder: Vec<u8>,
-    looked: &mut Vec<Looked>,
+    looked: &mut Vec<ListedFolder>,
     tree: &mut T,
 ) -> Result<Sorted, AllocError>
     ensures unchanged { Unchanged T.Tree tree.old tree.new }
-    ensures left { (l : Looked) → Contains looked.new.items l → Contains looked.old.items l }
+    ensures left { (l : ListedFolder) → Contains looked.new.items l → Contains looked.old.items l }
     ensures is { IfOk result (λ s. IsModule (T.files tree.old) looked.old.items folder.items
         s.module s.faults.items (T.faults tree.old) (T.faults tree.new)) }
 {
@@ -174,11 +174,11 @@ impl Modules {
         &mut self,
         alloc: Global,
         folder: Found,
-        looked: &mut Vec<Looked>,
+        looked: &mut Vec<ListedFolder>,
         tree: &mut T,
     ) -> Result<(), AllocError>
         ensures unchanged { Unchanged T.Tree tree.old tree.new }
-        ensures left { (l : Looked) → Contains looked.new.items l → Contains looked.old.items l }
+        ensures left { (l : ListedFolder) → Contains looked.new.items l → Contains looked.old.items l }
         ensures adds { OnOk result (AddsModule (T.files tree.old) looked.old.items
             folder.name.items self.old self.new (T.faults tree.old) (T.faults tree.new)) }
     {
@@ -198,7 +198,7 @@ impl Modules {
 pub fn modules_of<T: Tree>(
     alloc: Global,
     folders: Vec<Found>,
-    mut looked: Vec<Looked>,
+    mut looked: Vec<ListedFolder>,
     tree: &mut T,
 ) -> Result<Modules, AllocError>
     ensures unchanged { Unchanged T.Tree tree.old tree.new }

@@ -12,7 +12,7 @@ use Rattle.tree_format.specs.States.{State}
 use Rattle.file_tree.specs.declared.walk.Found.{Found}
 use Rattle.tree_format.specs.Reports.{Report, report_of, worse_status, worst_status}
 use Rattle.tree_format.specs.Inner.Counts.{CanGrow, tally_with}
-use Rattle.tree_format.specs.Runs.{HasWhole, Looked, Sees, but_last, is_failed, reports_of}
+use Rattle.tree_format.specs.Runs.{HasWhole, LooksAtAll, Sees, but_last, is_failed, reports_of}
 use Rattle.tree_format.specs.Tally.{Tallies, is_changed, is_formatted, is_refused, tally_of}
 use Rattle.tree_format.specs.declared.tally.Tally.{Tally}
 use Rattle.tree_format.specs.declared.mode.Mode.{Mode}
@@ -42,13 +42,13 @@ good_answer mode name (outcome.Failed fault) good = absurd (good refl)
 -- ---- one look more
 
 pub looked_more : (shows : Bool) (mode : Mode) (seen : List Found) (answers : List Outcome) (found : Found) (answer : Outcome) (a b c : State)
-    → Looked shows mode seen answers a b → Sees shows mode found answer b c → Looked shows mode (seen ++ found ∷ []) (answers ++ answer ∷ []) a c
+    → LooksAtAll shows mode seen answers a b → Sees shows mode found answer b c → LooksAtAll shows mode (seen ++ found ∷ []) (answers ++ answer ∷ []) a c
 looked_more shows mode [] [] found answer a b c l s = (c, subst (λ (x : State). Sees shows mode found answer x c) l s, refl)
 looked_more shows mode [] (y ∷ answers) found answer a b c l s = absurd l
 looked_more shows mode (x ∷ seen) [] found answer a b c l s = absurd l
 looked_more shows mode (x ∷ seen) (y ∷ answers) found answer a b c l s = (l.0, l.1, looked_more shows mode seen answers found answer l.0 b c l.2 s)
 
-reports_more : (shows : Bool) (mode : Mode) (seen : List Found) (answers : List Outcome) (found : Found) (answer : Outcome) (a b : State) → Looked shows mode seen answers a b
+reports_more : (shows : Bool) (mode : Mode) (seen : List Found) (answers : List Outcome) (found : Found) (answer : Outcome) (a b : State) → LooksAtAll shows mode seen answers a b
     → reports_of mode (seen ++ found ∷ []) (answers ++ answer ∷ []) ≡ reports_of mode seen answers ++ report_of mode found.name.items answer ∷ []
 reports_more shows mode [] [] found answer a b l = refl
 reports_more shows mode [] (y ∷ answers) found answer a b l = absurd l
@@ -99,7 +99,7 @@ tally_more xs x = by x refl
     by (outcome.Refused fault snippet) e = at _ _ _ _ (same is_changed (ap is_changed e)) (same is_formatted (ap is_formatted e)) (more is_refused (ap is_refused e)) (same is_failed (ap is_failed e)) ∙ sym (ap (tally_with (tally_of xs)) e)
     by (outcome.Failed fault) e = at _ _ _ _ (same is_changed (ap is_changed e)) (same is_formatted (ap is_formatted e)) (same is_refused (ap is_refused e)) (more is_failed (ap is_failed e)) ∙ sym (ap (tally_with (tally_of xs)) e)
 
-answers_of : (shows : Bool) (mode : Mode) (seen : List Found) (answers : List Outcome) (a b : State) → Looked shows mode seen answers a b → length answers ≡ length seen
+answers_of : (shows : Bool) (mode : Mode) (seen : List Found) (answers : List Outcome) (a b : State) → LooksAtAll shows mode seen answers a b → length answers ≡ length seen
 answers_of shows mode [] [] a b l = refl
 answers_of shows mode [] (y ∷ answers) a b l = absurd l
 answers_of shows mode (x ∷ seen) [] a b l = absurd l
@@ -109,7 +109,7 @@ answers_of shows mode (x ∷ seen) (y ∷ answers) a b l = ap suc (answers_of sh
 
 pub record SoFar (shows : Bool) (mode : Mode) (seen : List Found) (a b : State) (out out' err err' : Option (List ℕ)) (status : ℕ) (tally : Tally) : Type 0 where
   pub answers : List Outcome
-  pub looks : Looked shows mode seen answers a b
+  pub looks : LooksAtAll shows mode seen answers a b
   pub output : Appends out out' (concat (map (λ r. r.out) (reports_of mode seen answers)))
   pub message : Appends err err' (concat (map (λ r. r.err) (reports_of mode seen answers)))
   pub exit : status ≡ worst_status (map (λ r. r.status) (reports_of mode seen answers))

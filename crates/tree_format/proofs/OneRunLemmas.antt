@@ -22,7 +22,7 @@ use Rattle.tree_format.specs.Format.{IsFault, IsFormat, IsTextFault}
 use Rattle.tree_format.specs.Looks.{Left, Looks, Visits, shown_diff}
 use Rattle.tree_format.specs.Refusals.{shown_line}
 use Rattle.tree_format.specs.Reports.{Report, refused_words, report_of, worse_status, worst_status}
-use Rattle.tree_format.specs.Runs.{IsRun, MayBecome, Looked, SeesBy, is_failed, reports_of}
+use Rattle.tree_format.specs.Runs.{IsRun, MayBecome, LooksAtAll, SeesBy, is_failed, reports_of}
 use Rattle.tree_format.specs.declared.mode.Mode.{Mode}
 use Rattle.tree_format.specs.declared.mode.Mode.TheVariants.{Write, Check, List as Listed, Diff}
 use Rattle.tree_format.specs.declared.outcome.Outcome.{Outcome}
@@ -157,7 +157,7 @@ visits_of : (shows : Bool) (mode : Mode) (name : Name) (fault : Option TreeFault
 visits_of shows mode name (Some fault) answer a b s = s
 visits_of shows mode name None answer a b s = s.0
 
-visited : (shows : Bool) (mode : Mode) (seen : List Found) (answers : List Outcome) (a b : State) → Looked shows mode seen answers a b → Visited shows mode seen answers a b
+visited : (shows : Bool) (mode : Mode) (seen : List Found) (answers : List Outcome) (a b : State) → LooksAtAll shows mode seen answers a b → Visited shows mode seen answers a b
 visited shows mode [] [] a b l = l
 visited shows mode [] (x ∷ xs) a b l = absurd l
 visited shows mode (f ∷ seen) [] a b l = absurd l
@@ -303,7 +303,7 @@ plain_statuses mode (f ∷ seen) (x ∷ xs) = λ i. plain_status mode f.name.ite
 
 -- ---- runs that don't have status 4
 
-good_looks : (shows : Bool) (mode : Mode) (seen : List Found) (answers : List Outcome) (a b : State) (n : ℕ) → Looked shows mode seen answers a b
+good_looks : (shows : Bool) (mode : Mode) (seen : List Found) (answers : List Outcome) (a b : State) (n : ℕ) → LooksAtAll shows mode seen answers a b
     → fold worse_status n (map (λ r. r.status) (reports_of mode seen answers)) ≢ 4 → (n ≢ 4) × (list_any is_failed answers ≡ false)
 good_looks shows mode [] [] a b n l ne = (ne, refl)
 good_looks shows mode [] (x ∷ xs) a b n l ne = absurd l

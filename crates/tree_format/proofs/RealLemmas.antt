@@ -9,7 +9,7 @@ use Rattle.tree_format.specs.States.{State}
 use Rattle.file_tree.specs.declared.tree.Replaced.{Replaced}
 use Rattle.file_tree.specs.declared.walk.Found.{Found}
 use Rattle.tree_format.specs.Reports.{report_of, worse_status, worst_status}
-use Rattle.tree_format.specs.Runs.{IsRun, Looked, is_failed, reports_of}
+use Rattle.tree_format.specs.Runs.{IsRun, LooksAtAll, is_failed, reports_of}
 use Rattle.tree_format.specs.declared.mode.Mode.{Mode}
 use Rattle.tree_format.specs.declared.mode.Mode.TheVariants.{Write, Check, List as Listed, Diff}
 use Rattle.tree_format.specs.declared.outcome.Outcome.{Outcome}
@@ -55,7 +55,7 @@ worse_good one other p q e = by (worse_four one other e)
     by (inl h) = p h
     by (inr h) = q h
 
-pub fold_four : (shows : Bool) (mode : Mode) (seen : List Found) (answers : List Outcome) (a b : State) (n : ℕ) → n ≢ 4 → Looked shows mode seen answers a b
+pub fold_four : (shows : Bool) (mode : Mode) (seen : List Found) (answers : List Outcome) (a b : State) (n : ℕ) → n ≢ 4 → LooksAtAll shows mode seen answers a b
     → fold worse_status n (map (λ r. r.status) (reports_of mode seen answers)) ≡ 4 → list_any is_failed answers ≡ true
 fold_four shows mode [] [] a b n good l e = absurd (good e)
 fold_four shows mode [] (x ∷ answers) a b n good l e = absurd l

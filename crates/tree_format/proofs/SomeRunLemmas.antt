@@ -37,7 +37,7 @@ use Rattle.tree_format.specs.Format.{IsFault, IsFormat}
 use Rattle.tree_format.specs.Looks.{Asks, Looks, Visits, failure_of, shown_diff}
 use Rattle.tree_format.specs.Refusals.{shown_line}
 use Rattle.tree_format.specs.Reports.{worst_status}
-use Rattle.tree_format.specs.Runs.{IsRun, MayBecome, Looked, SeesBy, is_failed, reports_of}
+use Rattle.tree_format.specs.Runs.{IsRun, MayBecome, LooksAtAll, SeesBy, is_failed, reports_of}
 use Rattle.tree_format.specs.declared.mode.Mode.{Mode}
 use Rattle.tree_format.specs.declared.mode.Mode.TheVariants.{Write, Check, List as Listed, Diff}
 use Rattle.tree_format.specs.declared.outcome.Outcome.{Outcome}
@@ -225,7 +225,7 @@ ready_after shows mode name None answer a b s other ready = ready_after_visit sh
 -- ---- the run
 
 abbrev SomeLooks : Bool → Mode → List Found → State → Type 0
-SomeLooks shows mode found before = (answers : List Outcome) × (after : State) × Looked shows mode found answers before after × (list_any is_failed answers ≡ false)
+SomeLooks shows mode found before = (answers : List Outcome) × (after : State) × LooksAtAll shows mode found answers before after × (list_any is_failed answers ≡ false)
 
 some_looks : (shows : Bool) (mode : Mode) (found : List Found) (before : State) → AreReady shows mode before.files found → SomeLooks shows mode found before
 some_looks shows mode [] before ready = ([], before, refl, refl)

@@ -51,11 +51,11 @@ abbrev pub Sees : Bool → Mode → Found → Outcome → State → State → Ty
 Sees shows mode found = SeesBy shows mode found.name.items found.fault
 
 -- looks at names, one after the other, and what each answers
-abbrev pub Looked : Bool → Mode → List Found → List Outcome → State → State → Type 0
-Looked shows mode [] [] before after = after ≡ before
-Looked shows mode [] (answer ∷ answers) before after = ⊥
-Looked shows mode (found ∷ more) [] before after = ⊥
-Looked shows mode (found ∷ more) (answer ∷ answers) before after = (between : State) × Sees shows mode found answer before between × Looked shows mode more answers between after
+abbrev pub LooksAtAll : Bool → Mode → List Found → List Outcome → State → State → Type 0
+LooksAtAll shows mode [] [] before after = after ≡ before
+LooksAtAll shows mode [] (answer ∷ answers) before after = ⊥
+LooksAtAll shows mode (found ∷ more) [] before after = ⊥
+LooksAtAll shows mode (found ∷ more) (answer ∷ answers) before after = (between : State) × Sees shows mode found answer before between × LooksAtAll shows mode more answers between after
 
 abbrev pub reports_of : Mode → List Found → List Outcome → List Report
 reports_of mode (found ∷ more) (answer ∷ answers) = report_of mode found.name.items answer ∷ reports_of mode more answers
@@ -87,7 +87,7 @@ pub record IsRun (shows : Bool) (mode : Mode) (found : List Found) (last : List 
   pub all : found ≡ seen ++ rest
   pub whole : (end.out.failed || end.err.failed) ≡ false → rest ≡ []
   pub answers : List Outcome
-  pub looks : Looked shows mode seen answers before after
+  pub looks : LooksAtAll shows mode seen answers before after
   pub output : Took end.out (concat (map (λ r. r.out) (reports_of mode seen answers)))
   pub message : Took end.err (concat (map (λ r. r.err) (reports_of mode seen answers)) ++ last answers)
   pub stops : AreWhole end.out end.err (reports_of mode seen answers)

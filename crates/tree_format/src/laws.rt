@@ -13,7 +13,7 @@ ghost use Rattle.tree_format.specs.declared.outcome.Outcome.{Outcome};
 use hcl_scan::laws::{list_or_fault, text_or_fault};
 
 /// A run over names that were found has status 4 only where a writer failed or a look did. What a failed look says is the
-/// fault of a call of the device, in the walk or in the look, or memory ran out: `Looked` has it.
+/// fault of a call of the device, in the walk or in the look, or memory ran out: `LooksAtAll` has it.
 pub fn failures_are_real()
     ensures { (shows : Bool) (mode : Mode) (found : List Found) (last : List Outcome → List ℕ)
         (before after : State) (end : End) → (run : IsRun shows mode found last before after end)

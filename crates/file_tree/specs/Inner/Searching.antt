@@ -7,7 +7,7 @@ use Rattle.file_tree.specs.Finds.{AreReal}
 use Rattle.file_tree.specs.Inner.Walking.{Hears, Reached, TakesFolder, Walked}
 use Rattle.file_tree.specs.Ordered.{Orders}
 use Rattle.file_tree.specs.Seen.{all_found}
-use Rattle.file_tree.specs.declared.walk.Looked.{Looked}
+use Rattle.file_tree.specs.declared.walk.ListedFolder.{ListedFolder}
 use Rattle.file_tree.specs.declared.walk.Search.{Search}
 
 -- everything found so far, and the folders still to be listed
@@ -19,7 +19,7 @@ nothing = record { found = []; folders = [] }
 
 -- the entries found in a folder are kept, and its folders are to be listed
 pub record Keeps (folder : Name) (here : Reached) (old new : Search) : Type 0 where
-  pub l : Looked
+  pub l : ListedFolder
   pub folder_is : l.folder.items ≡ folder
   pub found_is : l.found.items ≡ here.found
   pub named : new.walk.found ≡ old.walk.found
@@ -34,11 +34,11 @@ pub record LooksInto (files : Files) (chosen : Chosen) (folder : Name) (was is :
   pub keeps : Keeps folder here old new
 
 -- the entries found in it are of this folder
-abbrev pub IsLook : Files → Chosen → Looked → Type 0
+abbrev pub IsLook : Files → Chosen → ListedFolder → Type 0
 IsLook files chosen l = (here : Reached) × TakesFolder files chosen l.folder.items nothing here × (l.found.items ≡ here.found)
 
-abbrev pub AreLooks : Files → Chosen → List Looked → Type 0
-AreLooks files chosen looked = (l : Looked) → Contains looked l → IsLook files chosen l
+abbrev pub AreLooks : Files → Chosen → List ListedFolder → Type 0
+AreLooks files chosen looked = (l : ListedFolder) → Contains looked l → IsLook files chosen l
 
 -- some folders were listed, and those in them
 pub record Searches (files : Files) (chosen : Chosen) (was is : Faults) (old new : Search) : Type 0 where
@@ -56,7 +56,7 @@ pub record SeesAll (files : Files) (chosen : Chosen) (paths : List Name) (was is
 -- ---- in order
 
 -- these folders, and in each the found names in order
-abbrev pub AreOrdered : List Looked → List Looked → Type 0
+abbrev pub AreOrdered : List ListedFolder → List ListedFolder → Type 0
 AreOrdered [] [] = Unit {0}
 AreOrdered [] (o ∷ os) = ⊥
 AreOrdered (l ∷ ls) [] = ⊥

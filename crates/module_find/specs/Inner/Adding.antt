@@ -4,7 +4,7 @@ use Rattle.file_tree.specs.Files.{Faults, Files, Name}
 use Rattle.file_tree.specs.Ordered.{HasName}
 use Rattle.file_tree.specs.declared.fault.TreeFault.{TreeFault}
 use Rattle.file_tree.specs.declared.walk.Found.{Found}
-use Rattle.file_tree.specs.declared.walk.Looked.{Looked}
+use Rattle.file_tree.specs.declared.walk.ListedFolder.{ListedFolder}
 use Rattle.module_find.specs.Modules.{IsModule, file_in, folder_of, is_lost_by, is_sound, told_as, told_in}
 use Rattle.module_find.specs.declared.module.Module.{Module}
 use Rattle.module_find.specs.declared.modules.Modules.{Modules}
@@ -26,6 +26,6 @@ pub record TakesFound (f : Found) (old new : Sorted) : Type 0 where
   pub whole : new.module.is_whole ≡ (old.module.is_whole && is_sound f)
   pub faults : map told_as new.faults.items ≡ map told_as old.faults.items ++ map told_as (told_in f)
 
-abbrev pub AddsModule : Files → List Looked → Name → Modules → Modules → Faults → Faults → Type 0
+abbrev pub AddsModule : Files → List ListedFolder → Name → Modules → Modules → Faults → Faults → Type 0
 AddsModule files looked folder old new was is =
     (m : Module) × (here : List Found) × IsModule files looked folder m here was is × (new.modules.items ≡ old.modules.items ++ m ∷ []) × (new.faults.items ≡ old.faults.items ++ here)
