@@ -4,15 +4,15 @@ use Rattle.lint_config.specs.Options.{options_of}
 use Rattle.rule_set.specs.RuleSets.{rules_of}
 use Rattle.rule_set.specs.declared.rule.Rule.{Rule}
 use Rattle.rule_set.specs.declared.rule_set.RuleSet.{RuleSet}
-use Rattle.lint_command.specs.Line.{Asking, Given, Job}
+use Rattle.lint_command.specs.Line.{Request, Given, Job}
 use Rattle.lint_command.specs.declared.options.Given as code_given
 use Rattle.lint_command.specs.declared.options.Job as code
 use Rattle.lint_command.specs.declared.options.LintOptions.{LintOptions}
 use Rattle.lint_command.specs.declared.usage.Usage.{Usage}
 
-abbrev pub rules_told : Result (Option RuleSet) Usage → Result (Option (List Rule)) Usage
-rules_told (Ok rules) = Ok (option_map rules_of rules)
-rules_told (Err usage) = Err usage
+abbrev pub rules_view : Result (Option RuleSet) Usage → Result (Option (List Rule)) Usage
+rules_view (Ok rules) = Ok (option_map rules_of rules)
+rules_view (Err usage) = Err usage
 
 abbrev pub given_of : code_given.Given → Given
 given_of given = record { said = options_of given.said; reads = given.reads }
@@ -24,9 +24,9 @@ given_in (Err usage) = Err usage
 abbrev pub job_of : code.Job → Job
 job_of job = record { given = given_of job.given; quiet = job.quiet; shard = job.shard; form = job.form }
 
-abbrev pub asking_of : LintOptions → Asking
-asking_of o = record { job = job_of o.job; null = o.null; names = map (λ name. name.now) o.names.items }
+abbrev pub request_of : LintOptions → Request
+request_of o = record { job = job_of o.job; null = o.null; names = map (λ name. name.now) o.names.items }
 
-abbrev pub asked_by : Result LintOptions Usage → Result Asking Usage
-asked_by (Ok o) = Ok (asking_of o)
-asked_by (Err usage) = Err usage
+abbrev pub result_request : Result LintOptions Usage → Result Request Usage
+result_request (Ok o) = Ok (request_of o)
+result_request (Err usage) = Err usage

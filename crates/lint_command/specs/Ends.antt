@@ -33,7 +33,7 @@ use Rattle.tree_lint.specs.declared.run.RunEnd.{RunEnd}
 use Rattle.tree_lint.specs.declared.written.Manner.{Manner}
 use Rattle.tree_lint.specs.declared.written.Terminals.{Terminals}
 use Rattle.lint_command.specs.Explained.{explained, rule_list}
-use Rattle.lint_command.specs.Line.{Asking, Job, asking_of_texts, tfrules_all}
+use Rattle.lint_command.specs.Line.{Request, Job, request_of_texts, tfrules_all}
 use Rattle.lint_command.specs.LinterWords.{linter_words}
 use Rattle.lint_command.specs.declared.usage.Usage.{Usage}
 use Rattle.lint_command.specs.declared.usage.Usage.TheVariants.{Help, Version, ListRules, Explain, BadLine, UnknownRule, UnknownExplained, NoRuleLeft, BadNaming, BadSeverity, BadPart, BadForm, BadJobs, NamesTwice, OutOfMemory}
@@ -221,18 +221,18 @@ abbrev pub EndsBy : Terminals → Bool → Job → List Name → Bool → Option
 EndsBy terminals true job names failed input files was is end = ReadsAndLints terminals job failed input files was is end
 EndsBy terminals false job names failed input files was is end = LintsNamed terminals job names files was is end
 
-abbrev pub EndsAsked : Terminals → Asking → Bool → Option (List ℕ) → Files → Faults → Faults → End → Type 0
-EndsAsked terminals asking failed input files was is end = EndsBy terminals asking.null asking.job asking.names failed input files was is end
+abbrev pub EndsByRequest : Terminals → Request → Bool → Option (List ℕ) → Files → Faults → Faults → End → Type 0
+EndsByRequest terminals asking failed input files was is end = EndsBy terminals asking.null asking.job asking.names failed input files was is end
 
 -- without options the device isn't called
-abbrev pub EndsFor : Terminals → List Text → Result Asking Usage → Bool → Option (List ℕ) → Files → Faults → Faults → End → Type 0
-EndsFor terminals texts (Ok asking) failed input files was is end = EndsAsked terminals asking failed input files was is end
+abbrev pub EndsFor : Terminals → List Text → Result Request Usage → Bool → Option (List ℕ) → Files → Faults → Faults → End → Type 0
+EndsFor terminals texts (Ok asking) failed input files was is end = EndsByRequest terminals asking failed input files was is end
 EndsFor terminals texts (Err usage) failed input files was is end = (is ≡ was) × ShowsUsage texts usage end
 
 -- the end of a run with these texts, and these names beside them
 abbrev pub IsEndOf : Terminals → List Text → List Name → Bool → Option (List ℕ) → Files → Faults → Faults → End → Type 0
 IsEndOf terminals texts others failed input files was is end =
-    ((is ≡ was) × SaysOnly (out_of_memory tree_linter) end) ⊎ EndsFor terminals texts (asking_of_texts texts others) failed input files was is end
+    ((is ≡ was) × SaysOnly (out_of_memory tree_linter) end) ⊎ EndsFor terminals texts (request_of_texts texts others) failed input files was is end
 
 -- THE END of a run with these words, over these files, where these outputs are read on terminals, standard input has these bytes
 -- and the device has had these faults before and after: what the words ask for; or memory ran out before a file was looked at

@@ -16,7 +16,7 @@ use Rattle.rule_set.specs.Rules.{all_rules, rule_name}
 use Rattle.rule_set.specs.declared.rule.Rule.{Rule}
 use Rattle.rule_set.specs.declared.rule.Severity.{Severity}
 use Rattle.tf_rules.specs.declared.naming.Naming.{Naming}
-use Rattle.tfrules_command.specs.Line.{naming_asked, severity_asked}
+use Rattle.tfrules_command.specs.Line.{naming_of_text, severity_of_text}
 use Rattle.tree_words.specs.Line.{are_jobs_good, count_rule, file_rule, is_given, jobs_rule, null_rule, others_in, shard_given, texts_in, texts_of}
 use Rattle.tree_words.specs.declared.shard.Shard.{Shard}
 use Rattle.lint_command.specs.declared.usage.Usage.{Usage}
@@ -35,7 +35,7 @@ pub record Job : Type 0 where
   pub form : Option Form
 
 -- what a line asks for: that, whether names are read from standard input, and the names of the line
-pub record Asking : Type 0 where
+pub record Request : Type 0 where
   pub job : Job
   pub null : Bool
   pub names : List Name
@@ -72,16 +72,16 @@ given_by (Ok rules) (Ok naming) (Err usage) force checks reads = Err usage
 given_by (Ok rules) (Ok naming) (Ok minimum) force checks reads =
     Ok (record { said = record { rules = rules; naming = naming; minimum = minimum; force = force; checks = checks }; reads = reads })
 
-abbrev pub given_asked : List Row → Result Given Usage
-given_asked rows =
-    given_by (rules_taken (option_map rules_in (first_of (codes "rules") rows))) (taken BadNaming (option_map naming_asked (first_of (codes "naming") rows)))
-    (taken BadSeverity (option_map severity_asked (first_of (codes "minimum-failure-severity") rows))) (is_given (codes "force") rows) (is_given (codes "check-comments") rows) (not (is_given (codes "no-config") rows))
+abbrev pub given_of_rows : List Row → Result Given Usage
+given_of_rows rows =
+    given_by (rules_taken (option_map rules_in (first_of (codes "rules") rows))) (taken BadNaming (option_map naming_of_text (first_of (codes "naming") rows)))
+    (taken BadSeverity (option_map severity_of_text (first_of (codes "minimum-failure-severity") rows))) (is_given (codes "force") rows) (is_given (codes "check-comments") rows) (not (is_given (codes "no-config") rows))
 
 -- ---- the form
 
 -- `text` is none
-abbrev pub form_asked : Text → Option (Option Form)
-form_asked text =
+abbrev pub form_of_text : Text → Option (Option Form)
+form_of_text text =
     if bytes_eq text (codes "text") then Some None
     else if bytes_eq text (codes "json") then Some (Some Json)
     else if bytes_eq text (codes "sarif") then Some (Some Sarif)
@@ -93,7 +93,7 @@ form_asked text =
 
 abbrev pub form_given : Option Text → Option (Option Form)
 form_given None = Some None
-form_given (Some text) = form_asked text
+form_given (Some text) = form_of_text text
 
 -- ---- the line
 
@@ -101,44 +101,44 @@ form_given (Some text) = form_asked text
 abbrev pub is_good : Bool → ℕ → Bool
 is_good null names = not null || names == 0
 
-abbrev pub asking_by : Result Given Usage → Bool → Option (Option Shard) → Option (Option Form) → Bool → Bool → Bool → List Name → Result Asking Usage
-asking_by (Err usage) quiet shard form are_jobs is_good null names = Err usage
-asking_by (Ok given) quiet None form are_jobs is_good null names = Err BadPart
-asking_by (Ok given) quiet (Some shard) None are_jobs is_good null names = Err BadForm
-asking_by (Ok given) quiet (Some shard) (Some form) false is_good null names = Err BadJobs
-asking_by (Ok given) quiet (Some shard) (Some form) true false null names = Err NamesTwice
-asking_by (Ok given) quiet (Some shard) (Some form) true true null names =
+abbrev pub request_by : Result Given Usage → Bool → Option (Option Shard) → Option (Option Form) → Bool → Bool → Bool → List Name → Result Request Usage
+request_by (Err usage) quiet shard form are_jobs is_good null names = Err usage
+request_by (Ok given) quiet None form are_jobs is_good null names = Err BadPart
+request_by (Ok given) quiet (Some shard) None are_jobs is_good null names = Err BadForm
+request_by (Ok given) quiet (Some shard) (Some form) false is_good null names = Err BadJobs
+request_by (Ok given) quiet (Some shard) (Some form) true false null names = Err NamesTwice
+request_by (Ok given) quiet (Some shard) (Some form) true true null names =
     Ok (record { job = record { given = given; quiet = quiet; shard = shard; form = form }; null = null; names = names })
 
-abbrev pub asking_with : List Row → List Name → Result Asking Usage
-asking_with rows names =
-    asking_by (given_asked rows) (is_given (codes "quiet") rows) (shard_given (first_of (codes "shard") rows)) (form_given (first_of (codes "format") rows)) (are_jobs_good rows) (is_good (is_given (codes "null") rows) (length names))
+abbrev pub request_with : List Row → List Name → Result Request Usage
+request_with rows names =
+    request_by (given_of_rows rows) (is_given (codes "quiet") rows) (shard_given (first_of (codes "shard") rows)) (form_given (first_of (codes "format") rows)) (are_jobs_good rows) (is_good (is_given (codes "null") rows) (length names))
     (is_given (codes "null") rows) names
 
 -- what is said of the rule that `--explain` names
-abbrev pub explain_asked : Text → Usage
-explain_asked name = option_map_or Explain (find (λ rule. bytes_eq (rule_name rule) name) all_rules) UnknownExplained
+abbrev pub explain_request : Text → Usage
+explain_request name = option_map_or Explain (find (λ rule. bytes_eq (rule_name rule) name) all_rules) UnknownExplained
 
 -- a line that asks for a text asks for nothing else, whatever stands beside that
-abbrev pub text_asked : List Row → Option Usage
-text_asked rows =
+abbrev pub text_requested : List Row → Option Usage
+text_requested rows =
     if is_given (codes "version") rows then Some Version
-    else (if is_given (codes "list-rules") rows then Some ListRules else option_map explain_asked (first_of (codes "explain") rows))
+    else (if is_given (codes "list-rules") rows then Some ListRules else option_map explain_request (first_of (codes "explain") rows))
 
 -- the names of a line are those that clap finds, and then the other ones
-abbrev pub asking_of_rows : List Name → List Row → Result Asking Usage
-asking_of_rows others rows = option_map_or Err (text_asked rows) (asking_with rows (texts_of (codes "file") rows ++ others))
+abbrev pub request_of_rows : List Name → List Row → Result Request Usage
+request_of_rows others rows = option_map_or Err (text_requested rows) (request_with rows (texts_of (codes "file") rows ++ others))
 
 -- what these texts ask for, and these names beside them, unless memory runs out
-abbrev pub asking_of_texts : List Text → List Name → Result Asking Usage
-asking_of_texts texts others =
-    unless_fault (usage_by OutOfMemory Help BadLine) (fault_of tfrules_all texts) (asking_of_rows others (matches_of tfrules_all texts))
+abbrev pub request_of_texts : List Text → List Name → Result Request Usage
+request_of_texts texts others =
+    unless_fault (usage_by OutOfMemory Help BadLine) (fault_of tfrules_all texts) (request_of_rows others (matches_of tfrules_all texts))
 
 -- whether what is asked for needs names from standard input
-abbrev pub reads_names : Result Asking Usage → Bool
+abbrev pub reads_names : Result Request Usage → Bool
 reads_names (Ok asking) = asking.null
 reads_names (Err usage) = false
 
 -- WHAT THE WORDS ASK FOR, the program's name first, unless memory runs out
-abbrev pub asking_of_words : List (List ℕ) → Result Asking Usage
-asking_of_words words = asking_of_texts (texts_in (codes "tfrules-all") words) (others_in words)
+abbrev pub request_of_words : List (List ℕ) → Result Request Usage
+request_of_words words = request_of_texts (texts_in (codes "tfrules-all") words) (others_in words)

@@ -3,9 +3,9 @@
 ghost use Rattle.std.specs.Prelude.{◌≡◌, ◌⊎◌, Err, IfOk, codes, length, map, option_map};
 ghost use Rattle.clap.specs.Words.{app_of, first_of, found_of, rows_of};
 ghost use Rattle.rule_lists.specs.Lists.{rules_in};
-ghost use Rattle.tfrules_command.specs.Line.{naming_asked, severity_asked};
-ghost use Rattle.lint_command.specs.Asked.{asked_by, given_in, rules_told};
-ghost use Rattle.lint_command.specs.Line.{asking_by, asking_of_rows, asking_of_texts, asking_with, explain_asked, form_asked, form_given, given_asked, given_by, is_good, rules_taken, taken, text_asked, tfrules_all};
+ghost use Rattle.tfrules_command.specs.Line.{naming_of_text, severity_of_text};
+ghost use Rattle.lint_command.specs.Asked.{result_request, given_in, rules_view};
+ghost use Rattle.lint_command.specs.Line.{request_by, request_of_rows, request_of_texts, request_with, explain_request, form_of_text, form_given, given_of_rows, given_by, is_good, rules_taken, taken, text_requested, tfrules_all};
 ghost use Rattle.lint_command.specs.declared.usage.Usage.TheVariants.{BadNaming, BadSeverity, OutOfMemory};
 
 use crate::usage::Usage;
@@ -17,7 +17,7 @@ use rule_lists::{ListFault, rules_in};
 use rule_set::{ALL_RULES, rule_named};
 use std::alloc::{AllocError, Global};
 use tf_rules::{Naming, RuleSet, Severity};
-use tfrules_command::options::{naming_asked, severity_asked};
+use tfrules_command::options::{naming_of_text, severity_of_text};
 use tree_words::jobs::{are_jobs_good, jobs};
 use tree_words::options::{counted_flag, file, is_given, names_in, null};
 use tree_words::shard::{Shard, shard_of};
@@ -78,7 +78,7 @@ pub(crate) fn command<'a>(alloc: Global) -> Result<Command<'a>, AllocError>
 
 /// The rules that a text of the line stands for, where it has one.
 fn rules_taken(text: Option<&str>) -> Result<Option<RuleSet>, Usage>
-    ensures { rules_told result
+    ensures { rules_view result
         ≡ rules_taken (option_map rules_in (option_map (λ text. text.now) text.entry)) }
 {
     let Some(text) = text else {
@@ -94,12 +94,12 @@ fn rules_taken(text: Option<&str>) -> Result<Option<RuleSet>, Usage>
 /// The naming that a text of the line stands for, where it has one.
 fn naming_taken(text: Option<&str>) -> Result<Option<Naming>, Usage>
     ensures { result
-        ≡ taken BadNaming (option_map naming_asked (option_map (λ text. text.now) text.entry)) }
+        ≡ taken BadNaming (option_map naming_of_text (option_map (λ text. text.now) text.entry)) }
 {
     let Some(text) = text else {
         return Ok(None);
     };
-    match naming_asked(text) {
+    match naming_of_text(text) {
         Some(naming) => Ok(Some(naming)),
         None => Err(Usage::BadNaming),
     }
@@ -108,12 +108,12 @@ fn naming_taken(text: Option<&str>) -> Result<Option<Naming>, Usage>
 /// The severity that a text of the line stands for, where it has one.
 fn severity_taken(text: Option<&str>) -> Result<Option<Severity>, Usage>
     ensures { result
-        ≡ taken BadSeverity (option_map severity_asked (option_map (λ text. text.now) text.entry)) }
+        ≡ taken BadSeverity (option_map severity_of_text (option_map (λ text. text.now) text.entry)) }
 {
     let Some(text) = text else {
         return Ok(None);
     };
-    match severity_asked(text) {
+    match severity_of_text(text) {
         Some(severity) => Ok(Some(severity)),
         None => Err(Usage::BadSeverity),
     }
@@ -128,7 +128,7 @@ fn given_by(
     checks: bool,
     reads: bool,
 ) -> Result<Given, Usage>
-    ensures { given_in result ≡ given_by (rules_told rules) naming minimum force checks reads }
+    ensures { given_in result ≡ given_by (rules_view rules) naming minimum force checks reads }
 {
     let rules = match rules {
         Ok(rules) => rules,
@@ -154,7 +154,7 @@ fn given_by(
 
 /// By what modules are linted, as the matches of a line have it.
 fn given_of(matches: &ArgMatches<'_>) -> Result<Given, Usage>
-    ensures { given_in result ≡ given_asked (rows_of (found_of matches.now)) }
+    ensures { given_in result ≡ given_of_rows (rows_of (found_of matches.now)) }
 {
     let rules = rules_taken(matches.get_str("rules"));
     let naming = naming_taken(matches.get_str("naming"));
@@ -172,8 +172,8 @@ fn given_of(matches: &ArgMatches<'_>) -> Result<Given, Usage>
 }
 
 /// The form that a text stands for.
-fn form_asked(text: &str) -> Option<Option<Form>>
-    ensures { result ≡ form_asked text.now }
+fn form_of_text(text: &str) -> Option<Option<Form>>
+    ensures { result ≡ form_of_text text.now }
 {
     if text == "text" {
         return Some(None);
@@ -204,7 +204,7 @@ fn form_taken(text: Option<&str>) -> Option<Option<Form>>
     ensures { result ≡ form_given (option_map (λ text. text.now) text.entry) }
 {
     match text {
-        Some(text) => form_asked(text),
+        Some(text) => form_of_text(text),
         None => Some(None),
     }
 }
@@ -240,7 +240,7 @@ struct Parts<'a> {
 
 /// The options of these parts of a line.
 fn options_by<'a>(parts: Parts<'a>) -> Result<LintOptions<'a>, Usage>
-    ensures { asked_by result ≡ asking_by (given_in parts.entry.given) parts.entry.quiet
+    ensures { result_request result ≡ request_by (given_in parts.entry.given) parts.entry.quiet
         parts.entry.shard parts.entry.form parts.entry.are_jobs_good
         (is_good parts.entry.null (length parts.entry.names.items)) parts.entry.null
         (map (λ name. name.now) parts.entry.names.items) }
@@ -287,7 +287,7 @@ fn options_with<'a>(
     names: Vec<&'a [u8]>,
     matches: &ArgMatches<'a>,
 ) -> Result<LintOptions<'a>, Usage>
-    ensures { asked_by result ≡ asking_with (rows_of (found_of matches.now))
+    ensures { result_request result ≡ request_with (rows_of (found_of matches.now))
         (map (λ name. name.now) names.entry.items) }
 {
     options_by(Parts {
@@ -302,8 +302,8 @@ fn options_with<'a>(
 }
 
 /// What the words ask for that name a rule to explain.
-fn explain_asked(name: &str) -> Usage
-    ensures { result ≡ explain_asked name.now }
+fn explain_request(name: &str) -> Usage
+    ensures { result ≡ explain_request name.now }
 {
     match rule_named(&ALL_RULES, name.as_bytes()) {
         Some(rule) => Usage::Explain(rule),
@@ -313,25 +313,25 @@ fn explain_asked(name: &str) -> Usage
 
 /// What the words ask for that may name a rule to explain.
 fn explanation_given(name: Option<&str>) -> Option<Usage>
-    ensures { result ≡ option_map explain_asked (option_map (λ name. name.now) name.entry) }
+    ensures { result ≡ option_map explain_request (option_map (λ name. name.now) name.entry) }
 {
     match name {
-        Some(name) => Some(explain_asked(name)),
+        Some(name) => Some(explain_request(name)),
         None => None,
     }
 }
 
 /// What the matches of a line ask for, where it names a rule to explain.
 fn explanation_asked(matches: &ArgMatches<'_>) -> Option<Usage>
-    ensures { result ≡ option_map explain_asked
+    ensures { result ≡ option_map explain_request
         (first_of (codes "explain") (rows_of (found_of matches.now))) }
 {
     explanation_given(matches.get_str("explain"))
 }
 
 /// The text that the matches of a line ask for, where they do.
-fn text_asked(matches: &ArgMatches<'_>) -> Option<Usage>
-    ensures { result ≡ text_asked (rows_of (found_of matches.now)) }
+fn text_requested(matches: &ArgMatches<'_>) -> Option<Usage>
+    ensures { result ≡ text_requested (rows_of (found_of matches.now)) }
 {
     if is_given(matches, "version") {
         return Some(Usage::Version);
@@ -349,10 +349,10 @@ fn options_of<'a>(
     matches: &ArgMatches<'a>,
 ) -> Result<LintOptions<'a>, Usage>
     ensures { (result ≡ Err OutOfMemory)
-        ⊎ (asked_by result ≡ asking_of_rows (map (λ name. name.now) others.now)
+        ⊎ (result_request result ≡ request_of_rows (map (λ name. name.now) others.now)
         (rows_of (found_of matches.now))) }
 {
-    if let Some(usage) = text_asked(matches) {
+    if let Some(usage) = text_requested(matches) {
         return Err(usage);
     }
     match names_in(alloc, others, matches) {
@@ -369,7 +369,7 @@ pub fn options<'a>(
     others: &[&'a [u8]],
 ) -> Result<LintOptions<'a>, Usage>
     ensures { (result ≡ Err OutOfMemory)
-        ⊎ (asked_by result ≡ asking_of_texts (map (λ word. word.now) words.entry.now)
+        ⊎ (result_request result ≡ request_of_texts (map (λ word. word.now) words.entry.now)
         (map (λ name. name.now) others.now)) }
 {
     let Ok(command) = command(alloc) else {

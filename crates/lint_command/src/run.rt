@@ -8,10 +8,10 @@ ghost use Rattle.tree_lint.specs.Numbers.{summary_line};
 ghost use Rattle.tree_lint.specs.Readers.{Leaves, has_reader_out};
 ghost use Rattle.tree_lint.specs.Refusals.{tree_linter};
 ghost use Rattle.tree_lint.specs.Runs.{worse_status};
-ghost use Rattle.lint_command.specs.Asked.{asking_of, job_of};
-ghost use Rattle.lint_command.specs.Ends.{EndsAsked, IsEnd, IsEndOf, IsFoot, LintsCollected, LintsOr, LintsNamed, ReadsAndLints, RunsThen, count_lines, fault_status, head_of, last_words, summary};
+ghost use Rattle.lint_command.specs.Asked.{request_of, job_of};
+ghost use Rattle.lint_command.specs.Ends.{EndsByRequest, IsEnd, IsEndOf, IsFoot, LintsCollected, LintsOr, LintsNamed, ReadsAndLints, RunsThen, count_lines, fault_status, head_of, last_words, summary};
 ghost use Rattle.lint_command.specs.Inner.Closing.{Closes};
-ghost use Rattle.lint_command.specs.Line.{asking_of_texts, asking_of_words, reads_names};
+ghost use Rattle.lint_command.specs.Line.{request_of_texts, request_of_words, reads_names};
 
 use crate::collect::{Collected, collect};
 use crate::options::{Job, LintOptions, options};
@@ -412,7 +412,7 @@ fn lint_named<T: Tree + Drop, O: ByteSink, E: ByteSink>(
 }
 
 /// Does what is asked for.
-fn run_asked<T: Tree + Drop, R: ByteSource, O: ByteSink, E: ByteSink>(
+fn run_request<T: Tree + Drop, R: ByteSource, O: ByteSink, E: ByteSink>(
     alloc: Global,
     terminals: Terminals,
     options: &LintOptions<'_>,
@@ -424,7 +424,7 @@ fn run_asked<T: Tree + Drop, R: ByteSource, O: ByteSink, E: ByteSink>(
     requires input { R.failed input.old ≡ false }
     requires out { O.failed streams.old.out ≡ false }
     requires err { E.failed streams.old.err ≡ false }
-    ensures ends { EndsAsked terminals (asking_of options.now) (R.failed input.new)
+    ensures ends { EndsByRequest terminals (request_of options.now) (R.failed input.new)
         (R.left input.old) (T.files files.old.tree) (T.faults files.old.tree)
         (T.faults files.new.tree)
         (end_of_streams O.ByteSink E.ByteSink streams.old streams.new result) }
@@ -461,12 +461,12 @@ fn run_line<'w, T: Tree + Drop, R: ByteSource, O: ByteSink, E: ByteSink>(
         (T.faults files.old.tree) (T.faults files.new.tree)
         (end_of_streams O.ByteSink E.ByteSink streams.old streams.new result) }
     // Standard input is read only for names.
-    ensures unread { reads_names (asking_of_texts (map (λ word. word.now) line.entry.texts.now)
+    ensures unread { reads_names (request_of_texts (map (λ word. word.now) line.entry.texts.now)
         (map (λ name. name.now) line.entry.others.now)) ≡ false → input.new ≡ input.old }
     ensures leaves { Leaves T.Tree files.old files.new }
 {
     match options(alloc, line.texts, line.others) {
-        Ok(options) => run_asked(alloc, terminals, &options, files, input, streams),
+        Ok(options) => run_request(alloc, terminals, &options, files, input, streams),
         Err(usage) => say(alloc, line.texts, usage, streams),
     }
 }
@@ -491,7 +491,7 @@ pub fn program<T: Tree + Drop, R: ByteSource, O: ByteSink, E: ByteSink>(
         (T.faults files.old.tree) (T.faults files.new.tree)
         (end_of_streams O.ByteSink E.ByteSink streams.old streams.new result) }
     // Standard input is read only where the words ask for names from there.
-    ensures unread { reads_names (asking_of_words (map (λ word. word.now) words.now)) ≡ false
+    ensures unread { reads_names (request_of_words (map (λ word. word.now) words.now)) ≡ false
         → input.new ≡ input.old }
     ensures leaves { Leaves T.Tree files.old files.new }
 {

@@ -8,7 +8,7 @@ use Rattle.rule_lists.specs.Lists.{rules_in}
 use Rattle.rule_lists.specs.declared.fault.ListFault.{ListFault}
 use Rattle.rule_lists.specs.declared.fault.ListFault.TheVariants as list
 use Rattle.tf_rules.specs.declared.naming.Naming.{Naming}
-use Rattle.tfrules_command.specs.Line.{naming_asked, severity_asked}
+use Rattle.tfrules_command.specs.Line.{naming_of_text, severity_of_text}
 use Rattle.lint_config.specs.declared.fault.ConfigFault.{ConfigFault}
 use Rattle.lint_config.specs.declared.fault.ConfigFault.TheVariants.{UnknownOption, GivenTwice, UnknownRule, NoRuleLeft, UnknownNaming, UnknownSeverity}
 
@@ -55,9 +55,9 @@ rules_or_fault (Err list.NoneLeft) = Err NoRuleLeft
 abbrev pub with_option : Options → List ℕ → List ℕ → Result Options ConfigFault
 with_option said name value =
     if bytes_eq name (codes "--rules") then with_value said.rules (rules_or_fault (rules_in value)) (λ rules. record said { rules = Some rules })
-    else (if bytes_eq name (codes "--naming") then with_value said.naming (ok_or (naming_asked value) UnknownNaming) (λ naming. record said { naming = Some naming })
+    else (if bytes_eq name (codes "--naming") then with_value said.naming (ok_or (naming_of_text value) UnknownNaming) (λ naming. record said { naming = Some naming })
     else (if bytes_eq name (codes "--minimum-failure-severity")
-    then with_value said.minimum (ok_or (severity_asked value) UnknownSeverity) (λ minimum. record said { minimum = Some minimum })
+    then with_value said.minimum (ok_or (severity_of_text value) UnknownSeverity) (λ minimum. record said { minimum = Some minimum })
     else (if bytes_eq name (codes "--force") && length value == 0 then (if said.force then Err GivenTwice else Ok (record said { force = true }))
     else (if bytes_eq name (codes "--check-comments") && length value == 0 then (if said.checks then Err GivenTwice else Ok (record said { checks = true }))
     else Err UnknownOption))))

@@ -9,7 +9,7 @@ use crate::fault::ConfigFault;
 use crate::parts::{bare, parts};
 use crate::said::Said;
 use rule_lists::{ListFault, rules_in};
-use tfrules_command::options::{naming_asked, severity_asked};
+use tfrules_command::options::{naming_of_text, severity_of_text};
 
 /// These options and a list of rules.
 fn with_rules(said: Said, list: &str) -> Result<Said, ConfigFault>
@@ -38,7 +38,7 @@ fn with_naming(said: Said, text: &str) -> Result<Said, ConfigFault>
     if said.naming.is_some() {
         return Err(ConfigFault::GivenTwice);
     }
-    match naming_asked(text) {
+    match naming_of_text(text) {
         Some(naming) => Ok(Said {
             rules: said.rules,
             naming: Some(naming),
@@ -57,7 +57,7 @@ fn with_minimum(said: Said, text: &str) -> Result<Said, ConfigFault>
     if said.minimum.is_some() {
         return Err(ConfigFault::GivenTwice);
     }
-    match severity_asked(text) {
+    match severity_of_text(text) {
         Some(minimum) => Ok(Said {
             rules: said.rules,
             naming: said.naming,

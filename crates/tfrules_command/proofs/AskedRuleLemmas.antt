@@ -16,7 +16,7 @@ use Rattle.rule_set.specs.declared.rule.Severity.{Severity}
 use Rattle.tfrules_command.specs.declared.usage.Usage.TheVariants as usage
 use Rattle.rule_set.specs.declared.rule.Rule.{Rule}
 use Rattle.rule_set.specs.declared.rule_set.RuleSet.{RuleSet}
-use Rattle.tfrules_command.specs.Line.{asking_for, asking_with, each_once, has_name, max_files, naming_asked, rules_asked, rules_named, severity_asked, value_or}
+use Rattle.tfrules_command.specs.Line.{asking_for, request_with, each_once, has_name, max_files, naming_of_text, rules_asked, rules_named, severity_of_text, value_or}
 use Rattle.tfrules_command.specs.Inner.Named.{Named}
 use Rattle.tfrules_command.proofs.ListLemmas.{filter_same}
 
@@ -88,8 +88,8 @@ few_enough force files rules naming minimum names h e =
 -- the request of a line with files, by the answers of the parts
 pub with_files : (rows : List Row) (files : List (List ℕ)) (force : Bool) (rules : Option (List Rule)) (naming : Option Naming) (minimum : Option Severity)
     → 0 < length files → force ≡ is_set (codes "force") rows → rules ≡ rules_asked (value_or (codes "default") (codes "rules") rows)
-    → naming ≡ naming_asked (value_or (codes "snake_case") (codes "naming") rows) → minimum ≡ severity_asked (value_or (codes "notice") (codes "minimum-failure-severity") rows)
-    → asking_for force files rules naming minimum ≡ asking_with rows (Some files)
+    → naming ≡ naming_of_text (value_or (codes "snake_case") (codes "naming") rows) → minimum ≡ severity_of_text (value_or (codes "notice") (codes "minimum-failure-severity") rows)
+    → asking_for force files rules naming minimum ≡ request_with rows (Some files)
 with_files rows [] force rules naming minimum h f r n m = absurd (omega (arith, h))
 with_files rows (x ∷ xs) force rules naming minimum h f r n m = (λ i. asking_for (f i) (x ∷ xs) (r i) (n i) (m i))
 
@@ -100,7 +100,7 @@ not_empty (x ∷ xs) e is f = omega arith
 pub with_parts : (rows : List Row) (given : List (Bor (List ℕ))) (e force : Bool) (r n s : List ℕ) (rules : Option RuleSet) (naming : Option Naming) (minimum : Option Severity)
     → e ≡ (length given == 0) → e ≡ false → force ≡ is_set (codes "force") rows → r ≡ value_or (codes "default") (codes "rules") rows
     → n ≡ value_or (codes "snake_case") (codes "naming") rows → s ≡ value_or (codes "notice") (codes "minimum-failure-severity") rows
-    → option_map rules_of rules ≡ rules_asked r → naming ≡ naming_asked n → minimum ≡ severity_asked s
-    → asking_for force (map (λ name. name.now) given) (option_map rules_of rules) naming minimum ≡ asking_with rows (Some (map (λ name. name.now) given))
+    → option_map rules_of rules ≡ rules_asked r → naming ≡ naming_of_text n → minimum ≡ severity_of_text s
+    → asking_for force (map (λ name. name.now) given) (option_map rules_of rules) naming minimum ≡ request_with rows (Some (map (λ name. name.now) given))
 with_parts rows given e force r n s rules naming minimum is f fe re ne se ra na sa =
-    with_files rows (map (λ name. name.now) given) force (option_map rules_of rules) naming minimum (not_empty given e is f) fe (ra ∙ ap rules_asked re) (na ∙ ap naming_asked ne) (sa ∙ ap severity_asked se)
+    with_files rows (map (λ name. name.now) given) force (option_map rules_of rules) naming minimum (not_empty given e is f) fe (ra ∙ ap rules_asked re) (na ∙ ap naming_of_text ne) (sa ∙ ap severity_of_text se)

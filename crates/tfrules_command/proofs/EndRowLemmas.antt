@@ -12,7 +12,7 @@ use Rattle.tf_rules.specs.Ordered.{BeforeAll}
 use Rattle.tf_rules.specs.declared.issue.Issue.{Issue}
 use Rattle.tfrules_command.specs.Answer.{IsAnswerBy, IsRefused, linter, names_of, usage_line}
 use Rattle.tfrules_command.specs.Files.{NamedFile, numbered_files}
-use Rattle.tfrules_command.specs.Line.{Asking}
+use Rattle.tfrules_command.specs.Line.{Request}
 use Rattle.tfrules_command.specs.Report.{report_row}
 use Rattle.tfrules_command.specs.Rows.{AreFiles, IsRowBy}
 use Rattle.hcl_source.specs.Devices.{Tells}
@@ -53,7 +53,7 @@ module _ (told : List ℕ → Option (List ℕ)) where
   unread_files (n ∷ ns) = All-cons (λ (file : NamedFile). Tells (told file.name) file.bytes) (record { name = n; bytes = told_or (told n) }) (unread ns) (tells_or (told n)) (unread_files ns)
 
   -- a run that stopped at a refused file shows the answer
-  refused_first : (asking : Asking) (front after : List (List ℕ)) (name bytes : List ℕ) (size : ℕ) (kept : Kept) (row : Row) → asking.files ≡ front ++ name ∷ after → Reached told front size kept → Tells (told name) bytes
+  refused_first : (asking : Request) (front after : List (List ℕ)) (name bytes : List ℕ) (size : ℕ) (kept : Kept) (row : Row) → asking.files ≡ front ++ name ∷ after → Reached told front size kept → Tells (told name) bytes
       → IsRefused size (record { name = name; bytes = bytes }) row → IsRowBy told (Ok asking) false false row
   refused_first asking front after name bytes size kept row split p tells refusal =
       let file : NamedFile = record { name = name; bytes = bytes } in (
@@ -65,7 +65,7 @@ module _ (told : List ℕ → Option (List ℕ)) where
         ),
       )
 
-  stop_rows : (asking : Asking) (o r : Bool) (name : List ℕ) (why : Stop) (row : Row) → StopsAt told asking.files o r name why → row ≡ stop_row name why → OrOutOfMemory linter (IsRowBy told (Ok asking) o r) row
+  stop_rows : (asking : Request) (o r : Bool) (name : List ℕ) (why : Stop) (row : Row) → StopsAt told asking.files o r name why → row ≡ stop_row name why → OrOutOfMemory linter (IsRowBy told (Ok asking) o r) row
   stop_rows asking o r name (stop.Refused fault) row s is =
       inr (subst (λ b. IsRowBy told (Ok asking) b r row) (sym s.by.0.0) (subst (λ b. IsRowBy told (Ok asking) false b row) (sym s.by.0.1)
       (refused_first asking s.front s.after name s.by.1.0 s.size s.kept row s.split s.reached s.by.1.1 (inl (fault, s.by.1.2, is)))))
@@ -96,11 +96,11 @@ module _ (told : List ℕ → Option (List ℕ)) where
       })))
   stop_rows asking o r name stop.OutOfMemory row s is = inl is
 
-  pub stopped_row : (asking : Asking) (o r : Bool) (name : List ℕ) (why : Stop) (row : Row) → StopsAt told asking.files o r name why → OrOutOfMemory linter (λ x. x ≡ stop_row name why) row → OrOutOfMemory linter (IsRowBy told (Ok asking) o r) row
+  pub stopped_row : (asking : Request) (o r : Bool) (name : List ℕ) (why : Stop) (row : Row) → StopsAt told asking.files o r name why → OrOutOfMemory linter (λ x. x ≡ stop_row name why) row → OrOutOfMemory linter (IsRowBy told (Ok asking) o r) row
   stopped_row asking o r name why row s (inl e) = inl e
   stopped_row asking o r name why row s (inr is) = stop_rows asking o r name why row s is
 
-  pub reported_row : (asking : Asking) (o r : Bool) (size : ℕ) (kept : Kept) (issues : List Issue) → AreFine o r → (p : Reached told asking.files size kept) → rules.AreIssues asking.asked (numbered_files 0 p.sources) issues
+  pub reported_row : (asking : Request) (o r : Bool) (size : ℕ) (kept : Kept) (issues : List Issue) → AreFine o r → (p : Reached told asking.files size kept) → rules.AreIssues asking.asked (numbered_files 0 p.sources) issues
       → IsRowBy told (Ok asking) o r (report_row asking issues)
   reported_row asking o r size kept issues fine p found =
       subst (λ b. IsRowBy told (Ok asking) b r (report_row asking issues)) (sym fine.0) (subst (λ b. IsRowBy told (Ok asking) false b (report_row asking issues)) (sym fine.1)
@@ -117,11 +117,11 @@ module _ (told : List ℕ → Option (List ℕ)) where
   usage_rows usage.TooManyFiles = inr ([], All-nil (λ (file : NamedFile). Tells (told file.name) file.bytes), refl)
   usage_rows usage.OutOfMemory = inl refl
 
-  pub usage_shown : (options : Result Asking Usage) (u : Usage) (o r : Bool) → o ≡ false → r ≡ false → (u ≡ usage.OutOfMemory) ⊎ (Err u ≡ options) → OrOutOfMemory linter (IsRowBy told options o r) (usage_row u)
+  pub usage_shown : (options : Result Request Usage) (u : Usage) (o r : Bool) → o ≡ false → r ≡ false → (u ≡ usage.OutOfMemory) ⊎ (Err u ≡ options) → OrOutOfMemory linter (IsRowBy told options o r) (usage_row u)
   usage_shown options u o r fo fr (inl e) = inl (ap usage_row e)
   usage_shown options u o r fo fr (inr e) =
       subst (λ b. OrOutOfMemory linter (IsRowBy told options b r) (usage_row u)) (sym fo) (subst (λ b. OrOutOfMemory linter (IsRowBy told options false b) (usage_row u)) (sym fr)
-      (subst (λ (x : Result Asking Usage). OrOutOfMemory linter (IsRowBy told x false false) (usage_row u)) e (usage_rows u)))
+      (subst (λ (x : Result Request Usage). OrOutOfMemory linter (IsRowBy told x false false) (usage_row u)) e (usage_rows u)))
 
 -- ---- rising numbers
 

@@ -19,7 +19,7 @@ use Rattle.tf_rules.proofs.ReportLemmas.{one_report}
 use Rattle.tfrules_command.specs.AnswerLaws.{IsAnswer}
 use Rattle.tfrules_command.specs.Answer.{IsAnswerBy, IsRefused, IsRefusedFirst, IsReported, refusal_row}
 use Rattle.tfrules_command.specs.Files.{NamedFile, AreAccepted, IsAcceptedAs, IsFault, IsTooMuch, max_module, numbered_files, size_of}
-use Rattle.tfrules_command.specs.Line.{Asking, options_of}
+use Rattle.tfrules_command.specs.Line.{Request, options_of}
 use Rattle.tfrules_command.specs.Report.{report_row}
 use Rattle.tfrules_command.specs.declared.usage.Usage.{Usage}
 use Rattle.tfrules_command.specs.declared.usage.Usage.TheVariants as usage
@@ -125,10 +125,10 @@ one_refused_first files row other x y = by (split_twice x.before x.after y.befor
     by (inr (inl s)) = absurd (none_refused x.before x.file s.0 y.sources row (subst (λ fs. AreAccepted fs y.sources) s.1 y.accepted) x.refusal)
     by (inr (inr s)) = absurd (none_refused y.before y.file s.0 x.sources other (subst (λ fs. AreAccepted fs x.sources) s.1 x.accepted) y.refusal)
 
-reported_or_refused : (asking : Asking) (files : List NamedFile) (row other : Row) → IsReported asking files row → IsRefusedFirst files other → ⊥
+reported_or_refused : (asking : Request) (files : List NamedFile) (row other : Row) → IsReported asking files row → IsRefusedFirst files other → ⊥
 reported_or_refused asking files row other x y = none_refused y.before y.file y.after x.sources other (subst (λ fs. AreAccepted fs x.sources) y.split x.accepted) y.refusal
 
-one_reported : (asking : Asking) (files : List NamedFile) (row other : Row) → IsReported asking files row → IsReported asking files other → row ≡ other
+one_reported : (asking : Request) (files : List NamedFile) (row other : Row) → IsReported asking files row → IsReported asking files other → row ≡ other
 one_reported asking files row other x y =
     let same : x.sources ≡ y.sources = same_sources files x.sources y.sources x.accepted.each y.accepted.each in
     let moved : IsReport asking.asked (numbered_files 0 y.sources) x.found.report = subst (λ ss. IsReport asking.asked (numbered_files 0 ss) x.found.report) same x.found.is in
@@ -136,13 +136,13 @@ one_reported asking files row other x y =
     let issues : x.issues ≡ y.issues = sym x.found.same ∙ ap (map shown_issue) report ∙ y.found.same in
     x.is ∙ ap (report_row asking) issues ∙ sym y.is
 
-one_of_files : (asking : Asking) (files : List NamedFile) (row other : Row) → IsReported asking files row ⊎ IsRefusedFirst files row → IsReported asking files other ⊎ IsRefusedFirst files other → row ≡ other
+one_of_files : (asking : Request) (files : List NamedFile) (row other : Row) → IsReported asking files row ⊎ IsRefusedFirst files row → IsReported asking files other ⊎ IsRefusedFirst files other → row ≡ other
 one_of_files asking files row other (inl x) (inl y) = one_reported asking files row other x y
 one_of_files asking files row other (inl x) (inr y) = absurd (reported_or_refused asking files row other x y)
 one_of_files asking files row other (inr x) (inl y) = absurd (reported_or_refused asking files other row y x)
 one_of_files asking files row other (inr x) (inr y) = one_refused_first files row other x y
 
-pub one_answer_by : (r : Result Asking Usage) (files : List NamedFile) (row other : Row) → IsAnswerBy r files row → IsAnswerBy r files other → row ≡ other
+pub one_answer_by : (r : Result Request Usage) (files : List NamedFile) (row other : Row) → IsAnswerBy r files row → IsAnswerBy r files other → row ≡ other
 one_answer_by (Ok asking) files row other x y = one_of_files asking files row other x.1 y.1
 one_answer_by (Err usage.Help) files row other x y = x ∙ sym y
 one_answer_by (Err usage.BadLine) files row other x y = x ∙ sym y

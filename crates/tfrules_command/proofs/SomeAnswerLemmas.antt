@@ -25,7 +25,7 @@ use Rattle.rule_set.specs.declared.rule.Severity.{Severity}
 use Rattle.tfrules_command.specs.AnswerLaws.{AreNamed, IsAnswer, named_file}
 use Rattle.tfrules_command.specs.Answer.{IsAnswerBy, IsRefused, IsRefusedFirst, IsReported, linter, refusal_row, too_large, usage_line}
 use Rattle.tfrules_command.specs.Files.{NamedFile, AreAccepted, IsAcceptedAs, max_module, numbered_files, size_of}
-use Rattle.tfrules_command.specs.Line.{Asking, asking_for, asking_of_rows, asking_with, each_once, has_name, max_files, options_of, rules_asked, rules_named, tfrules, value_or}
+use Rattle.tfrules_command.specs.Line.{Request, asking_for, request_of_rows, request_with, each_once, has_name, max_files, options_of, rules_asked, rules_named, tfrules, value_or}
 use Rattle.tfrules_command.specs.Report.{report_row}
 use Rattle.tfrules_command.specs.Inner.Outcomes.{HasOutcome}
 use Rattle.tfrules_command.specs.declared.usage.Usage.{Usage}
@@ -37,7 +37,7 @@ use Rattle.tfrules_command.proofs.SomeReportLemmas.{some_report}
 -- ---- running out of memory is the usage of no line
 
 -- the request of a line whose texts are all known
-abbrev counted : Bool → List (List ℕ) → List Rule → Naming → Severity → Bool → Result Asking Usage
+abbrev counted : Bool → List (List ℕ) → List Rule → Naming → Severity → Bool → Result Request Usage
 counted force files rules naming minimum many = cond many (Err usage.TooManyFiles) (Ok (record { asked = record { rules = rules; naming = naming }; minimum = minimum; force = force; files = each_once files }))
 
 asking_has_memory : (force : Bool) (files : List (List ℕ)) (rules : Option (List Rule)) (naming : Option Naming) (minimum : Option Severity) → asking_for force files rules naming minimum ≡ Err usage.OutOfMemory → ⊥
@@ -50,7 +50,7 @@ asking_has_memory force files (Some rules) (Some naming) (Some minimum) e = by (
     by true e = absurd (cc)
     by false e = absurd (cc)
 
-rows_have_memory : (rows : List clap.Row) (files : Option (List (List ℕ))) → asking_with rows files ≡ Err usage.OutOfMemory → ⊥
+rows_have_memory : (rows : List clap.Row) (files : Option (List (List ℕ))) → request_with rows files ≡ Err usage.OutOfMemory → ⊥
 rows_have_memory rows None e = absurd (cc)
 rows_have_memory rows (Some []) e = absurd (cc)
 rows_have_memory rows (Some (f ∷ fs)) e = asking_has_memory _ (f ∷ fs) _ _ _ e
@@ -58,7 +58,7 @@ rows_have_memory rows (Some (f ∷ fs)) e = asking_has_memory _ (f ∷ fs) _ _ _
 has_memory : (words : List (List ℕ)) → options_of words ≡ Err usage.OutOfMemory → ⊥
 has_memory words =
     let rows = matches_of tfrules words in
-    line_has_memory usage.OutOfMemory usage.Help usage.BadLine (fault_of tfrules words) (asking_of_rows rows) (λ e. absurd (cc)) (λ e. absurd (cc)) (one_fault tfrules words refl refl)
+    line_has_memory usage.OutOfMemory usage.Help usage.BadLine (fault_of tfrules words) (request_of_rows rows) (λ e. absurd (cc)) (λ e. absurd (cc)) (one_fault tfrules words refl refl)
     (rows_have_memory rows (all_of (codes "file") rows))
 
 -- ---- the rules that a line requests are some of all, in their order
@@ -85,11 +85,11 @@ asked_are_some text rules e = by (bytes_eq text (codes "default")) (bytes_eq tex
     by false true e = (λ rule. true, ap (rules_or rules) e)
     by false false e = named_are_some (slice_split (λ b. b == 44) text) rules e
 
-abbrev rules_in : List Rule → Result Asking Usage → List Rule
+abbrev rules_in : List Rule → Result Request Usage → List Rule
 rules_in other (Ok asking) = asking.asked.rules
 rules_in other (Err usage) = other
 
-asking_for_some : (text : List ℕ) (force : Bool) (files : List (List ℕ)) (rules : Option (List Rule)) (naming : Option Naming) (minimum : Option Severity) (asking : Asking) → rules_asked text ≡ rules
+asking_for_some : (text : List ℕ) (force : Bool) (files : List (List ℕ)) (rules : Option (List Rule)) (naming : Option Naming) (minimum : Option Severity) (asking : Request) → rules_asked text ≡ rules
     → asking_for force files rules naming minimum ≡ Ok asking → AreSome asking.asked.rules
 asking_for_some text force files None naming minimum asking is e = absurd (cc)
 asking_for_some text force files (Some rules) None minimum asking is e = absurd (cc)
@@ -100,16 +100,16 @@ asking_for_some text force files (Some rules) (Some naming) (Some minimum) askin
     by true e = absurd (cc)
     by false e = let some = asked_are_some text rules is in (some.0, some.1 ∙ ap (rules_in rules) e)
 
-rows_ask_some : (rows : List clap.Row) (files : Option (List (List ℕ))) (asking : Asking) → asking_with rows files ≡ Ok asking → AreSome asking.asked.rules
+rows_ask_some : (rows : List clap.Row) (files : Option (List (List ℕ))) (asking : Request) → request_with rows files ≡ Ok asking → AreSome asking.asked.rules
 rows_ask_some rows None asking e = absurd (cc)
 rows_ask_some rows (Some []) asking e = absurd (cc)
 rows_ask_some rows (Some (f ∷ fs)) asking e = asking_for_some (value_or (codes "default") (codes "rules") rows) _ (f ∷ fs) _ _ _ asking refl e
 
-line_asks_some : (faults : Kinds) (rows : List clap.Row) (asking : Asking) → unless_fault (usage_by usage.OutOfMemory usage.Help usage.BadLine) faults (asking_of_rows rows) ≡ Ok asking → AreSome asking.asked.rules
+line_asks_some : (faults : Kinds) (rows : List clap.Row) (asking : Request) → unless_fault (usage_by usage.OutOfMemory usage.Help usage.BadLine) faults (request_of_rows rows) ≡ Ok asking → AreSome asking.asked.rules
 line_asks_some [] rows asking e = rows_ask_some rows (all_of (codes "file") rows) asking e
 line_asks_some (k ∷ ks) rows asking e = absurd (cc)
 
-words_ask_some : (words : List (List ℕ)) (asking : Asking) → options_of words ≡ Ok asking → AreSome asking.asked.rules
+words_ask_some : (words : List (List ℕ)) (asking : Request) → options_of words ≡ Ok asking → AreSome asking.asked.rules
 words_ask_some words = line_asks_some (fault_of tfrules words) (matches_of tfrules words)
 
 -- ---- the files in turn
@@ -120,7 +120,7 @@ Outcome file = HasOutcome file.bytes
 above_or_not : (a b : ℕ) → (a ≤ b) ⊎ (b < a)
 above_or_not a b = grind arith
 
-module _ (asking : Asking) (reports : (sources : List Scanned) → (report : List Issue) × IsReport asking.asked (numbered_files 0 sources) report) where
+module _ (asking : Request) (reports : (sources : List Scanned) → (report : List Issue) × IsReport asking.asked (numbered_files 0 sources) report) where
   abbrev Ends : List NamedFile → Type 0
   Ends files = (row : Row) × (IsReported asking files row ⊎ IsRefusedFirst files row)
 
@@ -174,8 +174,8 @@ module _ {X : Type 0} (name bytes : X → List ℕ) where
 
 -- ---- THE LAW
 
-answer_by : (r : Result Asking Usage) (files : List NamedFile) → (r ≡ Err usage.OutOfMemory → ⊥) → AreNamed r files
-    → ((asking : Asking) → r ≡ Ok asking → (row : Row) × (IsReported asking files row ⊎ IsRefusedFirst files row)) → (row : Row) × IsAnswerBy r files row
+answer_by : (r : Result Request Usage) (files : List NamedFile) → (r ≡ Err usage.OutOfMemory → ⊥) → AreNamed r files
+    → ((asking : Request) → r ≡ Ok asking → (row : Row) × (IsReported asking files row ⊎ IsRefusedFirst files row)) → (row : Row) × IsAnswerBy r files row
 answer_by (Ok asking) files p are f = let found = f asking refl in (found.0, (are, found.1))
 answer_by (Err usage.Help) files p are f = (record { out = usage_line; err = []; status = 0 }, refl)
 answer_by (Err usage.BadLine) files p are f = (record { out = []; err = usage_line; status = 1 }, refl)

@@ -7,7 +7,7 @@ use Rattle.hcl_source.specs.declared.fault.Fault.{Fault}
 use Rattle.tf_rules.specs.Answers as rules
 use Rattle.tf_rules.specs.declared.issue.Issue.{Issue}
 use Rattle.tfrules_command.specs.Files.{NamedFile, AreAccepted, IsFault, IsTooMuch, numbered_files, size_of}
-use Rattle.tfrules_command.specs.Line.{Asking, options_of}
+use Rattle.tfrules_command.specs.Line.{Request, options_of}
 use Rattle.tfrules_command.specs.Report.{report_row}
 use Rattle.tfrules_command.specs.declared.usage.Usage.{Usage}
 use Rattle.tfrules_command.specs.declared.usage.Usage.TheVariants as usage
@@ -39,7 +39,7 @@ IsRefused size file row =
     ((fault : Fault) × IsFault size file.bytes fault × (row ≡ refusal_row file.name fault)) ⊎ (IsTooMuch size file.bytes × (row ≡ too_large file.name))
 
 -- all files are accepted, and the row is that of their issues
-pub record IsReported (asking : Asking) (files : List NamedFile) (row : Row) : Type 0 where
+pub record IsReported (asking : Request) (files : List NamedFile) (row : Row) : Type 0 where
   pub sources : List Scanned
   pub accepted : AreAccepted files sources
   pub issues : List Issue
@@ -61,7 +61,7 @@ names_of files = map (λ file. file.name) files
 
 -- THE ANSWER to the request of a line and the files that it names, each once, in order. Running out of memory is the
 -- usage of no line.
-abbrev pub IsAnswerBy : Result Asking Usage → List NamedFile → Row → Type 0
+abbrev pub IsAnswerBy : Result Request Usage → List NamedFile → Row → Type 0
 IsAnswerBy (Ok asking) files row = (names_of files ≡ asking.files) × (IsReported asking files row ⊎ IsRefusedFirst files row)
 IsAnswerBy (Err usage.Help) files row = row ≡ record { out = usage_line; err = []; status = 0 }
 IsAnswerBy (Err usage.BadLine) files row = row ≡ record { out = []; err = usage_line; status = 1 }

@@ -21,7 +21,7 @@ use Rattle.tfrules_command.specs.declared.usage.Usage.TheVariants.{Help, BadLine
 
 -- the request of a line: rules and naming, the severity from which on an issue fails the run, whether none does, and
 -- the names of the files, each once, in the order of the line
-pub record Asking : Type 0 where
+pub record Request : Type 0 where
   pub asked : Asked
   pub minimum : Severity
   pub force : Bool
@@ -57,14 +57,14 @@ rules_asked text =
     else if bytes_eq text (codes "all") then Some all_rules
     else rules_named (slice_split (λ b. b == 44) text)
 
-abbrev pub naming_asked : Text → Option Naming
-naming_asked text =
+abbrev pub naming_of_text : Text → Option Naming
+naming_of_text text =
     if bytes_eq text (codes "snake_case") then Some SnakeCase
     else if bytes_eq text (codes "mixed_snake_case") then Some MixedSnakeCase
     else None
 
-abbrev pub severity_asked : Text → Option Severity
-severity_asked text =
+abbrev pub severity_of_text : Text → Option Severity
+severity_of_text text =
     if bytes_eq text (codes "error") then Some Error
     else if bytes_eq text (codes "warning") then Some Warning
     else if bytes_eq text (codes "notice") then Some Notice
@@ -94,7 +94,7 @@ abbrev pub value_or : Text → Text → List Row → Text
 value_or default id rows = unwrap_or (first_of id rows) default
 
 -- the rules are checked first, then the naming, the severity, and the number of files as given
-abbrev pub asking_for : Bool → List Text → Option (List Rule) → Option Naming → Option Severity → Result Asking Usage
+abbrev pub asking_for : Bool → List Text → Option (List Rule) → Option Naming → Option Severity → Result Request Usage
 asking_for force files None naming minimum = Err UnknownRule
 asking_for force files (Some rules) None minimum = Err BadNaming
 asking_for force files (Some rules) (Some naming) None = Err BadSeverity
@@ -103,16 +103,16 @@ asking_for force files (Some rules) (Some naming) (Some minimum) =
     else Ok (record { asked = record { rules = rules; naming = naming }; minimum = minimum; force = force; files = each_once files })
 
 -- without a file it is a bad line
-abbrev pub asking_with : List Row → Option (List Text) → Result Asking Usage
-asking_with rows None = Err BadLine
-asking_with rows (Some []) = Err BadLine
-asking_with rows (Some (f ∷ fs)) =
+abbrev pub request_with : List Row → Option (List Text) → Result Request Usage
+request_with rows None = Err BadLine
+request_with rows (Some []) = Err BadLine
+request_with rows (Some (f ∷ fs)) =
     asking_for (is_set (codes "force") rows) (f ∷ fs) (rules_asked (value_or (codes "default") (codes "rules") rows))
-    (naming_asked (value_or (codes "snake_case") (codes "naming") rows)) (severity_asked (value_or (codes "notice") (codes "minimum-failure-severity") rows))
+    (naming_of_text (value_or (codes "snake_case") (codes "naming") rows)) (severity_of_text (value_or (codes "notice") (codes "minimum-failure-severity") rows))
 
-abbrev pub asking_of_rows : List Row → Result Asking Usage
-asking_of_rows rows = asking_with rows (all_of (codes "file") rows)
+abbrev pub request_of_rows : List Row → Result Request Usage
+request_of_rows rows = request_with rows (all_of (codes "file") rows)
 
 -- THE OPTIONS of a line, unless memory runs out
-abbrev pub options_of : List Text → Result Asking Usage
-options_of words = unless_fault (usage_by OutOfMemory Help BadLine) (fault_of tfrules words) (asking_of_rows (matches_of tfrules words))
+abbrev pub options_of : List Text → Result Request Usage
+options_of words = unless_fault (usage_by OutOfMemory Help BadLine) (fault_of tfrules words) (request_of_rows (matches_of tfrules words))

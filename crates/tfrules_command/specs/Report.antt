@@ -6,7 +6,7 @@ use Rattle.rule_set.specs.Rules.{rule_name, severity, severity_text}
 use Rattle.tf_rules.specs.declared.issue.Issue.{Issue}
 use Rattle.rule_set.specs.declared.rule.Severity.{Severity}
 use Rattle.rule_set.specs.declared.rule.Severity.TheVariants.{Notice, Warning, Error}
-use Rattle.tfrules_command.specs.Line.{Asking}
+use Rattle.tfrules_command.specs.Line.{Request}
 
 -- `FILE:LINE:COLUMN: Severity - message (rule)`
 abbrev pub issue_line : List (List ℕ) → Issue → List ℕ
@@ -38,9 +38,9 @@ weight Error = 2
 abbrev pub weighs : Severity → Issue → Bool
 weighs minimum i = nat_le (weight minimum) (weight (severity i.rule))
 
-abbrev pub status : Asking → List Issue → ℕ
+abbrev pub status : Request → List Issue → ℕ
 status asking issues = if not asking.force && list_any (weighs asking.minimum) issues then 2 else 0
 
 -- the row of a module with these issues
-abbrev pub report_row : Asking → List Issue → Row
+abbrev pub report_row : Request → List Issue → Row
 report_row asking issues = record { out = report asking.files issues; err = []; status = status asking issues }

@@ -5,7 +5,7 @@ ghost use Rattle.command_line.specs.Rows.{Row};
 ghost use Rattle.tf_rules.specs.declared.issue.Issue.{Issue};
 ghost use Rattle.tfrules_command.specs.AnswerLaws.{AreNamed, IsAnswer, named_file};
 ghost use Rattle.tfrules_command.specs.Files.{NamedFile};
-ghost use Rattle.tfrules_command.specs.Line.{Asking, options_of};
+ghost use Rattle.tfrules_command.specs.Line.{Request, options_of};
 ghost use Rattle.tfrules_command.specs.Report.{status};
 ghost use Rattle.tfrules_command.specs.Inner.Outcomes.{HasOutcome};
 
@@ -42,7 +42,7 @@ pub fn one_answer()
 
 /// The status of a report depends only on the rules of its issues.
 pub fn status_by_rules()
-    ensures { (asking : Asking) (issues others : List Issue)
+    ensures { (asking : Request) (issues others : List Issue)
         → map (λ i. i.rule) issues ≡ map (λ i. i.rule) others
         → status asking issues ≡ status asking others }
 {}

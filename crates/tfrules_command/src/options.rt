@@ -4,8 +4,8 @@ ghost use Rattle.std.specs.Prelude.{◌≡◌, ◌<◌, false, ◌⊎◌, ◌==�
 ghost use Rattle.std.specs.List.{slice_split};
 ghost use Rattle.clap.specs.Words.{app_of, found_of, rows_of, rule_of};
 ghost use Rattle.rule_set.specs.RuleSets.{rules_of};
-ghost use Rattle.tfrules_command.specs.Line.{asking_for, asking_of_rows, asking_with, file_rule, naming_asked, options_of, rules_asked, severity_asked, tfrules, value_or};
-ghost use Rattle.tfrules_command.specs.Asked.{asked_by};
+ghost use Rattle.tfrules_command.specs.Line.{asking_for, request_of_rows, request_with, file_rule, naming_of_text, options_of, rules_asked, severity_of_text, tfrules, value_or};
+ghost use Rattle.tfrules_command.specs.Asked.{result_request};
 ghost use Rattle.tfrules_command.specs.Inner.Named.{Named};
 ghost use Rattle.tfrules_command.specs.declared.usage.Usage.TheVariants.{OutOfMemory};
 
@@ -89,8 +89,8 @@ fn rules_asked(text: &str) -> Option<RuleSet>
 }
 
 /// The naming that a text requests.
-pub fn naming_asked(text: &str) -> Option<Naming>
-    ensures { result ≡ naming_asked text.now }
+pub fn naming_of_text(text: &str) -> Option<Naming>
+    ensures { result ≡ naming_of_text text.now }
 {
     if text == "snake_case" {
         return Some(Naming::SnakeCase);
@@ -102,8 +102,8 @@ pub fn naming_asked(text: &str) -> Option<Naming>
 }
 
 /// The severity that a text requests.
-pub fn severity_asked(text: &str) -> Option<Severity>
-    ensures { result ≡ severity_asked text.now }
+pub fn severity_of_text(text: &str) -> Option<Severity>
+    ensures { result ≡ severity_of_text text.now }
 {
     if text == "error" {
         return Some(Severity::Error);
@@ -137,7 +137,7 @@ fn options_for<'a>(
 ) -> Result<LintOptions<'a>, Usage>
     requires { 0 < length given.now }
     ensures { (result ≡ Err OutOfMemory)
-        ⊎ (asked_by result ≡ asking_for force (map (λ name. name.now) given.now)
+        ⊎ (result_request result ≡ asking_for force (map (λ name. name.now) given.now)
         (Some (rules_of settings.rules)) (Some settings.naming) (Some minimum)) }
 {
     if given.len() > MAX_FILES {
@@ -161,15 +161,15 @@ fn options_with<'a>(
     matches: &ArgMatches<'a>,
 ) -> Result<LintOptions<'a>, Usage>
     ensures { (result ≡ Err OutOfMemory)
-        ⊎ (asked_by result ≡ asking_with (rows_of (found_of matches.now))
+        ⊎ (result_request result ≡ request_with (rows_of (found_of matches.now))
         (Some (map (λ name. name.now) given.now))) }
 {
     if given.is_empty() {
         return Err(Usage::BadLine);
     }
     let rules = rules_asked(value_or("default", "rules", matches));
-    let naming = naming_asked(value_or("snake_case", "naming", matches));
-    let minimum = severity_asked(value_or("notice", "minimum-failure-severity", matches));
+    let naming = naming_of_text(value_or("snake_case", "naming", matches));
+    let minimum = severity_of_text(value_or("notice", "minimum-failure-severity", matches));
     let force = is_flag_set(matches, "force");
     match rules {
         Some(rules) => match naming {
@@ -188,7 +188,7 @@ fn options_with<'a>(
 /// The options in the matches of a line.
 fn options_of<'a>(alloc: Global, matches: &ArgMatches<'a>) -> Result<LintOptions<'a>, Usage>
     ensures { (result ≡ Err OutOfMemory)
-        ⊎ (asked_by result ≡ asking_of_rows (rows_of (found_of matches.now))) }
+        ⊎ (result_request result ≡ request_of_rows (rows_of (found_of matches.now))) }
 {
     match matches.get_strs("file") {
         Some(given) => options_with(alloc, given, matches),
@@ -200,7 +200,7 @@ fn options_of<'a>(alloc: Global, matches: &ArgMatches<'a>) -> Result<LintOptions
 /// `OutOfMemory`.
 pub fn options<'a>(alloc: Global, words: &'a [&'a str]) -> Result<LintOptions<'a>, Usage>
     ensures { (result ≡ Err OutOfMemory)
-        ⊎ (asked_by result ≡ options_of (map (λ word. word.now) words.entry.now)) }
+        ⊎ (result_request result ≡ options_of (map (λ word. word.now) words.entry.now)) }
 {
     let Ok(command) = command(alloc) else {
         return Err(Usage::OutOfMemory);

@@ -7,7 +7,7 @@ ghost use Rattle.tfrules_command.specs.Answer.{file_error, linter, refusal_row, 
 ghost use Rattle.tfrules_command.specs.Line.{options_of};
 ghost use Rattle.tfrules_command.specs.Report.{report_row, status};
 ghost use Rattle.tfrules_command.specs.Rows.{IsRow};
-ghost use Rattle.tfrules_command.specs.Asked.{asking_of};
+ghost use Rattle.tfrules_command.specs.Asked.{request_of};
 ghost use Rattle.tf_rules.specs.Kept.{nothing};
 ghost use Rattle.tfrules_command.specs.Inner.Steps.{stop_row, usage_row, usage_text};
 
@@ -85,7 +85,7 @@ fn refuse<O: ByteSink, E: ByteSink>(
 
 /// The status of a run that found these issues.
 fn status_of(options: &LintOptions<'_>, issues: &IssueList<'_>) -> u8
-    ensures { result ≡ status (asking_of options.now) issues.now }
+    ensures { result ≡ status (request_of options.now) issues.now }
 {
     if !options.force && has_severe(options.minimum, issues) {
         return 2;
@@ -102,7 +102,7 @@ fn show<O: ByteSink, E: ByteSink>(
 ) -> u8
     requires out { O.failed out.old ≡ false }
     requires err { E.failed err.old ≡ false }
-    ensures { Shows linter (report_row (asking_of options.now) issues.now)
+    ensures { Shows linter (report_row (request_of options.now) issues.now)
         (end_of O.ByteSink out.old out.new E.ByteSink err.old err.new result) }
 {
     let status = status_of(options, issues);
@@ -125,7 +125,7 @@ fn run_over<M: ModuleFiles, O: ByteSink, E: ByteSink>(
     requires back { M.is_out files.old ≡ false }
     requires out { O.failed out.old ≡ false }
     requires err { E.failed err.old ≡ false }
-    ensures row { ShowsOne linter (IsRow (M.told files.old) (Ok (asking_of options.now))
+    ensures row { ShowsOne linter (IsRow (M.told files.old) (Ok (request_of options.now))
         (M.open_failed files.new) (M.read_failed files.new))
         (end_of O.ByteSink out.old out.new E.ByteSink err.old err.new result) }
     // No file is left open.
@@ -156,7 +156,7 @@ pub fn run<M: ModuleFiles, O: ByteSink, E: ByteSink>(
     requires out { O.failed out.old ≡ false }
     requires err { E.failed err.old ≡ false }
     // However the run goes, it shows a row.
-    ensures row { ShowsOne linter (IsRow (M.told files.old) (Ok (asking_of options.now))
+    ensures row { ShowsOne linter (IsRow (M.told files.old) (Ok (request_of options.now))
         (M.open_failed files.new) (M.read_failed files.new))
         (end_of O.ByteSink out.old out.new E.ByteSink err.old err.new result) }
     // No file is left open.

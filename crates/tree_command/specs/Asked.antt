@@ -1,7 +1,7 @@
 -- What the options of a call ask for, in the words of a line.
 use Rattle.std.specs.Prelude.{Result, Ok, Err, map}
 use Rattle.file_tree.specs.Choices.{chosen}
-use Rattle.tree_command.specs.Line.{Asking, Given, Part}
+use Rattle.tree_command.specs.Line.{Request, Given, Part}
 use Rattle.tree_command.specs.declared.options.Given.{Given as GivenWords}
 use Rattle.tree_command.specs.declared.options.TreeOptions.{TreeOptions}
 use Rattle.tree_command.specs.declared.part.Part.{Part as PartOfFiles}
@@ -16,13 +16,13 @@ given_of g = record {
   names = map (λ name. name.now) g.names.items;
 }
 
-abbrev pub asking_of : TreeOptions → Asking
-asking_of o = record { mode = o.mode; shard = o.shard; given = given_of o.given }
+abbrev pub request_of : TreeOptions → Request
+request_of o = record { mode = o.mode; shard = o.shard; given = given_of o.given }
 
-abbrev pub asked_by : Result TreeOptions Usage → Result Asking Usage
-asked_by (Ok o) = Ok (asking_of o)
-asked_by (Err usage) = Err usage
+abbrev pub result_request : Result TreeOptions Usage → Result Request Usage
+result_request (Ok o) = Ok (request_of o)
+result_request (Err usage) = Err usage
 
 -- a part of the files as the code has it
-abbrev pub part_told : PartOfFiles → Part
-part_told part = record { shard = part.shard; chosen = chosen part.choice }
+abbrev pub part_view : PartOfFiles → Part
+part_view part = record { shard = part.shard; chosen = chosen part.choice }

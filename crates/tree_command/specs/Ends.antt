@@ -15,7 +15,7 @@ use Rattle.tree_format.specs.declared.outcome.Outcome.{Outcome}
 use Rattle.tree_format.specs.declared.tally.Tally.{Tally}
 use Rattle.tree_command.specs.Formatter.{formatter}
 use Rattle.tree_command.specs.FormatterWords.{formatter_words}
-use Rattle.tree_command.specs.Line.{Asking, Part, asking_of_texts, part_of}
+use Rattle.tree_command.specs.Line.{Request, Part, request_of_texts, part_of}
 use Rattle.tree_words.specs.Line.{others_in, texts_in}
 use Rattle.tree_words.specs.Paths.{paths_of_input, paths_of_line}
 use Rattle.tree_words.specs.Shards.{picked_of}
@@ -100,17 +100,17 @@ abbrev pub EndsBy : Bool → Bool → Bool → Mode → Part → List Name → B
 EndsBy shows true quiet mode part names failed input before after end = ReadsAndFormats shows quiet mode part failed input before after end
 EndsBy shows false quiet mode part names failed input before after end = FormatsNamed shows quiet mode part names before after end
 
-abbrev pub EndsAsked : Bool → Asking → Bool → Option (List ℕ) → State → State → End → Type 0
-EndsAsked shows asking failed input before after end = EndsBy shows asking.given.null asking.given.quiet asking.mode (part_of asking) asking.given.names failed input before after end
+abbrev pub EndsByRequest : Bool → Request → Bool → Option (List ℕ) → State → State → End → Type 0
+EndsByRequest shows asking failed input before after end = EndsBy shows asking.given.null asking.given.quiet asking.mode (part_of asking) asking.given.names failed input before after end
 
-abbrev pub EndsFor : Bool → List Text → Result Asking Usage → Bool → Option (List ℕ) → State → State → End → Type 0
-EndsFor shows texts (Ok asking) failed input before after end = EndsAsked shows asking failed input before after end
+abbrev pub EndsFor : Bool → List Text → Result Request Usage → Bool → Option (List ℕ) → State → State → End → Type 0
+EndsFor shows texts (Ok asking) failed input before after end = EndsByRequest shows asking failed input before after end
 EndsFor shows texts (Err usage) failed input before after end = SaysOnly (usage_row texts usage) before after end
 
 -- the end of a run with these texts, and these names beside them
 abbrev pub IsEndOf : Bool → List Text → List Name → Bool → Option (List ℕ) → State → State → End → Type 0
 IsEndOf shows texts others failed input before after end =
-    SaysOnly (out_of_memory formatter) before after end ⊎ EndsFor shows texts (asking_of_texts texts others) failed input before after end
+    SaysOnly (out_of_memory formatter) before after end ⊎ EndsFor shows texts (request_of_texts texts others) failed input before after end
 
 -- THE END of a run with these words, where standard input has these bytes: what the words ask for; or memory ran out before
 -- a file was looked at

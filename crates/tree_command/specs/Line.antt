@@ -27,7 +27,7 @@ pub record Given : Type 0 where
   pub names : List Name
 
 -- what a line asks for: what is to be done, with which part of the files, and what it gives
-pub record Asking : Type 0 where
+pub record Request : Type 0 where
   pub mode : Mode
   pub shard : Option Shard
   pub given : Given
@@ -37,7 +37,7 @@ pub record Part : Type 0 where
   pub shard : Option Shard
   pub chosen : Chosen
 
-abbrev pub part_of : Asking → Part
+abbrev pub part_of : Request → Part
 part_of asking = record { shard = asking.shard; chosen = chosen_by asking.given.any_name asking.given.excluded }
 
 -- ---- the command
@@ -81,11 +81,11 @@ mode_asked rows =
 abbrev pub has_names_twice : Given → Bool
 has_names_twice given = given.null && not (length given.names == 0)
 
-abbrev pub asking_by : Option Mode → Option (Option Shard) → Bool → Given → Result Asking Usage
-asking_by None shard are_jobs given = Err TwoModes
-asking_by (Some mode) None are_jobs given = Err BadPart
-asking_by (Some mode) (Some shard) false given = Err BadJobs
-asking_by (Some mode) (Some shard) true given = if has_names_twice given then Err NamesTwice else Ok (record { mode = mode; shard = shard; given = given })
+abbrev pub request_by : Option Mode → Option (Option Shard) → Bool → Given → Result Request Usage
+request_by None shard are_jobs given = Err TwoModes
+request_by (Some mode) None are_jobs given = Err BadPart
+request_by (Some mode) (Some shard) false given = Err BadJobs
+request_by (Some mode) (Some shard) true given = if has_names_twice given then Err NamesTwice else Ok (record { mode = mode; shard = shard; given = given })
 
 -- the names of a line are those that clap finds, and then the other ones
 abbrev pub given_by : List Name → List Row → Given
@@ -97,17 +97,17 @@ given_by others rows = record {
   names = texts_of (codes "file") rows ++ others;
 }
 
-abbrev pub asking_with : List Row → Given → Result Asking Usage
-asking_with rows given =
-    asking_by (mode_asked rows) (shard_given (first_of (codes "shard") rows)) (are_jobs_good rows) given
+abbrev pub request_with : List Row → Given → Result Request Usage
+request_with rows given =
+    request_by (mode_asked rows) (shard_given (first_of (codes "shard") rows)) (are_jobs_good rows) given
 
-abbrev pub asking_of_rows : List Name → List Row → Result Asking Usage
-asking_of_rows others rows = if is_given (codes "version") rows then Err Version else asking_with rows (given_by others rows)
+abbrev pub request_of_rows : List Name → List Row → Result Request Usage
+request_of_rows others rows = if is_given (codes "version") rows then Err Version else request_with rows (given_by others rows)
 
 -- what these texts ask for, and these names beside them, unless memory runs out
-abbrev pub asking_of_texts : List Text → List Name → Result Asking Usage
-asking_of_texts texts others =
-    unless_fault (usage_by OutOfMemory Help BadLine) (fault_of tffmt_all texts) (asking_of_rows others (matches_of tffmt_all texts))
+abbrev pub request_of_texts : List Text → List Name → Result Request Usage
+request_of_texts texts others =
+    unless_fault (usage_by OutOfMemory Help BadLine) (fault_of tffmt_all texts) (request_of_rows others (matches_of tffmt_all texts))
 
 -- what they ask to be done with files, where clap finds no fault in them
 abbrev pub mode_of_texts : List Text → Option Mode
@@ -116,11 +116,11 @@ mode_of_texts texts = mode_asked (matches_of tffmt_all texts)
 -- ---- all words
 
 -- WHAT THE WORDS ASK FOR, the program's name first, unless memory runs out
-abbrev pub asking_of_words : List (List ℕ) → Result Asking Usage
-asking_of_words words = asking_of_texts (texts_in (codes "tffmt-all") words) (others_in words)
+abbrev pub request_of_words : List (List ℕ) → Result Request Usage
+request_of_words words = request_of_texts (texts_in (codes "tffmt-all") words) (others_in words)
 
 -- whether what is asked for needs names from standard input
-abbrev pub reads_names : Result Asking Usage → Bool
+abbrev pub reads_names : Result Request Usage → Bool
 reads_names (Ok asking) = asking.given.null
 reads_names (Err usage) = false
 

@@ -2,8 +2,8 @@
 
 ghost use Rattle.std.specs.Prelude.{◌≡◌, ◌⊎◌, false, codes, Err, IfOk, Some, map};
 ghost use Rattle.clap.specs.Words.{app_of, found_of, rows_of, rule_of};
-ghost use Rattle.tree_command.specs.Asked.{asked_by, given_of};
-ghost use Rattle.tree_command.specs.Line.{asking_by, asking_of_rows, asking_of_texts, asking_with, ending_by, exclude_rule, given_by, has_names_twice, mode_asked, mode_by, mode_of_texts, tffmt_all};
+ghost use Rattle.tree_command.specs.Asked.{result_request, given_of};
+ghost use Rattle.tree_command.specs.Line.{request_by, request_of_rows, request_of_texts, request_with, ending_by, exclude_rule, given_by, has_names_twice, mode_asked, mode_by, mode_of_texts, tffmt_all};
 ghost use Rattle.tree_command.specs.declared.usage.Usage.TheVariants.{OutOfMemory};
 ghost use Rattle.tree_words.specs.Line.{texts_of};
 
@@ -122,7 +122,7 @@ fn options_by<'a>(
     are_jobs: bool,
     given: Given<'a>,
 ) -> Result<TreeOptions<'a>, Usage>
-    ensures asked { asked_by result ≡ asking_by mode shard are_jobs (given_of given.entry) }
+    ensures asked { result_request result ≡ request_by mode shard are_jobs (given_of given.entry) }
     ensures mode { IfOk result (λ options. mode ≡ Some options.mode) }
 {
     let Some(mode) = mode else {
@@ -142,8 +142,8 @@ fn options_by<'a>(
 
 /// The options that the matches of a line give, which gives this.
 fn options_with<'a>(given: Given<'a>, matches: &ArgMatches<'a>) -> Result<TreeOptions<'a>, Usage>
-    ensures asked { asked_by result
-        ≡ asking_with (rows_of (found_of matches.now)) (given_of given.entry) }
+    ensures asked { result_request result
+        ≡ request_with (rows_of (found_of matches.now)) (given_of given.entry) }
     ensures mode { IfOk result
         (λ options. mode_asked (rows_of (found_of matches.now)) ≡ Some options.mode) }
 {
@@ -190,7 +190,7 @@ fn options_of<'a>(
     matches: &ArgMatches<'a>,
 ) -> Result<TreeOptions<'a>, Usage>
     ensures asked { (result ≡ Err OutOfMemory)
-        ⊎ (asked_by result ≡ asking_of_rows (map (λ name. name.now) others.now)
+        ⊎ (result_request result ≡ request_of_rows (map (λ name. name.now) others.now)
         (rows_of (found_of matches.now))) }
     ensures mode { IfOk result
         (λ options. mode_asked (rows_of (found_of matches.now)) ≡ Some options.mode) }
@@ -212,7 +212,7 @@ pub fn options<'a>(
     others: &[&'a [u8]],
 ) -> Result<TreeOptions<'a>, Usage>
     ensures asked { (result ≡ Err OutOfMemory)
-        ⊎ (asked_by result ≡ asking_of_texts (map (λ word. word.now) words.entry.now)
+        ⊎ (result_request result ≡ request_of_texts (map (λ word. word.now) words.entry.now)
         (map (λ name. name.now) others.now)) }
     // What is to be done with files is what the words ask for.
     ensures mode { IfOk result

@@ -1,7 +1,7 @@
 //! Which files are taken, of those that names stand for.
 
 ghost use Rattle.std.specs.Prelude.{◌≡◌};
-ghost use Rattle.tree_command.specs.Asked.{asking_of, part_told};
+ghost use Rattle.tree_command.specs.Asked.{request_of, part_view};
 ghost use Rattle.tree_command.specs.Line.{part_of};
 
 use crate::options::TreeOptions;
@@ -19,7 +19,7 @@ pub struct Part<'a> {
 
 /// The files that these options take.
 pub fn part_of<'a>(options: &'a TreeOptions<'_>) -> Part<'a>
-    ensures { part_told result ≡ part_of (asking_of options.now) }
+    ensures { part_view result ≡ part_of (request_of options.now) }
 {
     let choice = Choice {
         any_name: options.given.any_name,

@@ -3,10 +3,10 @@
 ghost use Rattle.std.specs.Prelude.{◌≡◌, ◌||◌, ℕ, List, false, IfOk, Some, if◌then◌else◌, map};
 ghost use Rattle.command_line.specs.Rows.{Shows, Took, end_of_streams, writer};
 ghost use Rattle.file_tree.specs.Unchanged.{Unchanged};
-ghost use Rattle.tree_command.specs.Ends.{EndsAsked, FormatsNamed, FormatsOr, IsEnd, IsEndOf, IsPartOf, ReadsAndFormats, ShowsUsage, words_at_end};
-ghost use Rattle.tree_command.specs.Asked.{asking_of, part_told};
+ghost use Rattle.tree_command.specs.Ends.{EndsByRequest, FormatsNamed, FormatsOr, IsEnd, IsEndOf, IsPartOf, ReadsAndFormats, ShowsUsage, words_at_end};
+ghost use Rattle.tree_command.specs.Asked.{request_of, part_view};
 ghost use Rattle.tree_command.specs.Formatter.{formatter};
-ghost use Rattle.tree_command.specs.Line.{asking_of_texts, asking_of_words, mode_of_texts, mode_of_words, reads_names};
+ghost use Rattle.tree_command.specs.Line.{request_of_texts, request_of_words, mode_of_texts, mode_of_words, reads_names};
 ghost use Rattle.tree_command.specs.declared.usage.Usage.TheVariants.{BadLine};
 ghost use Rattle.tree_format.specs.declared.mode.Mode.{Mode};
 ghost use Rattle.tree_format.specs.Runs.{IsSafe, MayBecome};
@@ -58,7 +58,7 @@ fn find_part<T: Tree>(
     ensures unchanged { Unchanged T.Tree tree.old tree.new }
     ensures finds { IfOk result
         (λ found. IsPartOf (T.files tree.old) (T.faults tree.old) (T.faults tree.new)
-        (part_told part.entry) (map (λ operand. operand.now) operands.now) found.items) }
+        (part_view part.entry) (map (λ operand. operand.now) operands.now) found.items) }
 {
     let found = find(alloc, part.choice, operands, tree)?;
     let found = each_file_once(alloc, found)?;
@@ -107,7 +107,7 @@ fn run<T: WritableTree, P: Progress, O: ByteSink, E: ByteSink>(
     ensures kept { (name : List ℕ)
         → MayBecome job.entry.mode ((T.files tree.old).told name) ((T.files tree.new).told name) }
     ensures ends { FormatsOr (P.shows progress.old) job.entry.quiet job.entry.mode
-        (part_told job.entry.part)
+        (part_view job.entry.part)
         (map (λ operand. operand.now) operands.now) (state_of T.Tree tree.old)
         (state_of T.Tree tree.new)
         (end_of_streams O.ByteSink E.ByteSink streams.old streams.new result) }
@@ -142,7 +142,7 @@ fn run_null<T: WritableTree, P: Progress, R: ByteSource, O: ByteSink, E: ByteSin
     ensures kept { (name : List ℕ)
         → MayBecome job.entry.mode ((T.files tree.old).told name) ((T.files tree.new).told name) }
     ensures ends { ReadsAndFormats (P.shows progress.old) job.entry.quiet job.entry.mode
-        (part_told job.entry.part)
+        (part_view job.entry.part)
         (R.failed input.new) (R.left input.old)
         (state_of T.Tree tree.old) (state_of T.Tree tree.new)
         (end_of_streams O.ByteSink E.ByteSink streams.old streams.new result) }
@@ -176,7 +176,7 @@ fn run_named<T: WritableTree, P: Progress, O: ByteSink, E: ByteSink>(
     ensures kept { (name : List ℕ)
         → MayBecome job.entry.mode ((T.files tree.old).told name) ((T.files tree.new).told name) }
     ensures ends { FormatsNamed (P.shows progress.old) job.entry.quiet job.entry.mode
-        (part_told job.entry.part)
+        (part_view job.entry.part)
         (map (λ name. name.now) names.now) (state_of T.Tree tree.old) (state_of T.Tree tree.new)
         (end_of_streams O.ByteSink E.ByteSink streams.old streams.new result) }
 {
@@ -229,7 +229,7 @@ fn say<O: ByteSink, E: ByteSink>(
 
 /// Does what is asked for.
 #[tactic(auto, using(tree_format::proofs::KeptFormatLemmas::safe_same, tree_format::proofs::KeptFormatLemmas::safe_kept))]
-fn run_asked<T: WritableTree, P: Progress, R: ByteSource, O: ByteSink, E: ByteSink>(
+fn run_request<T: WritableTree, P: Progress, R: ByteSource, O: ByteSink, E: ByteSink>(
     alloc: Global,
     options: &TreeOptions<'_>,
     tree: &mut T,
@@ -245,7 +245,7 @@ fn run_asked<T: WritableTree, P: Progress, R: ByteSource, O: ByteSink, E: ByteSi
         → MayBecome options.now.mode ((T.files tree.old).told name) ((T.files tree.new).told name) }
     // Standard input is read only for names.
     ensures unread { options.now.given.null ≡ false → input.new ≡ input.old }
-    ensures ends { EndsAsked (P.shows progress.old) (asking_of options.now)
+    ensures ends { EndsByRequest (P.shows progress.old) (request_of options.now)
         (R.failed input.new) (R.left input.old)
         (state_of T.Tree tree.old) (state_of T.Tree tree.new)
         (end_of_streams O.ByteSink E.ByteSink streams.old streams.new result) }
@@ -284,7 +284,7 @@ fn run_line<'w, T: WritableTree, P: Progress, R: ByteSource, O: ByteSink, E: Byt
         → (name : List ℕ) → MayBecome mode ((T.files tree.old).told name)
         ((T.files tree.new).told name) }
     // Standard input is read only for names.
-    ensures unread { reads_names (asking_of_texts (map (λ word. word.now) line.entry.texts.now)
+    ensures unread { reads_names (request_of_texts (map (λ word. word.now) line.entry.texts.now)
         (map (λ name. name.now) line.entry.others.now)) ≡ false → input.new ≡ input.old }
     // What was looked at and said, and with which status it ends.
     ensures ends { IsEndOf (P.shows progress.old) (map (λ word. word.now) line.entry.texts.now)
@@ -293,7 +293,7 @@ fn run_line<'w, T: WritableTree, P: Progress, R: ByteSource, O: ByteSink, E: Byt
         (end_of_streams O.ByteSink E.ByteSink streams.old streams.new result) }
 {
     match options(alloc, line.texts, line.others) {
-        Ok(options) => run_asked(alloc, &options, tree, progress, input, streams),
+        Ok(options) => run_request(alloc, &options, tree, progress, input, streams),
         Err(usage) => say(alloc, line.texts, usage, streams),
     }
 }
@@ -319,7 +319,7 @@ pub fn program<T: WritableTree, P: Progress, R: ByteSource, O: ByteSink, E: Byte
         → (name : List ℕ) → MayBecome mode ((T.files tree.old).told name)
         ((T.files tree.new).told name) }
     // Standard input is read only where the words ask for names from there.
-    ensures unread { reads_names (asking_of_words (map (λ word. word.now) words.now)) ≡ false
+    ensures unread { reads_names (request_of_words (map (λ word. word.now) words.now)) ≡ false
         → input.new ≡ input.old }
     // What was looked at and said, and with which status it ends.
     ensures ends { IsEnd (P.shows progress.old) (map (λ word. word.now) words.now)

@@ -4,7 +4,7 @@ use Rattle.clap.specs.Words.{HasKind, Text, app_of, fault_of, found_of, is_simpl
 use Rattle.command_line.specs.Arguments.{unless_fault, usage_by}
 use Rattle.command_line.proofs.AskedLemmas.{Same, asked_more, refused_line}
 use Rattle.command_line.proofs.OneFaultLemmas.{one_fault}
-use Rattle.tfrules_command.specs.Line.{Asking, asking_of_rows, options_of, tfrules}
+use Rattle.tfrules_command.specs.Line.{Request, request_of_rows, options_of, tfrules}
 use Rattle.tfrules_command.specs.declared.options.LintOptions.{LintOptions}
 use Rattle.tfrules_command.specs.declared.usage.Usage.{Usage}
 use Rattle.tfrules_command.specs.declared.usage.Usage.TheVariants.{BadLine, Help, OutOfMemory}
@@ -17,12 +17,12 @@ returns-in-Ok-try_get_matches_from c =
     let none : fault_of tfrules words ≡ [] = ap (λ a. fault_of a words) (sym app_is) ∙ c.in-Ok-try_get_matches_from.ensures.kinds (ap is_simple_and_free app_is) in
     let rows : rows_of (found_of c.in-Ok-try_get_matches_from.matches) ≡ matches_of tfrules words =
     (c.in-Ok-try_get_matches_from.ensures.matches (ap is_simple app_is)).0 ∙ ap (λ a. matches_of a words) app_is in
-    asked_more c.options_of.ensures (ap asking_of_rows rows ∙ ap (λ f. unless_fault (usage_by OutOfMemory Help BadLine) f (asking_of_rows (matches_of tfrules words))) (sym none))
+    asked_more c.options_of.ensures (ap request_of_rows rows ∙ ap (λ f. unless_fault (usage_by OutOfMemory Help BadLine) f (request_of_rows (matches_of tfrules words))) (sym none))
 
 pub returns-in-Err : goal.returns-in-Err
 returns-in-Err c =
     let app_is : app_of c.in-Ok.command ≡ tfrules = c.in-Ok.ensures in
     let words : List Text = map (λ s. s.now) c.args.words.now in
     let kinds = subst (λ a. HasKind (fault_of a words) c.in-Err.error) app_is (c.in-Err.ensures.kinds (ap is_simple_and_free app_is)) in
-    subst (λ (u : Usage). Same LintOptions Usage (Err u) (Err OutOfMemory) ⊎ Same Asking Usage (Err u) (options_of words)) (sym c.usage_for.ensures)
-    (refused_line OutOfMemory Help BadLine (fault_of tfrules words) (asking_of_rows (matches_of tfrules words)) (kind_of c.in-Err.error) (one_fault tfrules words refl refl) kinds)
+    subst (λ (u : Usage). Same LintOptions Usage (Err u) (Err OutOfMemory) ⊎ Same Request Usage (Err u) (options_of words)) (sym c.usage_for.ensures)
+    (refused_line OutOfMemory Help BadLine (fault_of tfrules words) (request_of_rows (matches_of tfrules words)) (kind_of c.in-Err.error) (one_fault tfrules words refl refl) kinds)

@@ -12,8 +12,8 @@ pub returns-in-Some-minimum : goal.returns-in-Some-minimum
 returns-in-Some-minimum c =
     let files = map (λ (name : Bor (List ℕ)). name.now) c.args.given.now in
     let whole = with_parts (rows_of (found_of c.args.matches.now)) c.args.given.now c.is_empty.result c.is_flag_set-force.result c.value_or.result.now c.value_or-2.result.now c.value_or-3.result.now
-    c.rules_asked-rules.result c.naming_asked-naming.result c.severity_asked-minimum.result c.is_empty.ensures c.if-is_empty.false c.is_flag_set-force.ensures c.value_or.ensures c.value_or-2.ensures c.value_or-3.ensures
-    c.rules_asked-rules.ensures c.naming_asked-naming.ensures c.severity_asked-minimum.ensures in
+    c.rules_asked-rules.result c.naming_of_text-naming.result c.severity_of_text-minimum.result c.is_empty.ensures c.if-is_empty.false c.is_flag_set-force.ensures c.value_or.ensures c.value_or-2.ensures c.value_or-3.ensures
+    c.rules_asked-rules.ensures c.naming_of_text-naming.ensures c.severity_of_text-minimum.ensures in
     asked_more c.options_for.ensures
     ((λ i. asking_for c.is_flag_set-force.result files (option_map rules_of (sym c.in-Some.is i)) (sym c.in-Some-naming.is i) (sym c.in-Some-minimum.is i)) ∙ whole)
 
@@ -21,22 +21,22 @@ pub returns-in-None-minimum : goal.returns-in-None-minimum
 returns-in-None-minimum c =
     let files = map (λ (name : Bor (List ℕ)). name.now) c.args.given.now in
     let whole = with_parts (rows_of (found_of c.args.matches.now)) c.args.given.now c.is_empty.result c.is_flag_set-force.result c.value_or.result.now c.value_or-2.result.now c.value_or-3.result.now
-    c.rules_asked-rules.result c.naming_asked-naming.result c.severity_asked-minimum.result c.is_empty.ensures c.if-is_empty.false c.is_flag_set-force.ensures c.value_or.ensures c.value_or-2.ensures c.value_or-3.ensures
-    c.rules_asked-rules.ensures c.naming_asked-naming.ensures c.severity_asked-minimum.ensures in
+    c.rules_asked-rules.result c.naming_of_text-naming.result c.severity_of_text-minimum.result c.is_empty.ensures c.if-is_empty.false c.is_flag_set-force.ensures c.value_or.ensures c.value_or-2.ensures c.value_or-3.ensures
+    c.rules_asked-rules.ensures c.naming_of_text-naming.ensures c.severity_of_text-minimum.ensures in
     inr ((λ i. asking_for c.is_flag_set-force.result files (option_map rules_of (sym c.in-Some.is i)) (sym c.in-Some-naming.is i) (sym c.in-None-minimum.is i)) ∙ whole)
 
 pub returns-in-None-naming : goal.returns-in-None-naming
 returns-in-None-naming c =
     let files = map (λ (name : Bor (List ℕ)). name.now) c.args.given.now in
     let whole = with_parts (rows_of (found_of c.args.matches.now)) c.args.given.now c.is_empty.result c.is_flag_set-force.result c.value_or.result.now c.value_or-2.result.now c.value_or-3.result.now
-    c.rules_asked-rules.result c.naming_asked-naming.result c.severity_asked-minimum.result c.is_empty.ensures c.if-is_empty.false c.is_flag_set-force.ensures c.value_or.ensures c.value_or-2.ensures c.value_or-3.ensures
-    c.rules_asked-rules.ensures c.naming_asked-naming.ensures c.severity_asked-minimum.ensures in
-    inr ((λ i. asking_for c.is_flag_set-force.result files (option_map rules_of (sym c.in-Some.is i)) (sym c.in-None-naming.is i) c.severity_asked-minimum.result) ∙ whole)
+    c.rules_asked-rules.result c.naming_of_text-naming.result c.severity_of_text-minimum.result c.is_empty.ensures c.if-is_empty.false c.is_flag_set-force.ensures c.value_or.ensures c.value_or-2.ensures c.value_or-3.ensures
+    c.rules_asked-rules.ensures c.naming_of_text-naming.ensures c.severity_of_text-minimum.ensures in
+    inr ((λ i. asking_for c.is_flag_set-force.result files (option_map rules_of (sym c.in-Some.is i)) (sym c.in-None-naming.is i) c.severity_of_text-minimum.result) ∙ whole)
 
 pub returns-in-None : goal.returns-in-None
 returns-in-None c =
     let files = map (λ (name : Bor (List ℕ)). name.now) c.args.given.now in
     let whole = with_parts (rows_of (found_of c.args.matches.now)) c.args.given.now c.is_empty.result c.is_flag_set-force.result c.value_or.result.now c.value_or-2.result.now c.value_or-3.result.now
-    c.rules_asked-rules.result c.naming_asked-naming.result c.severity_asked-minimum.result c.is_empty.ensures c.if-is_empty.false c.is_flag_set-force.ensures c.value_or.ensures c.value_or-2.ensures c.value_or-3.ensures
-    c.rules_asked-rules.ensures c.naming_asked-naming.ensures c.severity_asked-minimum.ensures in
-    inr ((λ i. asking_for c.is_flag_set-force.result files (option_map rules_of (sym c.in-None.is i)) c.naming_asked-naming.result c.severity_asked-minimum.result) ∙ whole)
+    c.rules_asked-rules.result c.naming_of_text-naming.result c.severity_of_text-minimum.result c.is_empty.ensures c.if-is_empty.false c.is_flag_set-force.ensures c.value_or.ensures c.value_or-2.ensures c.value_or-3.ensures
+    c.rules_asked-rules.ensures c.naming_of_text-naming.ensures c.severity_of_text-minimum.ensures in
+    inr ((λ i. asking_for c.is_flag_set-force.result files (option_map rules_of (sym c.in-None.is i)) c.naming_of_text-naming.result c.severity_of_text-minimum.result) ∙ whole)

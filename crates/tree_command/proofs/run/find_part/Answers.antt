@@ -1,5 +1,5 @@
 use Rattle.std.proofs.Common.{◌≡◌, map}
-use Rattle.tree_command.specs.Asked.{part_told}
+use Rattle.tree_command.specs.Asked.{part_view}
 use Rattle.tree_command.specs.Ends.{IsPartOf}
 use Rattle.tree_words.specs.Shards.{picked_of}
 use Rattle.tree_command.proofs.PathLemmas.{if_ok_more}
@@ -8,5 +8,5 @@ use Rattle.tree_command.proofs.run.find_part.Goals as goal
 pub returns-clause-finds : goal.returns-clause-finds
 returns-clause-finds g c =
     if_ok_more c.pick.result (λ p. p.items ≡ picked_of c.args.part.shard c.in_ok-found-2.found.items)
-    (λ p. IsPartOf (g.T.Tree.files c.args.tree.now) (g.T.Tree.faults c.args.tree.now) (g.T.Tree.faults c.find.new.tree) (part_told c.args.part) (map (λ operand. operand.now) c.args.operands.now) p.items)
+    (λ p. IsPartOf (g.T.Tree.files c.args.tree.now) (g.T.Tree.faults c.args.tree.now) (g.T.Tree.faults c.find.new.tree) (part_view c.args.part) (map (λ operand. operand.now) c.args.operands.now) p.items)
     c.pick.ensures (λ p e. (c.in_ok-found.found.items, c.in_ok-found.ensures.finds, c.in_ok-found.ensures.real, (c.in_ok-found-2.found.items, c.in_ok-found-2.ensures c.in_ok-found.ensures.finds.rises, e)))

@@ -2,7 +2,7 @@ use Rattle.std.proofs.Common.{◌∙◌, List, ℕ, ap, codes, map, subst}
 use Rattle.command_line.specs.Rows.{end_of}
 use Rattle.std.specs.Borrow.{Bor}
 use Rattle.tree_command.specs.Ends.{IsEndOf}
-use Rattle.tree_command.specs.Line.{asking_of_texts, mode_of_texts, reads_names}
+use Rattle.tree_command.specs.Line.{request_of_texts, mode_of_texts, reads_names}
 use Rattle.tree_words.specs.Line.{others_in, texts_in}
 use Rattle.tree_format.specs.States.{state_of}
 use Rattle.tree_command.proofs.run.program.Goals as goal
@@ -29,5 +29,5 @@ returns-clause-unread g c asked =
     let words : List (List ℕ) = map (λ (word : Bor (List ℕ)). word.now) c.args.words.now in
     let texts : List (List ℕ) = map (λ (word : Bor (List ℕ)). word.now) c.as_slice.result.now in
     c.run_line.ensures.unread
-    (ap (λ names. reads_names (asking_of_texts texts names)) (ap (map (λ (word : Bor (List ℕ)). word.now)) c.as_slice-2.ensures.value ∙ c.in-Ok.ensures.others)
-    ∙ ap (λ l. reads_names (asking_of_texts l (others_in words))) (ap (map (λ (word : Bor (List ℕ)). word.now)) c.as_slice.ensures.value ∙ c.in-Ok.ensures.texts) ∙ asked)
+    (ap (λ names. reads_names (request_of_texts texts names)) (ap (map (λ (word : Bor (List ℕ)). word.now)) c.as_slice-2.ensures.value ∙ c.in-Ok.ensures.others)
+    ∙ ap (λ l. reads_names (request_of_texts l (others_in words))) (ap (map (λ (word : Bor (List ℕ)). word.now)) c.as_slice.ensures.value ∙ c.in-Ok.ensures.texts) ∙ asked)
