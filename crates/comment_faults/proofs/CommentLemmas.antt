@@ -14,7 +14,7 @@ use Rattle.hcl_tokens.specs.declared.token.Kind.TheVariants.{LineComment}
 use Rattle.tf_rules.specs.Issues.{File, place_in}
 use Rattle.tf_rules.specs.Walked.{Walked}
 use Rattle.tf_rules.proofs.StartLemmas.{starts_rise}
-use Rattle.comment_faults.specs.CommentFaults.{CommentFault, fault_of, fault_told, is_some_text}
+use Rattle.comment_faults.specs.CommentFaults.{CommentFault, fault_of, fault_view, is_some_text}
 use Rattle.comment_faults.specs.CommentTexts.{fault_text}
 use Rattle.comment_faults.specs.Inner.Looking.{Adds, IsBefore, number_of}
 use Rattle.comment_faults.specs.declared.fault.CommentFault as code
@@ -46,7 +46,7 @@ module _ (file : File) (n : ℕ) where
   module _ (old : List code.CommentFault) where
     pub nothing_of_token : ((t : Lexeme) → slice_get file.source.tokens n ≡ Some t → is LineComment t.kind ≡ false) → Adds file n old old
     nothing_of_token other t e =
-        sym (append-nil (map fault_told old)) ∙ ap (λ l. map fault_told old ++ l) (sym (by_kind t false (is_some_text (fault_text t.text)) (other t e) refl))
+        sym (append-nil (map fault_view old)) ∙ ap (λ l. map fault_view old ++ l) (sym (by_kind t false (is_some_text (fault_text t.text)) (other t e) refl))
 
     module _ (u : Lexeme) (here : slice_get file.source.tokens n ≡ Some u) (text : List ℕ) (said : text ≡ fault_text u.text) where
       text_of : (t : Lexeme) → slice_get file.source.tokens n ≡ Some t → text ≡ fault_text t.text
@@ -54,20 +54,20 @@ module _ (file : File) (n : ℕ) where
 
       pub nothing_said : (length text == 0) ≡ true → Adds file n old old
       nothing_said none t e =
-          sym (append-nil (map fault_told old))
-          ∙ ap (λ l. map fault_told old ++ l) (sym (by_kind t (is LineComment t.kind) false refl (sym (ap is_some_text (text_of t e)) ∙ is_none text none) ∙ ap (λ (b : Bool). if b then told file.number (place_in file n).at (fault_text t.text) ∷ [] else []) (and_false (is LineComment t.kind))))
+          sym (append-nil (map fault_view old))
+          ∙ ap (λ l. map fault_view old ++ l) (sym (by_kind t (is LineComment t.kind) false refl (sym (ap is_some_text (text_of t e)) ∙ is_none text none) ∙ ap (λ (b : Bool). if b then told file.number (place_in file n).at (fault_text t.text) ∷ [] else []) (and_false (is LineComment t.kind))))
 
       pub said_here : (new : List code.CommentFault) (f : code.CommentFault) → ((t : Lexeme) → slice_get file.source.tokens n ≡ Some t → is LineComment t.kind ≡ true) → (length text == 0) ≡ false
-          → map fault_told new ≡ map fault_told old ++ fault_told f ∷ [] → fault_told f ≡ told file.number (place_in file n).at text → Adds file n old new
+          → map fault_view new ≡ map fault_view old ++ fault_view f ∷ [] → fault_view f ≡ told file.number (place_in file n).at text → Adds file n old new
       said_here new f comment some pushed is t e =
-          pushed ∙ ap (λ l. map fault_told old ++ l ∷ []) (is ∙ ap (told file.number (place_in file n).at) (text_of t e))
-          ∙ ap (λ l. map fault_told old ++ l) (sym (by_kind t true true (comment t e) (sym (ap is_some_text (text_of t e)) ∙ is_there text some)))
+          pushed ∙ ap (λ l. map fault_view old ++ l ∷ []) (is ∙ ap (told file.number (place_in file n).at) (text_of t e))
+          ∙ ap (λ l. map fault_view old ++ l) (sym (by_kind t true true (comment t e) (sym (ap is_some_text (text_of t e)) ∙ is_there text some)))
 
 -- ---- all of them
 
 -- those so far and those to come are all, and the walk is before the tokens to come
 pub record IsLooking (file : File) (first faults : List code.CommentFault) (n : ℕ) (walk : Walked) : Type 0 where
-  pub so_far : map fault_told faults ++ flat_map (fault_of file) (numbered_from n (drop n file.source.tokens)) ≡ map fault_told first ++ flat_map (fault_of file) (numbered file.source.tokens)
+  pub so_far : map fault_view faults ++ flat_map (fault_of file) (numbered_from n (drop n file.source.tokens)) ≡ map fault_view first ++ flat_map (fault_of file) (numbered file.source.tokens)
   pub text : walk.text ≡ file.source.text
   pub ahead : (j : ℕ) → n ≤ j → j < length file.source.tokens → walk.reached ≤ start_of file.source.tokens j
 
@@ -86,8 +86,8 @@ module _ (file : File) (first : List code.CommentFault) where
     pub one_looked_at : (more : List code.CommentFault) (walk' : Walked) (t : Lexeme) → slice_get file.source.tokens n ≡ Some t → Scans file.source.text file.source.tokens → Adds file n faults more → IsBefore file.source n walk' → IsLooking file first more (n + 1) walk'
     one_looked_at more walk' t e scanned adds before = record {
       so_far =
-          ap (λ l. l ++ rest) (adds t e) ∙ append_assoc (map fault_told faults) (fault_of file (number_of n t)) rest
-          ∙ ap (λ l. map fault_told faults ++ l) (sym (ap (flat_map (fault_of file)) (sym (numbered_at file.source.tokens n) ∙ numbered_here file.source.tokens n t e)))
+          ap (λ l. l ++ rest) (adds t e) ∙ append_assoc (map fault_view faults) (fault_of file (number_of n t)) rest
+          ∙ ap (λ l. map fault_view faults ++ l) (sym (ap (flat_map (fault_of file)) (sym (numbered_at file.source.tokens n) ∙ numbered_here file.source.tokens n t e)))
           ∙ h.so_far;
       text = before.text;
       ahead = λ j from lt. omega (arith, before.reached, starts_rise file.source.text file.source.tokens scanned n j (omega (arith, from)) lt);
@@ -96,8 +96,8 @@ module _ (file : File) (first : List code.CommentFault) where
         rest : List CommentFault
         rest = flat_map (fault_of file) (numbered_from (n + 1) (drop (n + 1) file.source.tokens))
 
-    pub all_looked_at : length file.source.tokens ≤ n → map fault_told faults ≡ map fault_told first ++ flat_map (fault_of file) (numbered file.source.tokens)
+    pub all_looked_at : length file.source.tokens ≤ n → map fault_view faults ≡ map fault_view first ++ flat_map (fault_of file) (numbered file.source.tokens)
     all_looked_at past =
-        sym (append-nil (map fault_told faults))
-        ∙ ap (λ l. map fault_told faults ++ flat_map (fault_of file) l) (sym (sym (numbered_at file.source.tokens n) ∙ numbered_past file.source.tokens n past))
+        sym (append-nil (map fault_view faults))
+        ∙ ap (λ l. map fault_view faults ++ flat_map (fault_of file) l) (sym (sym (numbered_at file.source.tokens n) ∙ numbered_past file.source.tokens n past))
         ∙ h.so_far

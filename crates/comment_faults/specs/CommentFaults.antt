@@ -17,8 +17,8 @@ pub record CommentFault : Type 0 where
   pub text : List ℕ
 
 -- such a comment in the code's terms
-abbrev pub fault_told : code.CommentFault → CommentFault
-fault_told f = record { file = f.file; at = f.at; text = string_bytes f.text }
+abbrev pub fault_view : code.CommentFault → CommentFault
+fault_view f = record { file = f.file; at = f.at; text = string_bytes f.text }
 
 abbrev pub is_some_text : List ℕ → Bool
 is_some_text [] = false

@@ -4,7 +4,7 @@ ghost use Rattle.std.specs.Prelude.{◌≡◌, ◌<◌, ◌++◌, OnOk, Some, le
 ghost use Rattle.hcl_tokens.specs.Kinds.{is};
 ghost use Rattle.hcl_tokens.specs.Lexemes.{Lexeme};
 ghost use Rattle.hcl_tokens.specs.declared.token.Kind.TheVariants.{LineComment};
-ghost use Rattle.comment_faults.specs.CommentFaults.{fault_told, faults_in};
+ghost use Rattle.comment_faults.specs.CommentFaults.{fault_view, faults_in};
 ghost use Rattle.comment_faults.specs.Inner.Looking.{Adds, IsBefore};
 
 use crate::fault::CommentFault;
@@ -77,7 +77,7 @@ pub fn add_comment_faults(
     tokens: &Tokens<'_>,
     faults: &mut Vec<CommentFault>,
 ) -> Result<(), AllocError>
-    ensures { OnOk result (map fault_told faults.new.items ≡ map fault_told faults.old.items
+    ensures { OnOk result (map fault_view faults.new.items ≡ map fault_view faults.old.items
         ++ faults_in (record { number = file; source = tokens.now })) }
 {
     let mut walker = Walker::new(tokens.source().text());

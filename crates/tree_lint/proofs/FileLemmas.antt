@@ -5,7 +5,7 @@ use Rattle.std.specs.declared.vec.Vec.{Vec}
 use Rattle.std.specs.Io.KnownBytes.{Consumes}
 use Rattle.std.proofs.lemmas.Grind.{flat_map-append}
 use Rattle.std.proofs.lemmas.List.{get_or_default, map-append, take-append-drop}
-use Rattle.comment_faults.specs.CommentFaults.{fault_told, faults_in}
+use Rattle.comment_faults.specs.CommentFaults.{fault_view, faults_in}
 use Rattle.command_line.proofs.ListCutLemmas.{from_here}
 use Rattle.file_tree.specs.Files.{Faults, Files, Name, Tells, fault_of_reader, with_fault}
 use Rattle.file_tree.specs.declared.fault.TreeFault.{TreeFault}
@@ -31,7 +31,7 @@ use Rattle.tfrules_command.specs.declared.gather.ScannedFile.{ScannedFile}
 use Rattle.tfrules_command.specs.declared.stop.Stop.{Stop as FileStop}
 use Rattle.tfrules_command.specs.declared.stop.Stop.TheVariants as file_stop
 use Rattle.tree_lint.specs.Inner.Gathering.{AddedFile, AddsComments, AddsFile, AddsRead, IsEmpty, KeepsFile, KeepsScanned, ReachedAll, ReadsFile, StopsLoad, StopsWith, texts_kept}
-use Rattle.tree_lint.specs.Verdicts.{HaveFound, Linted, StopsAt, StopsBy, comments_looked_for, shows_lines, texts_shown, told_in}
+use Rattle.tree_lint.specs.Verdicts.{HaveFound, Linted, StopsAt, StopsBy, comments_looked_for, shows_lines, texts_shown, bytes_of_name}
 use Rattle.tree_lint.specs.declared.gather.Gathered.{Gathered}
 use Rattle.tree_lint.specs.declared.policy.Policy.{Policy}
 use Rattle.tree_lint.specs.declared.stop.Stop.{Stop}
@@ -97,7 +97,7 @@ read_kept text size number old mid new more k rest texts = (
   ap (λ (g : Gathered). g.facts) rest ∙ k.4,
   record {
     checks = ap (λ (g : Gathered). g.checks) rest ∙ k.5.checks;
-    comments = ap (λ (g : Gathered). map fault_told g.comments.items) rest ∙ k.5.comments;
+    comments = ap (λ (g : Gathered). map fault_view g.comments.items) rest ∙ k.5.comments;
     terminals = ap (λ (g : Gathered). g.terminals) rest ∙ k.5.terminals;
     texts = texts ∙ ap (λ (v : Vec (List ℕ) Global). v.items ++ texts_kept (shows_lines mid.terminals) text) k.5.texts ∙ ap (λ (v : Terminals). old.texts.items ++ texts_kept (shows_lines v) text) k.5.terminals;
   },
@@ -149,14 +149,14 @@ looked_more true fs gs = flat_map-append faults_in fs gs
 looked_more false fs gs = refl
 
 pub none_added : (file : File) (all : Gathered) → all.checks ≡ false → AddsComments file all all
-none_added file all e = record { checks = refl; terminals = refl; texts = refl; comments = sym (append-nil (map fault_told all.comments.items)) ∙ ap (λ v. map fault_told all.comments.items ++ comments_looked_for v (file ∷ [])) (sym e) }
+none_added file all e = record { checks = refl; terminals = refl; texts = refl; comments = sym (append-nil (map fault_view all.comments.items)) ∙ ap (λ v. map fault_view all.comments.items ++ comments_looked_for v (file ∷ [])) (sym e) }
 
-pub comments_added : (file : File) (old new : Gathered) → old.checks ≡ true → new.checks ≡ old.checks → new.terminals ≡ old.terminals → new.texts ≡ old.texts → map fault_told new.comments.items ≡ map fault_told old.comments.items ++ faults_in file → AddsComments file old new
+pub comments_added : (file : File) (old new : Gathered) → old.checks ≡ true → new.checks ≡ old.checks → new.terminals ≡ old.terminals → new.texts ≡ old.texts → map fault_view new.comments.items ≡ map fault_view old.comments.items ++ faults_in file → AddsComments file old new
 comments_added file old new e same ends texts added = record {
   checks = same;
   terminals = ends;
   texts = texts;
-  comments = added ∙ ap (λ l. map fault_told old.comments.items ++ l) (sym (append-nil (faults_in file))) ∙ ap (λ v. map fault_told old.comments.items ++ comments_looked_for v (file ∷ [])) (sym e);
+  comments = added ∙ ap (λ l. map fault_view old.comments.items ++ l) (sym (append-nil (faults_in file))) ∙ ap (λ v. map fault_view old.comments.items ++ comments_looked_for v (file ∷ [])) (sym e);
 }
 
 looked_none : (checks : Bool) → [] ≡ comments_looked_for checks []
@@ -176,7 +176,7 @@ unfolding reached_none
 reached_all_none told all e = record {
   reached = reached_none told all.facts e.facts;
   checks_are = refl;
-  comments = ap (map fault_told) e.comments ∙ looked_none all.checks;
+  comments = ap (map fault_view) e.comments ∙ looked_none all.checks;
   terminals_are = refl;
   texts = e.texts ∙ shown_none (shows_lines all.terminals);
 }
@@ -201,7 +201,7 @@ reached_all_more told names i size more name here checks terminals old new lt na
     }
 
 pub have_found : (told : Name → Option (List ℕ)) (policy : Policy) (names : List Name) (size : ℕ) (checks : Bool) (ends terminals : Terminals) (all : Gathered) (issues : List Issue) (linted : Linted) → checks ≡ policy.checks → ends ≡ terminals
-    → (p : ReachedAll told names size checks ends all) → linted ≡ record { issues = issues; comments = map fault_told all.comments.items; texts = all.texts.items } → AreIssues (asked_of policy.settings) (numbered_files 0 p.reached.sources) issues
+    → (p : ReachedAll told names size checks ends all) → linted ≡ record { issues = issues; comments = map fault_view all.comments.items; texts = all.texts.items } → AreIssues (asked_of policy.settings) (numbered_files 0 p.reached.sources) issues
     → HaveFound told terminals policy names linted
 have_found told policy names size checks ends terminals all issues linted same seen p e found = subst (HaveFound told terminals policy names) (sym e) (record {
   files = p.reached.files;
@@ -216,8 +216,8 @@ have_found told policy names size checks ends terminals all issues linted same s
 
 -- ---- in the code's terms
 
-pub told_here : (later files : Files) (name : Name) → later ≡ files → told_in later name ≡ told_in files name
-told_here later files name same = ap (λ f. told_in f name) same
+pub told_here : (later files : Files) (name : Name) → later ≡ files → bytes_of_name later name ≡ bytes_of_name files name
+told_here later files name same = ap (λ f. bytes_of_name f name) same
 
 pub name_here : (names : List (String Global)) (i : ℕ) (item : String Global) (name : Name) → i < length names → item ≡ get_or names i item → name ≡ string_bytes item → name ≡ get_or (map string_bytes names) i []
 name_here [] i item name lt is e = absurd (omega (arith, lt))

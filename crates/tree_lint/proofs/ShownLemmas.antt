@@ -1,7 +1,7 @@
 -- What is shown of one module.
 use Rattle.std.proofs.Common.{◌≡◌, ◌∙◌, ◌<◌, ◌+◌, ◌++◌, ◌∷◌, [], ℕ, Bool, true, false, Global, List, Option, ap, append-nil, arith, drop, eqb-true, flat_map, get_or, inl, inr, length, map, refl, subst, sym}
 use Rattle.std.specs.Prelude.{◌==◌, ◌&&◌, None, Ok, Err, String, if◌then◌else◌, not, string_bytes}
-use Rattle.comment_faults.specs.CommentFaults.{fault_told}
+use Rattle.comment_faults.specs.CommentFaults.{fault_view}
 use Rattle.comment_faults.specs.declared.fault.CommentFault as code
 use Rattle.command_line.specs.Rows.{TookBy, Writer}
 use Rattle.command_line.proofs.WriterLemmas.{appends_nothing}
@@ -21,9 +21,9 @@ use Rattle.tree_lint.specs.Faults.{fault_lines, refusal_by}
 use Rattle.tree_lint.specs.Inner.Showing.{HasOrNoMemory, Shows, is_nothing, refused}
 use Rattle.tree_lint.specs.Kept.{KeepsAll}
 use Rattle.tree_lint.specs.Parted.{parted}
-use Rattle.tree_lint.specs.Refusals.{Refusal, refusal_line, refusal_of, told_fault}
+use Rattle.tree_lint.specs.Refusals.{Refusal, refusal_line, refusal_of, reported_fault}
 use Rattle.tree_lint.specs.Runs.{comment_line, comment_remark, has_output, issue_remark, linted_output, remarks_by, report_of, verdict_message, verdict_output, verdict_status}
-use Rattle.tree_lint.specs.Verdicts.{CanBeRead, HaveFound, IsVerdict, Linted, StopsAt, Verdict, names_in, no_memory, stop_refusal, told_in, too_many}
+use Rattle.tree_lint.specs.Verdicts.{CanBeRead, HaveFound, IsVerdict, Linted, StopsAt, Verdict, names_in, no_memory, stop_refusal, bytes_of_name, too_many}
 use Rattle.tree_lint.specs.declared.counts.Ended.{Ended}
 use Rattle.tree_lint.specs.declared.kept.Kept.{Kept}
 use Rattle.tree_lint.specs.declared.policy.Policy.{Policy}
@@ -85,21 +85,21 @@ flat_of : {A B : Type 0} (f : A → B) (g : B → List ℕ) (xs : List A) → fl
 flat_of f g [] = refl
 flat_of f g (x ∷ xs) = ap (λ t. g (f x) ++ t) (flat_of f g xs)
 
-pub comments_told : (shows : Bool) (m : Module) (linted : Linted) (names : List Name) (faults : List code.CommentFault) → names ≡ names_in m → linted.comments ≡ map fault_told faults
-    → flat_map (λ f. comment_line shows names linted.texts (fault_told f)) faults ≡ verdict_message shows m (Ok linted)
-comments_told shows m linted names faults same e = flat_of fault_told (comment_line shows names linted.texts) faults ∙ (λ i. flat_map (comment_line shows (same i) linted.texts) (sym e i))
+pub comments_told : (shows : Bool) (m : Module) (linted : Linted) (names : List Name) (faults : List code.CommentFault) → names ≡ names_in m → linted.comments ≡ map fault_view faults
+    → flat_map (λ f. comment_line shows names linted.texts (fault_view f)) faults ≡ verdict_message shows m (Ok linted)
+comments_told shows m linted names faults same e = flat_of fault_view (comment_line shows names linted.texts) faults ∙ (λ i. flat_map (comment_line shows (same i) linted.texts) (sym e i))
 
 -- one, and those after it
 pub comment_here : (said : code.CommentFault → List ℕ) (faults : List code.CommentFault) (i : ℕ) (f : code.CommentFault) → i < length faults → f ≡ get_or faults i f → flat_map said (drop i faults) ≡ said f ++ flat_map said (drop (i + 1) faults)
 comment_here said faults i f lt is = ap (flat_map said) (from_here faults i f lt is)
 
 pub remarks_told : (names : List Name) (issues : List Issue) (faults : List code.CommentFault) (texts : List (List ℕ))
-    → map (issue_remark names) issues ++ map (λ f. comment_remark names (fault_told f)) faults ≡ remarks_by names (record { issues = issues; comments = map fault_told faults; texts = texts })
+    → map (issue_remark names) issues ++ map (λ f. comment_remark names (fault_view f)) faults ≡ remarks_by names (record { issues = issues; comments = map fault_view faults; texts = texts })
 remarks_told names issues faults texts = ap (λ l. map (issue_remark names) issues ++ l) (by faults)
   where
-    by : (fs : List code.CommentFault) → map (λ f. comment_remark names (fault_told f)) fs ≡ map (comment_remark names) (map fault_told fs)
+    by : (fs : List code.CommentFault) → map (λ f. comment_remark names (fault_view f)) fs ≡ map (comment_remark names) (map fault_view fs)
     by [] = refl
-    by (f ∷ fs) = ap (λ l. comment_remark names (fault_told f) ∷ l) (by fs)
+    by (f ∷ fs) = ap (λ l. comment_remark names (fault_view f) ∷ l) (by fs)
 
 -- ---- nothing is found
 
@@ -171,19 +171,19 @@ module _ (files : Files) (terminals : Terminals) (policy : Policy) (m : Module) 
   pub for_memory : CanBeRead m → is ≡ was → (v : Verdict) → v ≡ Err (no_memory m ∷ []) → IsVerdict files terminals policy m was is v
   for_memory can w v h = subst (IsVerdict files terminals policy m was is) (sym h) (inr (inr (inr (can, w, refl))))
 
-  pub for_file : CanBeRead m → (names : List Name) → names ≡ names_in m → (name : Name) (why : Stop) (shows : Bool) → shows ≡ terminals.err → StopsAt shows (told_in files) names was is name why → (v : Verdict) → v ≡ Err (stop_refusal name why ∷ []) → IsVerdict files terminals policy m was is v
-  for_file can names same name why shows seen at v h = subst (IsVerdict files terminals policy m was is) (sym h) (inr (inr (inl (can, (name, why, subst (λ s. StopsAt s (told_in files) (names_in m) was is name why) seen (subst (λ l. StopsAt shows (told_in files) l was is name why) same at), refl)))))
+  pub for_file : CanBeRead m → (names : List Name) → names ≡ names_in m → (name : Name) (why : Stop) (shows : Bool) → shows ≡ terminals.err → StopsAt shows (bytes_of_name files) names was is name why → (v : Verdict) → v ≡ Err (stop_refusal name why ∷ []) → IsVerdict files terminals policy m was is v
+  for_file can names same name why shows seen at v h = subst (IsVerdict files terminals policy m was is) (sym h) (inr (inr (inl (can, (name, why, subst (λ s. StopsAt s (bytes_of_name files) (names_in m) was is name why) seen (subst (λ l. StopsAt shows (bytes_of_name files) l was is name why) same at), refl)))))
 
-  pub for_found : CanBeRead m → is ≡ was → (names : List Name) → names ≡ names_in m → (linted : Linted) → HaveFound (told_in files) terminals policy names linted → (v : Verdict) → HasOrNoMemory m linted v → IsVerdict files terminals policy m was is v
-  for_found can w names same linted have v (inl e) = subst (IsVerdict files terminals policy m was is) (sym e) (can, w, subst (λ l. HaveFound (told_in files) terminals policy l linted) same have)
+  pub for_found : CanBeRead m → is ≡ was → (names : List Name) → names ≡ names_in m → (linted : Linted) → HaveFound (bytes_of_name files) terminals policy names linted → (v : Verdict) → HasOrNoMemory m linted v → IsVerdict files terminals policy m was is v
+  for_found can w names same linted have v (inl e) = subst (IsVerdict files terminals policy m was is) (sym e) (can, w, subst (λ l. HaveFound (bytes_of_name files) terminals policy l linted) same have)
   for_found can w names same linted have v (inr e) = for_memory can w v e
 
 -- ---- names that can't be linted
 
-pub fault_said : (f : Found) (fault told : TreeFault) (name text : List ℕ) → f.fault ≡ Option.Some fault → told ≡ told_fault fault → name ≡ f.name.items → text ≡ tree_fault_text told → refusal_line (refusal_of name text) ≡ fault_lines f
+pub fault_said : (f : Found) (fault told : TreeFault) (name text : List ℕ) → f.fault ≡ Option.Some fault → told ≡ reported_fault fault → name ≡ f.name.items → text ≡ tree_fault_text told → refusal_line (refusal_of name text) ≡ fault_lines f
 fault_said f fault told name text e et en ex =
     (λ i. refusal_line (refusal_of (en i) (ex i))) ∙ ap (λ t. refusal_line (refusal_of f.name.items (tree_fault_text t))) et
-    ∙ sym (append-nil (refusal_line (refusal_of f.name.items (tree_fault_text (told_fault fault)))))
+    ∙ sym (append-nil (refusal_line (refusal_of f.name.items (tree_fault_text (reported_fault fault)))))
     ∙ ap (λ o. flat_map refusal_line (refusal_by o f.name.items)) (sym e)
 
 -- one, and those after it

@@ -4,11 +4,11 @@ use Rattle.file_tree.specs.FaultTexts.{tree_fault_text}
 use Rattle.file_tree.specs.Files.{Name}
 use Rattle.file_tree.specs.declared.fault.TreeFault.{TreeFault}
 use Rattle.file_tree.specs.declared.walk.Found.{Found}
-use Rattle.tree_lint.specs.Refusals.{Refusal, refusal_line, refusal_of, told_fault}
+use Rattle.tree_lint.specs.Refusals.{Refusal, refusal_line, refusal_of, reported_fault}
 
 abbrev pub refusal_by : Option TreeFault → Name → List Refusal
 refusal_by None name = []
-refusal_by (Some fault) name = refusal_of name (tree_fault_text (told_fault fault)) ∷ []
+refusal_by (Some fault) name = refusal_of name (tree_fault_text (reported_fault fault)) ∷ []
 
 -- why a name that was found can't be linted, if it can't
 abbrev pub refusal_in : Found → List Refusal

@@ -25,8 +25,8 @@ abbrev pub refusal_of : Name → List ℕ → Refusal
 refusal_of name text = record { name = name; at = None; text = text; snippet = [] }
 
 -- the same in the code's terms
-abbrev pub refusal_told : code.Refusal → Refusal
-refusal_told r = record { name = r.name.now; at = r.at; text = r.text.now; snippet = r.snippet.now }
+abbrev pub refusal_view : code.Refusal → Refusal
+refusal_view r = record { name = r.name.now; at = r.at; text = r.text.now; snippet = r.snippet.now }
 
 -- what follows the name, to the end of the line
 abbrev pub refusal_words : Option Position → List ℕ → List ℕ
@@ -42,6 +42,6 @@ abbrev pub refusal_line : Refusal → List ℕ
 refusal_line r = error tree_linter (named_words r)
 
 -- `-` is a name that isn't there, as any other
-abbrev pub told_fault : TreeFault → TreeFault
-told_fault NoInput = Missing
-told_fault fault = fault
+abbrev pub reported_fault : TreeFault → TreeFault
+reported_fault NoInput = Missing
+reported_fault fault = fault

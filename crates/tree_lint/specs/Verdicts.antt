@@ -28,8 +28,8 @@ use Rattle.tree_lint.specs.declared.stop.Stop.TheVariants as stop
 use Rattle.tree_lint.specs.declared.written.Terminals.{Terminals}
 
 -- the bytes of the file to which a name leads
-abbrev pub told_in : Files → Name → Option (List ℕ)
-told_in files name = files.told (files.real name)
+abbrev pub bytes_of_name : Files → Name → Option (List ℕ)
+bytes_of_name files name = files.told (files.real name)
 
 abbrev pub names_in : Module → List Name
 names_in m = map string_bytes m.files.items
@@ -118,7 +118,7 @@ abbrev pub IsRefused : Files → Bool → Module → Faults → Faults → List 
 IsRefused files shows m was is refusals =
     ((m.is_whole ≡ false) × (is ≡ was) × (refusals ≡ []))
     ⊎ (((m.is_whole ≡ true) × (max_files < length m.files.items) × (is ≡ was) × (refusals ≡ too_many m ∷ []))
-    ⊎ ((CanBeRead m × ((name : Name) × (why : Stop) × StopsAt shows (told_in files) (names_in m) was is name why × (refusals ≡ stop_refusal name why ∷ [])))
+    ⊎ ((CanBeRead m × ((name : Name) × (why : Stop) × StopsAt shows (bytes_of_name files) (names_in m) was is name why × (refusals ≡ stop_refusal name why ∷ [])))
     ⊎ (CanBeRead m × (is ≡ was) × (refusals ≡ no_memory m ∷ []))))
 
 abbrev pub Verdict : Type 0
@@ -126,5 +126,5 @@ Verdict = Result Linted (List Refusal)
 
 -- WHAT BECOMES OF A MODULE, by these rules, where the device has had these faults before and after. No call failed that isn't told
 abbrev pub IsVerdict : Files → Terminals → Policy → Module → Faults → Faults → Verdict → Type 0
-IsVerdict files terminals policy m was is (Ok linted) = CanBeRead m × (is ≡ was) × HaveFound (told_in files) terminals policy (names_in m) linted
+IsVerdict files terminals policy m was is (Ok linted) = CanBeRead m × (is ≡ was) × HaveFound (bytes_of_name files) terminals policy (names_in m) linted
 IsVerdict files terminals policy m was is (Err refusals) = IsRefused files terminals.err m was is refusals

@@ -1,13 +1,13 @@
 //! The files of a module, read one after the other.
 
 ghost use Rattle.std.specs.Prelude.{◌≡◌, ◌≤◌, ◌++◌, [], OnOk, false, length, map, string_bytes};
-ghost use Rattle.comment_faults.specs.CommentFaults.{fault_told};
+ghost use Rattle.comment_faults.specs.CommentFaults.{fault_view};
 ghost use Rattle.tfrules_command.specs.Files.{max_module};
 ghost use Rattle.tfrules_command.specs.Line.{max_files};
 ghost use Rattle.tree_lint.specs.Readers.{Leaves, has_reader_out};
-ghost use Rattle.tree_lint.specs.Verdicts.{shows_lines, told_in};
+ghost use Rattle.tree_lint.specs.Verdicts.{shows_lines, bytes_of_name};
 ghost use Rattle.tree_lint.specs.Inner.Gathering.{AddsComments, AddsFile, AddsRead, Gathers, IsEmpty, KeepsFile, KeepsScanned, StopsWith, texts_kept};
-ghost use Rattle.tree_lint.specs.Inner.Showing.{linted_told};
+ghost use Rattle.tree_lint.specs.Inner.Showing.{linted_view};
 
 use crate::linted::Linted;
 use crate::module_tree::ModuleTree;
@@ -57,9 +57,9 @@ impl Gathered {
 
     /// The comments and the texts, beside these issues.
     pub(crate) fn linted<'a, 'f>(&'a self, issues: &'a IssueList<'f>) -> Linted<'a, 'f>
-        ensures { linted_told result ≡ record {
+        ensures { linted_view result ≡ record {
           issues = issues.entry.now;
-          comments = map fault_told self.entry.now.comments.items;
+          comments = map fault_view self.entry.now.comments.items;
           texts = self.entry.now.texts.items;
         } }
     {
@@ -187,7 +187,7 @@ fn add_file<T: Tree + Drop>(
 ) -> Result<usize, Stop>
     requires back { has_reader_out files.old ≡ false }
     requires small { size ≤ max_module }
-    ensures adds { AddsFile (told_in (T.files files.old.tree) name.now) size number
+    ensures adds { AddsFile (bytes_of_name (T.files files.old.tree) name.now) size number
         (T.faults files.old.tree) (T.faults files.new.tree) into.old into.new result }
     ensures leaves { Leaves T.Tree files.old files.new }
 {
@@ -207,7 +207,7 @@ pub(crate) fn gather<'n, T: Tree + Drop>(
     requires few { length names.now ≤ max_files }
     requires none { IsEmpty into.old }
     requires back { has_reader_out files.old ≡ false }
-    ensures gathers { Gathers (told_in (T.files files.old.tree))
+    ensures gathers { Gathers (bytes_of_name (T.files files.old.tree))
         (map string_bytes names.entry.now) into.old.checks into.old.terminals
         (T.faults files.old.tree) (T.faults files.new.tree) into.new result }
     ensures leaves { Leaves T.Tree files.old files.new }

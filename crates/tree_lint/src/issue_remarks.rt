@@ -1,9 +1,9 @@
 //! What is found in a module, as remarks.
 
 ghost use Rattle.std.specs.Prelude.{◌≡◌, ◌++◌, [], IfOk, OnOk, Some, get_or, map, string_bytes};
-ghost use Rattle.comment_faults.specs.CommentFaults.{fault_told};
+ghost use Rattle.comment_faults.specs.CommentFaults.{fault_view};
 ghost use Rattle.lint_forms.specs.Remarks.{said_by};
-ghost use Rattle.tree_lint.specs.Inner.Showing.{linted_told};
+ghost use Rattle.tree_lint.specs.Inner.Showing.{linted_view};
 ghost use Rattle.tree_lint.specs.Runs.{comment_remark, issue_remark, remarks_by};
 ghost use Rattle.lint_forms.specs.Forms.{module_text};
 
@@ -53,7 +53,7 @@ fn remarks_of<'a>(
 
 fn comment_remark<'a>(names: &'a [String], fault: &'a CommentFault) -> Remark<'a>
     ensures { said_by result
-        ≡ comment_remark (map string_bytes names.entry.now) (fault_told fault.entry.now) }
+        ≡ comment_remark (map string_bytes names.entry.now) (fault_view fault.entry.now) }
 {
     Remark {
         file: name_of(names, fault.file),
@@ -71,7 +71,7 @@ fn add_comments<'a>(
     all: &mut Vec<Remark<'a>>,
 ) -> Result<(), AllocError>
     ensures { OnOk result (map said_by all.new.items ≡ map said_by all.old.items
-        ++ map (λ f. comment_remark (map string_bytes names.entry.now) (fault_told f))
+        ++ map (λ f. comment_remark (map string_bytes names.entry.now) (fault_view f))
         comments.entry.now) }
 {
     for fault in comments {
@@ -89,7 +89,7 @@ pub(crate) fn linted_text(
     linted: Linted<'_, '_>,
 ) -> Result<Vec<u8>, AllocError>
     ensures { IfOk result (λ text. text.items ≡ module_text form is_after
-        (remarks_by (map string_bytes names.now) (linted_told linted.entry))) }
+        (remarks_by (map string_bytes names.now) (linted_view linted.entry))) }
 {
     let owned = owned_issues(alloc, linted.issues)?;
     let mut remarks = remarks_of(alloc, names, owned.as_slice())?;

@@ -3,10 +3,10 @@
 ghost use Rattle.std.specs.Prelude.{◌≡◌, ◌++◌, ◌∷◌, [], IfOk, flat_map, map, true};
 ghost use Rattle.lint_forms.specs.Remarks.{said_by};
 ghost use Rattle.tree_lint.specs.Kept.{HoldsAll, KeepsAll, column_told, kept_remark, line_told, refusal_remark};
-ghost use Rattle.tree_lint.specs.Refusals.{refusal_told};
+ghost use Rattle.tree_lint.specs.Refusals.{refusal_view};
 ghost use Rattle.tree_lint.specs.Faults.{refusal_in};
 
-use crate::refusal::{Refusal, told_fault};
+use crate::refusal::{Refusal, reported_fault};
 use file_tree::walk::Found;
 use hcl_scan::Position;
 use lint_forms::{Remark, Subject};
@@ -56,7 +56,7 @@ fn column_told(at: Option<Position>) -> u32
 /// A refusal that stands by itself.
 fn kept_of(alloc: Global, refusal: Refusal<'_>) -> Result<KeptRefusal, AllocError>
     ensures { IfOk result
-        (λ kept. kept_remark kept ≡ refusal_remark (refusal_told refusal.entry)) }
+        (λ kept. kept_remark kept ≡ refusal_remark (refusal_view refusal.entry)) }
 {
     let name = String::from_utf8_lossy(alloc, refusal.name)?;
     let text = String::from_str(alloc, refusal.text)?;
@@ -105,7 +105,7 @@ impl Kept {
 
     /// Keeps a refusal, unless one is missing already.
     pub fn add(&mut self, alloc: Global, refusal: Refusal<'_>)
-        ensures { KeepsAll self.old self.new (refusal_told refusal.entry ∷ []) }
+        ensures { KeepsAll self.old self.new (refusal_view refusal.entry ∷ []) }
     {
         if !self.is_whole {
             return;
@@ -121,7 +121,7 @@ impl Kept {
         ensures { KeepsAll self.old self.new (refusal_in found.now) }
     {
         if let Some(fault) = found.fault {
-            let text = told_fault(fault).text();
+            let text = reported_fault(fault).text();
             self.add(alloc, Refusal::of_name(found.name.as_slice(), text));
         }
     }

@@ -2,7 +2,7 @@
 
 ghost use Rattle.std.specs.Prelude.{◌≡◌, Ok, Some};
 ghost use Rattle.tree_lint.specs.Runs.{has_output, verdict_status};
-ghost use Rattle.tree_lint.specs.Inner.Showing.{is_nothing, linted_told};
+ghost use Rattle.tree_lint.specs.Inner.Showing.{is_nothing, linted_view};
 ghost use Rattle.tfrules_command.specs.Report.{status};
 ghost use Rattle.tree_lint.specs.Runs.{failing_under};
 
@@ -36,14 +36,14 @@ fn status_of(policy: Policy, issues: &IssueList<'_>) -> u8
 impl<'a, 'f> Linted<'a, 'f> {
     /// Whether nothing is.
     pub(crate) fn is_nothing(self) -> bool
-        ensures { result ≡ is_nothing (linted_told self.entry) }
+        ensures { result ≡ is_nothing (linted_view self.entry) }
     {
         self.issues.is_empty() && self.comments.is_empty()
     }
 
     /// Whether any of it goes to standard output.
     pub(crate) fn has_output(self, form: Option<Form>) -> bool
-        ensures { result ≡ has_output form (linted_told self.entry) }
+        ensures { result ≡ has_output form (linted_view self.entry) }
     {
         match form {
             Some(_) => !self.issues.is_empty() || !self.comments.is_empty(),
@@ -53,7 +53,7 @@ impl<'a, 'f> Linted<'a, 'f> {
 
     /// The status of the module.
     pub(crate) fn status(self, policy: Policy) -> u8
-        ensures { result ≡ verdict_status policy (Ok (linted_told self.entry)) }
+        ensures { result ≡ verdict_status policy (Ok (linted_view self.entry)) }
     {
         if !policy.force && !self.comments.is_empty() {
             return 2;

@@ -4,7 +4,7 @@ ghost use Rattle.std.specs.Prelude.{◌≡◌, IfOk, false, is_err, not, true};
 ghost use Rattle.file_tree.specs.Files.{fault_of, fault_of_reader, with_fault};
 ghost use Rattle.file_tree.specs.Unchanged.{Unchanged};
 ghost use Rattle.tree_lint.specs.Readers.{Leaves, has_reader_out};
-ghost use Rattle.tree_lint.specs.Verdicts.{told_in};
+ghost use Rattle.tree_lint.specs.Verdicts.{bytes_of_name};
 ghost use Rattle.tree_lint.specs.Inner.Gathering.{ReadsFile, StopsLoad};
 
 use crate::stop::Stop;
@@ -60,7 +60,7 @@ impl<T: Tree + Drop> ModuleTree<T> {
         requires back { has_reader_out self.old ≡ false }
         ensures fresh { IfOk result (λ r. T.Reader.failed r ≡ false) }
         ensures bytes { IfOk result
-            (λ r. T.Reader.left r ≡ told_in (T.files self.old.tree) name.now) }
+            (λ r. T.Reader.left r ≡ bytes_of_name (T.files self.old.tree) name.now) }
         ensures unchanged { Unchanged T.Tree self.old.tree self.new.tree }
         ensures faults { T.faults self.new.tree
             ≡ with_fault (T.faults self.old.tree) (fault_of result) }
@@ -86,7 +86,7 @@ impl<T: Tree + Drop> ModuleTree<T> {
     /// Reads a file.
     pub(crate) fn read(&mut self, alloc: Global, name: &str) -> Result<Source, Stop>
         requires back { has_reader_out self.old ≡ false }
-        ensures reads { ReadsFile (told_in (T.files self.old.tree) name.now)
+        ensures reads { ReadsFile (bytes_of_name (T.files self.old.tree) name.now)
             (T.faults self.old.tree) (T.faults self.new.tree) result }
         ensures leaves { Leaves T.Tree self.old self.new }
     {

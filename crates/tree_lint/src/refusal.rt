@@ -3,9 +3,9 @@
 ghost use Rattle.std.specs.Prelude.{◌≡◌, ◌++◌, Some, false, flat_map, is_err, map};
 ghost use Rattle.std.specs.List.{concat};
 ghost use Rattle.command_line.specs.Rows.{Took, writer};
-ghost use Rattle.tree_lint.specs.Refusals.{named_words, refusal_line, refusal_of, refusal_told, refusal_words, told_fault};
+ghost use Rattle.tree_lint.specs.Refusals.{named_words, refusal_line, refusal_of, refusal_view, refusal_words, reported_fault};
 ghost use Rattle.tree_lint.specs.Faults.{fault_lines, refusal_by};
-ghost use Rattle.tree_lint.specs.Inner.Showing.{told_comment};
+ghost use Rattle.tree_lint.specs.Inner.Showing.{comment_refusal};
 
 use command_line::write_parts;
 use comment_faults::CommentFault;
@@ -31,7 +31,7 @@ pub struct Refusal<'a> {
 impl<'a> Refusal<'a> {
     /// One without a place.
     pub fn of_name(name: &'a [u8], text: &'a str) -> Refusal<'a>
-        ensures { refusal_told result ≡ refusal_of name.now text.now }
+        ensures { refusal_view result ≡ refusal_of name.now text.now }
     {
         Refusal {
             name,
@@ -87,7 +87,7 @@ fn tell_words<'p, S: ByteSink>(
 fn tell_named<S: ByteSink>(sink: &mut S, refusal: Refusal<'_>) -> Result<(), Failed>
     requires { S.failed sink.old ≡ false }
     ensures took { Took (writer S.ByteSink sink.old sink.new)
-        (named_words (refusal_told refusal.entry)) }
+        (named_words (refusal_view refusal.entry)) }
     ensures failed { S.failed sink.new ≡ is_err result }
 {
     if write_quoted(sink, refusal.name).is_err() {
@@ -100,7 +100,7 @@ fn tell_named<S: ByteSink>(sink: &mut S, refusal: Refusal<'_>) -> Result<(), Fai
 pub fn tell_refusal<S: ByteSink>(sink: &mut S, refusal: Refusal<'_>) -> Result<(), Failed>
     requires { S.failed sink.old ≡ false }
     ensures took { Took (writer S.ByteSink sink.old sink.new)
-        (refusal_line (refusal_told refusal.entry)) }
+        (refusal_line (refusal_view refusal.entry)) }
     ensures failed { S.failed sink.new ≡ is_err result }
 {
     if write_parts(sink, &[b"tfrules-all: error: "]).is_err() {
@@ -118,7 +118,7 @@ pub(crate) fn tell_comment<'c, S: ByteSink>(
 ) -> Result<(), Failed>
     requires { S.failed sink.old ≡ false }
     ensures took { Took (writer S.ByteSink sink.old sink.new)
-        (told_comment name.now snippet.now fault.now) }
+        (comment_refusal name.now snippet.now fault.now) }
     ensures failed { S.failed sink.new ≡ is_err result }
 {
     tell_refusal(
@@ -133,8 +133,8 @@ pub(crate) fn tell_comment<'c, S: ByteSink>(
 }
 
 /// The fault that is told: `-` is a name that isn't there, as any other.
-pub(crate) fn told_fault(fault: TreeFault) -> TreeFault
-    ensures { result ≡ told_fault fault }
+pub(crate) fn reported_fault(fault: TreeFault) -> TreeFault
+    ensures { result ≡ reported_fault fault }
 {
     match fault {
         TreeFault::NoInput => TreeFault::Missing,
@@ -151,7 +151,7 @@ fn tell_fault<S: ByteSink>(sink: &mut S, found: &Found) -> Result<(), Failed>
     match found.fault {
         Some(fault) => tell_refusal(
             sink,
-            Refusal::of_name(found.name.as_slice(), told_fault(fault).text()),
+            Refusal::of_name(found.name.as_slice(), reported_fault(fault).text()),
         ),
         None => Ok(()),
     }

@@ -2,14 +2,14 @@
 
 ghost use Rattle.std.specs.Prelude.{◌≡◌, ◌∷◌, [], None, OnErr, OnOk, true, false, flat_map, is_err, map, string_bytes};
 ghost use Rattle.command_line.specs.Rows.{Took, writer};
-ghost use Rattle.comment_faults.specs.CommentFaults.{fault_told};
+ghost use Rattle.comment_faults.specs.CommentFaults.{fault_view};
 ghost use Rattle.lint_forms.specs.Forms.{module_text};
 ghost use Rattle.tree_lint.specs.Parted.{parted};
-ghost use Rattle.tree_lint.specs.Refusals.{refusal_line, refusal_told};
+ghost use Rattle.tree_lint.specs.Refusals.{refusal_line, refusal_view};
 ghost use Rattle.tree_lint.specs.Kept.{KeepsAll};
 ghost use Rattle.tree_lint.specs.Runs.{comment_line, linted_output, remarks_by, report_of};
 ghost use Rattle.tree_lint.specs.Verdicts.{names_in, no_memory, too_many};
-ghost use Rattle.tree_lint.specs.Inner.Showing.{HasOrNoMemory, Shows, linted_told, refused};
+ghost use Rattle.tree_lint.specs.Inner.Showing.{HasOrNoMemory, Shows, linted_view, refused};
 
 use crate::counts::Ended;
 use crate::issue_remarks::{linted_text, name_of};
@@ -39,7 +39,7 @@ fn show_report<O: ByteSink, N: ShownNames>(
 )
     requires { O.failed out.old ≡ false }
     ensures { Took (writer O.ByteSink out.old out.new)
-        (report_of shows (N.names names.now) (linted_told linted.entry)) }
+        (report_of shows (N.names names.now) (linted_view linted.entry)) }
 {
     if shows {
         let _ = show_lines(out, names, linted.texts, linted.issues);
@@ -57,7 +57,7 @@ fn show_parted<O: ByteSink, N: ShownNames>(
 )
     requires { O.failed out.old ≡ false }
     ensures { Took (writer O.ByteSink out.old out.new)
-        (parted true (report_of shows (N.names names.now) (linted_told linted.entry))) }
+        (parted true (report_of shows (N.names names.now) (linted_view linted.entry))) }
 {
     if linted.issues.is_empty() {
         return;
@@ -78,7 +78,7 @@ fn show_after<O: ByteSink, N: ShownNames>(
 )
     requires { O.failed out.old ≡ false }
     ensures { Took (writer O.ByteSink out.old out.new)
-        (parted is_after (report_of shows (N.names names.now) (linted_told linted.entry))) }
+        (parted is_after (report_of shows (N.names names.now) (linted_view linted.entry))) }
 {
     if is_after {
         return show_parted(shows, out, names, linted);
@@ -88,14 +88,14 @@ fn show_after<O: ByteSink, N: ShownNames>(
 
 /// What is said of a module at which memory ran out.
 pub(crate) fn no_memory(one: &Module) -> Refusal<'_>
-    ensures { refusal_told result ≡ no_memory one.now }
+    ensures { refusal_view result ≡ no_memory one.now }
 {
     Refusal::of_name(place(one.folder.as_slice()), "out of memory")
 }
 
 /// What is said of a module with too many files.
 pub(crate) fn too_many(one: &Module) -> Refusal<'_>
-    ensures { refusal_told result ≡ too_many one.now }
+    ensures { refusal_view result ≡ too_many one.now }
 {
     Refusal::of_name(place(one.folder.as_slice()), "more than 256 files")
 }
@@ -116,8 +116,8 @@ pub(crate) fn refuse<E: ByteSink>(
 ) -> Ended
     requires { E.failed err.old ≡ false }
     ensures took { Took (writer E.ByteSink err.old err.new)
-        (refusal_line (refusal_told refusal.entry)) }
-    ensures kept { KeepsAll kept.old kept.new (refusal_told refusal.entry ∷ []) }
+        (refusal_line (refusal_view refusal.entry)) }
+    ensures kept { KeepsAll kept.old kept.new (refusal_view refusal.entry ∷ []) }
     ensures ended { result ≡ refused }
 {
     let _ = tell_refusal(err, refusal);
@@ -136,7 +136,7 @@ fn show_text<O: ByteSink>(
     requires out { O.failed out.old ≡ false }
     ensures ok { OnOk result (Took (writer O.ByteSink out.old out.new)
         (linted_output None task.manner.terminals.out task.is_after one.now
-        (linted_told linted.entry))) }
+        (linted_view linted.entry))) }
     ensures err { OnErr result (out.new ≡ out.old) }
 {
     let names = Shown::new(alloc, one.files.as_slice())?;
@@ -161,7 +161,7 @@ fn show_form<O: ByteSink>(
 ) -> Result<(), AllocError>
     requires out { O.failed out.old ≡ false }
     ensures ok { OnOk result (Took (writer O.ByteSink out.old out.new)
-        (module_text form is_after (remarks_by (names_in one.now) (linted_told linted.entry)))) }
+        (module_text form is_after (remarks_by (names_in one.now) (linted_view linted.entry)))) }
     ensures err { OnErr result (out.new ≡ out.old) }
 {
     let text = linted_text(alloc, form, is_after, one.files.as_slice(), linted)?;
@@ -180,7 +180,7 @@ fn show_linted<O: ByteSink>(
     requires out { O.failed out.old ≡ false }
     ensures ok { OnOk result (Took (writer O.ByteSink out.old out.new)
         (linted_output task.manner.form task.manner.terminals.out task.is_after one.now
-        (linted_told linted.entry))) }
+        (linted_view linted.entry))) }
     ensures err { OnErr result (out.new ≡ out.old) }
 {
     match task.manner.form {
@@ -199,7 +199,7 @@ fn tell_comments<E: ByteSink>(
     requires { E.failed err.old ≡ false }
     ensures took { Took (writer E.ByteSink err.old err.new)
         (flat_map (λ fault. comment_line shows (map string_bytes names.now)
-        linted.entry.texts.now (fault_told fault)) linted.entry.comments.now) }
+        linted.entry.texts.now (fault_view fault)) linted.entry.comments.now) }
     ensures failed { E.failed err.new ≡ is_err result }
 {
     let mut lines = ModuleLines::new(linted.texts);
@@ -221,7 +221,7 @@ fn show_some<O: ByteSink, E: ByteSink>(
 ) -> Ended
     requires out { O.failed streams.old.out ≡ false }
     requires err { E.failed streams.old.err ≡ false }
-    ensures { Shows task one.now (HasOrNoMemory one.now (linted_told linted.entry))
+    ensures { Shows task one.now (HasOrNoMemory one.now (linted_view linted.entry))
         (writer O.ByteSink streams.old.out streams.new.out)
         (writer E.ByteSink streams.old.err streams.new.err)
         kept.old kept.new result }
@@ -249,7 +249,7 @@ pub(crate) fn show<O: ByteSink, E: ByteSink>(
 ) -> Ended
     requires out { O.failed streams.old.out ≡ false }
     requires err { E.failed streams.old.err ≡ false }
-    ensures { Shows task one.now (HasOrNoMemory one.now (linted_told linted.entry))
+    ensures { Shows task one.now (HasOrNoMemory one.now (linted_view linted.entry))
         (writer O.ByteSink streams.old.out streams.new.out)
         (writer E.ByteSink streams.old.err streams.new.err)
         kept.old kept.new result }

@@ -2,7 +2,7 @@
 
 ghost use Rattle.std.specs.Prelude.{◌≡◌};
 ghost use Rattle.tree_lint.specs.Verdicts.{stop_refusal};
-ghost use Rattle.tree_lint.specs.Refusals.{refusal_told};
+ghost use Rattle.tree_lint.specs.Refusals.{refusal_view};
 
 use crate::refusal::Refusal;
 use file_tree::fault::TreeFault;
@@ -29,7 +29,7 @@ pub(crate) struct Stopped<'n> {
 impl<'n> Stopped<'n> {
     /// What is said of it.
     pub(crate) fn refusal(&self) -> Refusal<'_>
-        ensures { refusal_told result ≡ stop_refusal self.now.name.now self.now.why }
+        ensures { refusal_view result ≡ stop_refusal self.now.name.now self.now.why }
     {
         let name = self.name.as_bytes();
         match &self.why {

@@ -6,7 +6,7 @@ use Rattle.hcl_tokens.specs.Lexemes.{Lexeme}
 use Rattle.hcl_tokens.specs.Scanned.{Scanned}
 use Rattle.tf_rules.specs.Issues.{File}
 use Rattle.tf_rules.specs.Walked.{Walked}
-use Rattle.comment_faults.specs.CommentFaults.{fault_of, fault_told}
+use Rattle.comment_faults.specs.CommentFaults.{fault_of, fault_view}
 use Rattle.comment_faults.specs.declared.fault.CommentFault as code
 
 -- a token under a number
@@ -15,7 +15,7 @@ number_of n t = record { number = n; kind = t.kind; text = t.text }
 
 -- a file's token of this number was checked
 abbrev pub Adds : File → ℕ → List code.CommentFault → List code.CommentFault → Type 0
-Adds file n old new = (t : Lexeme) → slice_get file.source.tokens n ≡ Some t → map fault_told new ≡ map fault_told old ++ fault_of file (number_of n t)
+Adds file n old new = (t : Lexeme) → slice_get file.source.tokens n ≡ Some t → map fault_view new ≡ map fault_view old ++ fault_of file (number_of n t)
 
 -- the walk is in this text, and not after the token of this number
 pub record IsBefore (source : Scanned) (n : ℕ) (walk : Walked) : Type 0 where

@@ -1,7 +1,7 @@
 -- How far a run has come with the files of a module.
 use Rattle.std.specs.Prelude.{◌≡◌, ◌≤◌, ◌+◌, ◌++◌, ◌∷◌, [], ℕ, Bool, false, List, Option, Result, Ok, Err, if◌then◌else◌, length, map}
 use Rattle.hcl_grammar.specs.Verdict.{IsTextVerdict}
-use Rattle.comment_faults.specs.CommentFaults.{fault_told}
+use Rattle.comment_faults.specs.CommentFaults.{fault_view}
 use Rattle.file_tree.specs.Files.{Faults, Name, Tells}
 use Rattle.file_tree.specs.declared.fault.TreeFault.TheVariants.{OutOfMemory, ReadFailed}
 use Rattle.hcl_source.specs.Load.{IsLoadFault, IsText}
@@ -57,7 +57,7 @@ pub record IsEmpty (all : Gathered) : Type 0 where
 -- the comments of a file are kept with others, where they are looked for
 pub record AddsComments (file : File) (old new : Gathered) : Type 0 where
   pub checks : new.checks ≡ old.checks
-  pub comments : map fault_told new.comments.items ≡ map fault_told old.comments.items ++ comments_looked_for old.checks (file ∷ [])
+  pub comments : map fault_view new.comments.items ≡ map fault_view old.comments.items ++ comments_looked_for old.checks (file ∷ [])
   pub terminals : new.terminals ≡ old.terminals
   pub texts : new.texts ≡ old.texts
 
@@ -80,7 +80,7 @@ texts_kept shows text = if shows then text ∷ [] else []
 -- the comments of a file are kept with others, and its text
 pub record AddsFound (file : File) (text : List ℕ) (old new : Gathered) : Type 0 where
   pub checks : new.checks ≡ old.checks
-  pub comments : map fault_told new.comments.items ≡ map fault_told old.comments.items ++ comments_looked_for old.checks (file ∷ [])
+  pub comments : map fault_view new.comments.items ≡ map fault_view old.comments.items ++ comments_looked_for old.checks (file ∷ [])
   pub terminals : new.terminals ≡ old.terminals
   pub texts : new.texts.items ≡ old.texts.items ++ texts_kept (shows_lines old.terminals) text
 
@@ -104,7 +104,7 @@ AddsFile told size number was is old new (Err why) = StopsBy old.terminals.err t
 pub record ReachedAll (told : Name → Option (List ℕ)) (names : List Name) (size : ℕ) (checks : Bool) (terminals : Terminals) (all : Gathered) : Type 0 where
   pub reached : Reached told names size all.facts
   pub checks_are : all.checks ≡ checks
-  pub comments : map fault_told all.comments.items ≡ comments_looked_for checks (numbered_files 0 reached.sources)
+  pub comments : map fault_view all.comments.items ≡ comments_looked_for checks (numbered_files 0 reached.sources)
   pub terminals_are : all.terminals ≡ terminals
   pub texts : all.texts.items ≡ texts_shown (shows_lines terminals) reached.files
 

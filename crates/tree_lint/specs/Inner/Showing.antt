@@ -1,6 +1,6 @@
 -- What is shown of one module.
 use Rattle.std.specs.Prelude.{◌≡◌, ◌⊎◌, ◌==◌, ◌&&◌, ℕ, Bool, false, List, [], ◌∷◌, Some, Ok, Err, length, map}
-use Rattle.comment_faults.specs.CommentFaults.{fault_told}
+use Rattle.comment_faults.specs.CommentFaults.{fault_view}
 use Rattle.comment_faults.specs.declared.fault.CommentFault as found
 use Rattle.command_line.specs.Rows.{Took, Writer}
 use Rattle.file_tree.specs.Files.{Name}
@@ -16,8 +16,8 @@ use Rattle.tree_lint.specs.declared.linted.Linted as code
 use Rattle.tree_lint.specs.declared.run.Task.{Task}
 
 -- what was found, in the words of the definitions
-abbrev pub linted_told : code.Linted → Linted
-linted_told l = record { issues = l.issues.now; comments = map fault_told l.comments.now; texts = l.texts.now }
+abbrev pub linted_view : code.Linted → Linted
+linted_view l = record { issues = l.issues.now; comments = map fault_view l.comments.now; texts = l.texts.now }
 
 abbrev pub is_nothing : Linted → Bool
 is_nothing l = (length l.issues == 0) && (length l.comments == 0)
@@ -38,8 +38,8 @@ abbrev pub HasOrNoMemory : Module → Linted → Verdict → Type 0
 HasOrNoMemory m linted v = (v ≡ Ok linted) ⊎ (v ≡ Err (no_memory m ∷ []))
 
 -- what is said of a comment in the file of this name, of whose text this is shown
-abbrev pub told_comment : Name → List ℕ → found.CommentFault → List ℕ
-told_comment name snippet f = refusal_line (record { name = name; at = Some (fault_told f).at; text = (fault_told f).text; snippet = snippet })
+abbrev pub comment_refusal : Name → List ℕ → found.CommentFault → List ℕ
+comment_refusal name snippet f = refusal_line (record { name = name; at = Some (fault_view f).at; text = (fault_view f).text; snippet = snippet })
 
 -- how a module ends that is refused
 abbrev pub refused : Ended

@@ -2,7 +2,7 @@ use Rattle.std.proofs.Common.{◌≡◌, ◌∙◌, ◌≤◌, ◌<◌, [], ap, 
 use Rattle.std.proofs.lemmas.List.{length-map, take_all}
 use Rattle.std.specs.Prelude.{string_bytes}
 use Rattle.tree_lint.specs.Inner.Gathering.{ReachedAll}
-use Rattle.tree_lint.specs.Verdicts.{told_in}
+use Rattle.tree_lint.specs.Verdicts.{bytes_of_name}
 use Rattle.tree_lint.specs.declared.written.Terminals.{Terminals}
 use Rattle.tree_lint.proofs.FileLemmas.{name_here, reached_all_more, reached_all_none, stops_at, told_here}
 use Rattle.tree_lint.proofs.gather.gather.Goals as goal
@@ -36,7 +36,7 @@ pub returns-clause-gathers : goal.returns-clause-gathers
 returns-clause-gathers g c =
     let kept = c.loop-number.invariant in
     let all : length (map string_bytes c.args.names.now) ≤ c.loop-number.number = omega (arith, length-map c.args.names.now string_bytes, c.loop-number-test.false) in
-    (kept.2, (c.loop-number.size, subst (λ names. ReachedAll (told_in (g.T.Tree.files c.args.files.now.tree)) names c.loop-number.size c.args.into.now.checks c.args.into.now.terminals c.loop-number.into) (take_all c.loop-number.number (map string_bytes c.args.names.now) all) kept.4))
+    (kept.2, (c.loop-number.size, subst (λ names. ReachedAll (bytes_of_name (g.T.Tree.files c.args.files.now.tree)) names c.loop-number.size c.args.into.now.checks c.args.into.now.terminals c.loop-number.into) (take_all c.loop-number.number (map string_bytes c.args.names.now) all) kept.4))
 
 pub returns-in-Err-clause-leaves : goal.returns-in-Err-clause-leaves
 returns-in-Err-clause-leaves g c = ((c.in-Err.ensures.leaves.0.0 ∙ c.loop-number.invariant.0, c.in-Err.ensures.leaves.0.1 ∙ c.loop-number.invariant.1), c.in-Err.ensures.leaves.1)

@@ -7,4 +7,4 @@ use Rattle.tree_lint.proofs.refusal.tell_fault.Goals as goal
 pub returns-in-Some-clause-took : goal.returns-in-Some-clause-took
 returns-in-Some-clause-took g c =
     subst (λ (t : List ℕ). TookBy (g.S.ByteSink.failed c.tell_refusal.new.sink) (g.S.ByteSink.taken c.args.sink.now) (g.S.ByteSink.taken c.tell_refusal.new.sink) t)
-    (ap refusal_line c.of_name.ensures ∙ fault_said c.args.found.now c.in-Some.fault c.told_fault.result c.as_slice.result.now c.text.result.now c.in-Some.is c.told_fault.ensures c.as_slice.ensures.value c.text.ensures) c.tell_refusal.ensures.took
+    (ap refusal_line c.of_name.ensures ∙ fault_said c.args.found.now c.in-Some.fault c.reported_fault.result c.as_slice.result.now c.text.result.now c.in-Some.is c.reported_fault.ensures c.as_slice.ensures.value c.text.ensures) c.tell_refusal.ensures.took
