@@ -10,8 +10,8 @@ use Rattle.lint_forms.specs.declared.kind.Form.{Form}
 use Rattle.lint_forms.specs.declared.remark.Remark as code
 use Rattle.module_find.specs.declared.module.Module.{Module}
 use Rattle.tree_lint.specs.Faults.{fault_lines, refusal_in}
-use Rattle.tree_lint.specs.Kept.{KeepsAll, kept_remark}
-use Rattle.tree_lint.specs.declared.kept.Kept.{Kept}
+use Rattle.tree_lint.specs.KeptRefusals.{KeepsAll, kept_remark}
+use Rattle.tree_lint.specs.declared.kept.KeptRefusals.{KeptRefusals}
 use Rattle.tree_lint.proofs.KeptLemmas.{keeps_more}
 use Rattle.tree_lint.specs.Refusals.{tree_linter}
 use Rattle.tree_lint.specs.Runs.{IsLintRun, worse_status}
@@ -107,11 +107,11 @@ closes_well form quiet c faults ran ran' out err Untouched status s text slice e
 )
 
 -- the refusals are those that were kept, those of names and those of files
-pub all_refused : (kept named whole : Kept) (faults : List Found) (c : Configured) → KeepsAll kept named (flat_map refusal_in faults) → KeepsAll named whole (configured_refusals c) → whole.is_whole ≡ true
+pub all_refused : (kept named whole : KeptRefusals) (faults : List Found) (c : Configured) → KeepsAll kept named (flat_map refusal_in faults) → KeepsAll named whole (configured_refusals c) → whole.is_whole ≡ true
     → (kept.is_whole ≡ true) × (map kept_remark whole.refusals.items ≡ refused_remarks kept faults c)
 all_refused kept named whole faults c first then' is = keeps_more kept named whole (flat_map refusal_in faults) (configured_refusals c) first then' is
 
-pub form_ends : {V E : Type 0} (items : V → List ℕ) (form : Form) (status : ℕ) (ran : RunEnd) (named whole : Kept) (faults : List Found) (c : Configured) (remarks slice : List code.Remark) (r : Result V E)
+pub form_ends : {V E : Type 0} (items : V → List ℕ) (form : Form) (status : ℕ) (ran : RunEnd) (named whole : KeptRefusals) (faults : List Found) (c : Configured) (remarks slice : List code.Remark) (r : Result V E)
     → KeepsAll ran.kept named (flat_map refusal_in faults) → KeepsAll named whole (configured_refusals c) → whole.is_whole ≡ true → map said_by remarks ≡ map kept_remark whole.refusals.items → slice ≡ remarks
     → IfOk r (λ v. items v ≡ form_foot form status ran.has_output (map said_by slice)) → IfOk r (λ v. IsFoot (Some form) status ran faults c (items v))
 form_ends items form status ran named whole faults c remarks slice (Ok v) first then' is said same e =

@@ -23,12 +23,12 @@ use Rattle.tree_words.specs.Line.{others_in, texts_in}
 use Rattle.tree_words.specs.WrongWords.{bad_line_words}
 use Rattle.tree_words.specs.declared.shard.Shard.{Shard}
 use Rattle.tree_lint.specs.Faults.{fault_lines, refusal_in}
-use Rattle.tree_lint.specs.Kept.{kept_remark, refusal_remark}
+use Rattle.tree_lint.specs.KeptRefusals.{kept_remark, refusal_remark}
 use Rattle.tree_lint.specs.Numbers.{summary_line}
 use Rattle.tree_lint.specs.Refusals.{tree_linter}
 use Rattle.tree_lint.specs.Runs.{IsLintRun, worse_status}
 use Rattle.tree_lint.specs.declared.counts.Counts.{Counts}
-use Rattle.tree_lint.specs.declared.kept.Kept.{Kept}
+use Rattle.tree_lint.specs.declared.kept.KeptRefusals.{KeptRefusals}
 use Rattle.tree_lint.specs.declared.run.RunEnd.{RunEnd}
 use Rattle.tree_lint.specs.declared.written.Manner.{Manner}
 use Rattle.tree_lint.specs.declared.written.Terminals.{Terminals}
@@ -90,7 +90,7 @@ head_of None = []
 head_of (Some form) = form_head form version
 
 -- why modules aren't linted, as remarks: those that were refused, what can't be looked at, and the files `.tfrules` that are bad
-abbrev pub refused_remarks : Kept → List Found → Configured → List Remark
+abbrev pub refused_remarks : KeptRefusals → List Found → Configured → List Remark
 refused_remarks kept faults config = map kept_remark kept.refusals.items ++ map refusal_remark (flat_map refusal_in faults ++ configured_refusals config)
 
 -- what stands after the issues, in a run of a status

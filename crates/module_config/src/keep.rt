@@ -2,7 +2,7 @@
 
 ghost use Rattle.std.specs.Prelude.{◌≡◌, ◌∷◌, [], flat_map, map};
 ghost use Rattle.module_config.specs.Refusals.{config_refusals, configured_refusals, failure_refusals, line_number, line_refusal};
-ghost use Rattle.tree_lint.specs.Kept.{KeepsAll};
+ghost use Rattle.tree_lint.specs.KeptRefusals.{KeepsAll};
 
 use crate::config_file::{ConfigFile, ConfigText};
 use crate::configure::Configured;
@@ -11,7 +11,7 @@ use file_tree::walk::Found;
 use hcl_source::Position;
 use lint_config::BadLine;
 use std::alloc::Global;
-use tree_lint::kept::Kept;
+use tree_lint::kept::KeptRefusals;
 use tree_lint::refusal::Refusal;
 
 /// The number of a line, if it fits.
@@ -25,7 +25,7 @@ fn line_number(line: usize) -> u32
 }
 
 /// Keeps the fault of a line of the file with this name.
-fn keep_line(alloc: Global, name: &[u8], bad: &BadLine, kept: &mut Kept)
+fn keep_line(alloc: Global, name: &[u8], bad: &BadLine, kept: &mut KeptRefusals)
     ensures { KeepsAll kept.old kept.new (line_refusal name.now bad.now ∷ []) }
 {
     let at = Position {
@@ -44,7 +44,7 @@ fn keep_line(alloc: Global, name: &[u8], bad: &BadLine, kept: &mut Kept)
 }
 
 /// Keeps the faults of the wrong lines of the file with this name.
-fn keep_lines(alloc: Global, name: &[u8], all: &[BadLine], kept: &mut Kept)
+fn keep_lines(alloc: Global, name: &[u8], all: &[BadLine], kept: &mut KeptRefusals)
     ensures { KeepsAll kept.old kept.new (map (line_refusal name.now) all.now) }
 {
     for bad in all {
@@ -53,7 +53,7 @@ fn keep_lines(alloc: Global, name: &[u8], all: &[BadLine], kept: &mut Kept)
 }
 
 /// Keeps the fault of a file.
-fn keep_file(alloc: Global, start: &Start, file: &ConfigFile, kept: &mut Kept)
+fn keep_file(alloc: Global, start: &Start, file: &ConfigFile, kept: &mut KeptRefusals)
     ensures { KeepsAll kept.old kept.new (config_refusals start.now file.now) }
 {
     let name = start.shown(file.name.as_slice());
@@ -81,7 +81,7 @@ fn keep_file(alloc: Global, start: &Start, file: &ConfigFile, kept: &mut Kept)
 }
 
 /// Keeps the faults of these files.
-fn keep_files(alloc: Global, start: &Start, files: &[ConfigFile], kept: &mut Kept)
+fn keep_files(alloc: Global, start: &Start, files: &[ConfigFile], kept: &mut KeptRefusals)
     ensures { KeepsAll kept.old kept.new (flat_map (config_refusals start.now) files.now) }
 {
     for file in files {
@@ -90,7 +90,7 @@ fn keep_files(alloc: Global, start: &Start, files: &[ConfigFile], kept: &mut Kep
 }
 
 /// Keeps a failed call.
-fn keep_failure(alloc: Global, start: &Start, found: &Found, kept: &mut Kept)
+fn keep_failure(alloc: Global, start: &Start, found: &Found, kept: &mut KeptRefusals)
     ensures { KeepsAll kept.old kept.new (failure_refusals start.now found.now) }
 {
     if let Some(fault) = found.fault {
@@ -107,7 +107,7 @@ fn keep_failure(alloc: Global, start: &Start, found: &Found, kept: &mut Kept)
 }
 
 /// Keeps the failed calls.
-fn keep_failures(alloc: Global, start: &Start, all: &[Found], kept: &mut Kept)
+fn keep_failures(alloc: Global, start: &Start, all: &[Found], kept: &mut KeptRefusals)
     ensures { KeepsAll kept.old kept.new (flat_map (failure_refusals start.now) all.now) }
 {
     for found in all {
@@ -116,7 +116,7 @@ fn keep_failures(alloc: Global, start: &Start, all: &[Found], kept: &mut Kept)
 }
 
 /// Keeps bad files, and the failed calls of the search for them.
-pub fn keep_configured(alloc: Global, configured: &Configured, kept: &mut Kept)
+pub fn keep_configured(alloc: Global, configured: &Configured, kept: &mut KeptRefusals)
     ensures { KeepsAll kept.old kept.new (configured_refusals configured.now) }
 {
     let start = &configured.start;

@@ -1,16 +1,16 @@
 -- Refusals that are kept, one after another.
 use Rattle.std.proofs.Common.{◌∙◌, ◌++◌, [], List, ap, append-nil, append_assoc, map, sym}
 use Rattle.std.proofs.lemmas.List.{map-append}
-use Rattle.tree_lint.specs.Kept.{KeepsAll, kept_remark, refusal_remark}
+use Rattle.tree_lint.specs.KeptRefusals.{KeepsAll, kept_remark, refusal_remark}
 use Rattle.tree_lint.specs.Refusals.{Refusal}
-use Rattle.tree_lint.specs.declared.kept.Kept.{Kept}
+use Rattle.tree_lint.specs.declared.kept.KeptRefusals.{KeptRefusals}
 
 -- no refusal is kept
-pub keeps_none : (kept : Kept) → KeepsAll kept kept []
+pub keeps_none : (kept : KeptRefusals) → KeepsAll kept kept []
 keeps_none kept whole = (whole, sym (append-nil (map kept_remark kept.refusals.items)))
 
 -- some, and then others
-pub keeps_more : (a b c : Kept) (rs qs : List Refusal) → KeepsAll a b rs → KeepsAll b c qs → KeepsAll a c (rs ++ qs)
+pub keeps_more : (a b c : KeptRefusals) (rs qs : List Refusal) → KeepsAll a b rs → KeepsAll b c qs → KeepsAll a c (rs ++ qs)
 keeps_more a b c rs qs first then' whole =
     let later = then' whole in
     let earlier = first later.0 in (

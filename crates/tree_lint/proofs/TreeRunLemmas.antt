@@ -13,7 +13,7 @@ use Rattle.file_tree.specs.Files.{Faults, Files}
 use Rattle.tfrules_command.specs.Report.{weighs}
 use Rattle.tree_lint.specs.Inner.Growth.{HasRoom, counts_with, one_if}
 use Rattle.tree_lint.specs.Inner.Showing.{Shows}
-use Rattle.tree_lint.specs.Kept.{HoldsAll, KeepsAll, refusal_remark}
+use Rattle.tree_lint.specs.KeptRefusals.{HoldsAll, KeepsAll, refusal_remark}
 use Rattle.tree_lint.specs.Numbers.{counts_of, has_issues, is_module, is_refused, issue_count}
 use Rattle.tree_lint.specs.Runs.{AreJudged, IsLintRun, is_shown, is_some, messages, refusals_of, reports_after, verdict_message, statuses, verdict_output, verdict_status, worse_status, worst_status}
 use Rattle.tree_lint.specs.Refusals.{Refusal}
@@ -22,7 +22,7 @@ use Rattle.lint_forms.specs.declared.kind.Form.{Form}
 use Rattle.tree_lint.specs.declared.counts.Counts.{Counts}
 use Rattle.tree_lint.specs.declared.counts.Ended.{Ended}
 use Rattle.tree_lint.specs.declared.policy.Governed.{Governed}
-use Rattle.tree_lint.specs.declared.kept.Kept.{Kept}
+use Rattle.tree_lint.specs.declared.kept.KeptRefusals.{KeptRefusals}
 use Rattle.tree_lint.specs.declared.policy.Policy.{Policy}
 use Rattle.tree_lint.specs.declared.run.RunEnd.{RunEnd}
 use Rattle.tree_lint.specs.declared.written.Manner.{Manner}
@@ -52,7 +52,7 @@ any_more f (x ∷ vs) v = ap (λ b. is_shown f x || b) (any_more f vs v) ∙ sym
 refusals_more : (vs : List Verdict) (v : Verdict) → flat_map refusals_of (vs ++ v ∷ []) ≡ flat_map refusals_of vs ++ refusals_of v
 refusals_more vs v = flat_map-append refusals_of vs (v ∷ []) ∙ ap (λ t. flat_map refusals_of vs ++ t) (append-nil (refusals_of v))
 
-pub held_more : (old new : Kept) (rs qs : List Refusal) → HoldsAll old rs → KeepsAll old new qs → HoldsAll new (rs ++ qs)
+pub held_more : (old new : KeptRefusals) (rs qs : List Refusal) → HoldsAll old rs → KeepsAll old new qs → HoldsAll new (rs ++ qs)
 held_more old new rs qs holds keeps whole =
     (keeps whole).1 ∙ ap (λ l. l ++ map refusal_remark qs) (holds (keeps whole).0) ∙ sym (map-append refusal_remark rs qs)
 
@@ -134,7 +134,7 @@ module _ (files : Files) where
 
   -- ---- the run so far: no writer failed
 
-  pub record SoFar (manner : Manner) (head : List ℕ) (seen : List Governed) (was is : Faults) (out out' err err' : Option (List ℕ)) (is_after : Bool) (status : ℕ) (counts : Counts) (kept : Kept) : Type 0 where
+  pub record SoFar (manner : Manner) (head : List ℕ) (seen : List Governed) (was is : Faults) (out out' err err' : Option (List ℕ)) (is_after : Bool) (status : ℕ) (counts : Counts) (kept : KeptRefusals) : Type 0 where
     pub verdicts : List Verdict
     pub judged : AreJudged files manner.terminals seen verdicts was is
     pub output : Appends out out' (head ++ reports_after manner false seen verdicts)
@@ -145,7 +145,7 @@ module _ (files : Files) where
     pub refusals : HoldsAll kept (flat_map refusals_of verdicts)
     pub small : counts.issues ≤ 18446744073709551615 * length seen
 
-  pub so_far_none : (manner : Manner) (head : List ℕ) (was : Faults) (out out' err : Option (List ℕ)) (counts : Counts) (kept : Kept) → Appends out out' head → counts ≡ counts_of [] [] → HoldsAll kept []
+  pub so_far_none : (manner : Manner) (head : List ℕ) (was : Faults) (out out' err : Option (List ℕ)) (counts : Counts) (kept : KeptRefusals) → Appends out out' head → counts ≡ counts_of [] [] → HoldsAll kept []
       → SoFar manner head [] was was out out' err err false 0 counts kept
   so_far_none manner head was out out' err counts kept wrote none holds = record {
     verdicts = [];
@@ -160,7 +160,7 @@ module _ (files : Files) where
   }
 
   -- its numbers have room for one module more
-  pub has_room : (manner : Manner) (head : List ℕ) (seen : List Governed) (was is : Faults) (out out' err err' : Option (List ℕ)) (is_after : Bool) (status : ℕ) (counts : Counts) (kept : Kept) → SoFar manner head seen was is out out' err err' is_after status counts kept
+  pub has_room : (manner : Manner) (head : List ℕ) (seen : List Governed) (was is : Faults) (out out' err err' : Option (List ℕ)) (is_after : Bool) (status : ℕ) (counts : Counts) (kept : KeptRefusals) → SoFar manner head seen was is out out' err err' is_after status counts kept
       → length seen < 18446744073709551615 → HasRoom counts
   has_room manner head seen was is out out' err err' is_after status counts kept before lt = subst HasRoom (sym before.counted) (record {
     modules = omega (arith, count_by-le-length (λ (g : Governed). is_module g.module) seen, lt);
@@ -177,7 +177,7 @@ module _ (files : Files) where
 
   -- ---- one module more
 
-  module _ (manner : Manner) (head : List ℕ) (seen : List Governed) (m : Governed) (was between is : Faults) (o e : Option (List ℕ)) (is_after : Bool) (s : ℕ) (counts : Counts) (kept kept' : Kept) (out err : Writer) (ended : Ended)
+  module _ (manner : Manner) (head : List ℕ) (seen : List Governed) (m : Governed) (was between is : Faults) (o e : Option (List ℕ)) (is_after : Bool) (s : ℕ) (counts : Counts) (kept kept' : KeptRefusals) (out err : Writer) (ended : Ended)
       (before : SoFar manner head seen was between o out.before e err.before is_after s counts kept) (shown : Shows (record { policy = m.policy; manner = manner; is_after = is_after }) m.module (IsVerdict files manner.terminals m.policy m.module between is) out err kept kept' ended) where
     abbrev verdicts' : List Verdict
     verdicts' = before.verdicts ++ shown.verdict ∷ []
@@ -266,7 +266,7 @@ module _ (files : Files) where
     found = h.found;
   }
 
-  pub run_whole : (manner : Manner) (head : List ℕ) (modules seen : List Governed) (was is : Faults) (out err : Writer) (is_after : Bool) (s : ℕ) (counts : Counts) (kept : Kept) (ran : RunEnd) → seen ≡ modules
+  pub run_whole : (manner : Manner) (head : List ℕ) (modules seen : List Governed) (was is : Faults) (out err : Writer) (is_after : Bool) (s : ℕ) (counts : Counts) (kept : KeptRefusals) (ran : RunEnd) → seen ≡ modules
       → SoFar manner head seen was is out.before out.after err.before err.after is_after s counts kept → out.failed ≡ false → err.failed ≡ false → ran.counts ≡ counts → ran.has_output ≡ is_after → ran.kept ≡ kept
       → IsLintRun files manner head modules was is (record { out = out; err = err; status = s }) ran
   run_whole manner head modules seen was is out err is_after s counts kept ran same before out_good err_good ec ei ek = record {

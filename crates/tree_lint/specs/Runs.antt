@@ -16,7 +16,7 @@ use Rattle.tf_rules.specs.Issues.{asked_of}
 use Rattle.tf_rules.specs.declared.issue.Issue.{Issue}
 use Rattle.tfrules_command.specs.Line.{Asking}
 use Rattle.tfrules_command.specs.Report.{issue_line, report, report_by, status}
-use Rattle.tree_lint.specs.Kept.{HoldsAll}
+use Rattle.tree_lint.specs.KeptRefusals.{HoldsAll}
 use Rattle.tree_lint.specs.Numbers.{counts_of}
 use Rattle.tree_lint.specs.Parted.{parted}
 use Rattle.tree_lint.specs.Refusals.{Refusal, refusal_line}

@@ -2,7 +2,7 @@
 
 ghost use Rattle.std.specs.Prelude.{◌≡◌, ◌++◌, ◌∷◌, [], IfOk, flat_map, map, true};
 ghost use Rattle.lint_forms.specs.Remarks.{said_by};
-ghost use Rattle.tree_lint.specs.Kept.{HoldsAll, KeepsAll, column_told, kept_remark, line_told, refusal_remark};
+ghost use Rattle.tree_lint.specs.KeptRefusals.{HoldsAll, KeepsAll, column_told, kept_remark, line_told, refusal_remark};
 ghost use Rattle.tree_lint.specs.Refusals.{refusal_view};
 ghost use Rattle.tree_lint.specs.Faults.{refusal_in};
 
@@ -27,7 +27,7 @@ pub struct KeptRefusal {
 
 /// Refusals that are kept.
 #[derive(Drop)]
-pub struct Kept {
+pub struct KeptRefusals {
     pub refusals: Vec<KeptRefusal>,
     /// Each refusal is there. It isn't so where none is to be kept, or memory ran out for one.
     pub is_whole: bool,
@@ -81,12 +81,12 @@ fn remark_of(kept: &KeptRefusal) -> Remark<'_>
     }
 }
 
-impl Kept {
+impl KeptRefusals {
     /// None, where they are to be kept or not.
-    pub(crate) fn new(alloc: Global, keeps: bool) -> Kept
+    pub(crate) fn new(alloc: Global, keeps: bool) -> KeptRefusals
         ensures { HoldsAll result [] }
     {
-        Kept {
+        KeptRefusals {
             refusals: Vec::new(alloc),
             is_whole: keeps,
         }

@@ -6,14 +6,14 @@ ghost use Rattle.comment_faults.specs.CommentFaults.{fault_view};
 ghost use Rattle.lint_forms.specs.Forms.{module_text};
 ghost use Rattle.tree_lint.specs.Parted.{parted};
 ghost use Rattle.tree_lint.specs.Refusals.{refusal_line, refusal_view};
-ghost use Rattle.tree_lint.specs.Kept.{KeepsAll};
+ghost use Rattle.tree_lint.specs.KeptRefusals.{KeepsAll};
 ghost use Rattle.tree_lint.specs.Runs.{comment_line, linted_output, remarks_by, report_of};
 ghost use Rattle.tree_lint.specs.Verdicts.{names_in, no_memory, too_many};
 ghost use Rattle.tree_lint.specs.Inner.Showing.{HasOrNoMemory, Shows, linted_view, refused};
 
 use crate::counts::Ended;
 use crate::issue_remarks::{linted_text, name_of};
-use crate::kept::Kept;
+use crate::kept::KeptRefusals;
 use crate::linted::Linted;
 use crate::module_lines::ModuleLines;
 use crate::refusal::{Refusal, tell_comment, tell_refusal};
@@ -112,7 +112,7 @@ pub(crate) fn refuse<E: ByteSink>(
     alloc: Global,
     refusal: Refusal<'_>,
     err: &mut E,
-    kept: &mut Kept,
+    kept: &mut KeptRefusals,
 ) -> Ended
     requires { E.failed err.old ≡ false }
     ensures took { Took (writer E.ByteSink err.old err.new)
@@ -217,7 +217,7 @@ fn show_some<O: ByteSink, E: ByteSink>(
     one: &Module,
     linted: Linted<'_, '_>,
     streams: &mut Streams<O, E>,
-    kept: &mut Kept,
+    kept: &mut KeptRefusals,
 ) -> Ended
     requires out { O.failed streams.old.out ≡ false }
     requires err { E.failed streams.old.err ≡ false }
@@ -245,7 +245,7 @@ pub(crate) fn show<O: ByteSink, E: ByteSink>(
     one: &Module,
     linted: Linted<'_, '_>,
     streams: &mut Streams<O, E>,
-    kept: &mut Kept,
+    kept: &mut KeptRefusals,
 ) -> Ended
     requires out { O.failed streams.old.out ≡ false }
     requires err { E.failed streams.old.err ≡ false }

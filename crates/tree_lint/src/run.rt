@@ -11,7 +11,7 @@ ghost use Rattle.tree_lint.specs.Inner.Showing.{Shows};
 
 use crate::counts::{Counts, Ended};
 use crate::gather::{Gathered, gather};
-use crate::kept::Kept;
+use crate::kept::KeptRefusals;
 use crate::module_tree::ModuleTree;
 use crate::policy::{Governed, Policy};
 use crate::report::{REFUSED, no_memory, refuse, show, too_many};
@@ -41,7 +41,7 @@ fn lint_files<T: Tree + Drop, O: ByteSink, E: ByteSink>(
     one: &Module,
     files: &mut ModuleTree<T>,
     streams: &mut Streams<O, E>,
-    kept: &mut Kept,
+    kept: &mut KeptRefusals,
 ) -> Ended
     requires readable { CanBeRead one.now }
     requires back { has_reader_out files.old ≡ false }
@@ -77,7 +77,7 @@ fn lint_one<T: Tree + Drop, O: ByteSink, E: ByteSink>(
     one: &Module,
     files: &mut ModuleTree<T>,
     streams: &mut Streams<O, E>,
-    kept: &mut Kept,
+    kept: &mut KeptRefusals,
 ) -> Ended
     requires back { has_reader_out files.old ≡ false }
     requires out { O.failed streams.old.out ≡ false }
@@ -131,12 +131,12 @@ pub struct RunEnd {
     /// Whether any of what was found went to standard output, unless a write failed.
     pub has_output: bool,
     /// Why modules are refused, for the end of a form, unless a write failed.
-    pub kept: Kept,
+    pub kept: KeptRefusals,
 }
 
 impl RunEnd {
     /// How a run ends in which a write failed.
-    fn cut(counts: Counts, kept: Kept) -> RunEnd
+    fn cut(counts: Counts, kept: KeptRefusals) -> RunEnd
         ensures { result.status ≡ 1 }
     {
         RunEnd {
@@ -167,7 +167,7 @@ fn run_all<T: Tree + Drop, O: ByteSink, E: ByteSink>(
     let mut status = 0;
     let mut has_output = false;
     let mut counts = Counts::new();
-    let mut kept = Kept::new(alloc, manner.form.is_some());
+    let mut kept = KeptRefusals::new(alloc, manner.form.is_some());
     for one in modules {
         let task = Task {
             policy: one.policy,
@@ -211,7 +211,7 @@ pub fn run_over<T: Tree + Drop, O: ByteSink, E: ByteSink>(
     ensures leaves { Leaves T.Tree files.old files.new }
 {
     if let Err(_fault) = write_fully(&mut streams.out, written.head) {
-        return RunEnd::cut(Counts::new(), Kept::new(alloc, false));
+        return RunEnd::cut(Counts::new(), KeptRefusals::new(alloc, false));
     }
     run_all(alloc, written.manner, modules, files, streams)
 }

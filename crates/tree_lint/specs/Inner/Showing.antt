@@ -5,13 +5,13 @@ use Rattle.comment_faults.specs.declared.fault.CommentFault as found
 use Rattle.command_line.specs.Rows.{Took, Writer}
 use Rattle.file_tree.specs.Files.{Name}
 use Rattle.module_find.specs.declared.module.Module.{Module}
-use Rattle.tree_lint.specs.Kept.{KeepsAll}
+use Rattle.tree_lint.specs.KeptRefusals.{KeepsAll}
 use Rattle.tree_lint.specs.Numbers.{issue_count}
 use Rattle.tree_lint.specs.Refusals.{refusal_line}
 use Rattle.tree_lint.specs.Runs.{is_shown, refusals_of, verdict_message, verdict_output, verdict_status}
 use Rattle.tree_lint.specs.Verdicts.{Linted, Verdict, no_memory}
 use Rattle.tree_lint.specs.declared.counts.Ended.{Ended}
-use Rattle.tree_lint.specs.declared.kept.Kept.{Kept}
+use Rattle.tree_lint.specs.declared.kept.KeptRefusals.{KeptRefusals}
 use Rattle.tree_lint.specs.declared.linted.Linted as code
 use Rattle.tree_lint.specs.declared.run.Task.{Task}
 
@@ -23,7 +23,7 @@ abbrev pub is_nothing : Linted → Bool
 is_nothing l = (length l.issues == 0) && (length l.comments == 0)
 
 -- a verdict of which this holds is shown, and told
-pub record Shows (task : Task) (m : Module) (P : Verdict → Type 0) (out err : Writer) (before after : Kept) (ended : Ended) : Type 0 where
+pub record Shows (task : Task) (m : Module) (P : Verdict → Type 0) (out err : Writer) (before after : KeptRefusals) (ended : Ended) : Type 0 where
   pub verdict : Verdict
   pub holds : P verdict
   pub output : Took out (verdict_output task.manner task.is_after m verdict)

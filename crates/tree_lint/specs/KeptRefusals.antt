@@ -5,7 +5,7 @@ use Rattle.hcl_source.specs.declared.fault.Position.{Position}
 use Rattle.lint_forms.specs.Remarks.{Remark}
 use Rattle.lint_forms.specs.declared.subject.Subject.TheVariants as subject
 use Rattle.tree_lint.specs.Refusals.{Refusal}
-use Rattle.tree_lint.specs.declared.kept.Kept.{Kept}
+use Rattle.tree_lint.specs.declared.kept.KeptRefusals.{KeptRefusals}
 use Rattle.tree_lint.specs.declared.kept.KeptRefusal.{KeptRefusal}
 
 -- what has no place in its file stands at 1:1
@@ -26,9 +26,9 @@ abbrev pub kept_remark : KeptRefusal → Remark
 kept_remark k = record { file = string_bytes k.name; line = k.line; column = k.column; subject = subject.Refusal; text = string_bytes k.text }
 
 -- these are kept, and no others, unless one is missing
-abbrev pub HoldsAll : Kept → List Refusal → Type 0
+abbrev pub HoldsAll : KeptRefusals → List Refusal → Type 0
 HoldsAll kept rs = kept.is_whole ≡ true → map kept_remark kept.refusals.items ≡ map refusal_remark rs
 
 -- these are kept beside others, unless one is missing
-abbrev pub KeepsAll : Kept → Kept → List Refusal → Type 0
+abbrev pub KeepsAll : KeptRefusals → KeptRefusals → List Refusal → Type 0
 KeepsAll old new rs = new.is_whole ≡ true → (old.is_whole ≡ true) × (map kept_remark new.refusals.items ≡ map kept_remark old.refusals.items ++ map refusal_remark rs)
