@@ -32,7 +32,7 @@ use Rattle.tree_lint.specs.declared.kept.KeptRefusals.{KeptRefusals}
 use Rattle.tree_lint.specs.declared.run.RunEnd.{RunEnd}
 use Rattle.tree_lint.specs.declared.written.Manner.{Manner}
 use Rattle.tree_lint.specs.declared.written.Terminals.{Terminals}
-use Rattle.lint_command.specs.Explained.{explained, rule_list}
+use Rattle.lint_command.specs.Explained.{explanation_of, rule_list}
 use Rattle.lint_command.specs.Line.{Request, Job, request_of_texts, tfrules_all}
 use Rattle.lint_command.specs.LinterWords.{linter_words}
 use Rattle.lint_command.specs.declared.usage.Usage.{Usage}
@@ -197,7 +197,7 @@ abbrev pub usage_row : List Text → Usage → Row
 usage_row texts Help = output_row help_text 0
 usage_row texts Version = output_row version_line 0
 usage_row texts ListRules = output_row rule_list 0
-usage_row texts (Explain rule) = output_row (explained rule) 0
+usage_row texts (Explain rule) = output_row (explanation_of rule) 0
 usage_row texts BadLine = message_row (bad_line_words linter_words texts) 1
 usage_row texts UnknownRule = wrong_value (codes "unknown rule ") (unknown_in (value_in texts (codes "rules")))
 usage_row texts UnknownExplained = wrong_value (codes "unknown rule ") (value_in texts (codes "explain"))

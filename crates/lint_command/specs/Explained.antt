@@ -22,8 +22,8 @@ why_and_how rule =
     ++ (rule_name rule ++ codes "\n")))
 
 -- WHAT IS SAID OF A RULE
-abbrev pub explained : Rule → List ℕ
-explained rule = rule_line rule ++ why_and_how rule
+abbrev pub explanation_of : Rule → List ℕ
+explanation_of rule = rule_line rule ++ why_and_how rule
 
 -- THE LIST OF THE RULES, in the order of their names
 abbrev pub rule_list : List ℕ

@@ -2,7 +2,7 @@
 
 ghost use Rattle.std.specs.Prelude.{◌≡◌, ◌++◌, IfOk, OnOk, flat_map, string_bytes};
 ghost use Rattle.rule_set.specs.Rules.{is_recommended};
-ghost use Rattle.lint_command.specs.Explained.{default_word, explained, rule_line, rule_list, why_and_how};
+ghost use Rattle.lint_command.specs.Explained.{default_word, explanation_of, rule_line, rule_list, why_and_how};
 
 use lint_forms::rule_texts::{reason, reports};
 use rule_set::{ALL_RULES, Rule, RuleSet};
@@ -46,8 +46,8 @@ fn why_and_how(alloc: Global, rule: Rule) -> Result<String, AllocError>
 }
 
 /// What is said of a rule.
-pub(crate) fn explained(alloc: Global, rule: Rule) -> Result<String, AllocError>
-    ensures { IfOk result (λ text. string_bytes text ≡ explained rule) }
+pub(crate) fn explanation_of(alloc: Global, rule: Rule) -> Result<String, AllocError>
+    ensures { IfOk result (λ text. string_bytes text ≡ explanation_of rule) }
 {
     let mut text = rule_line(alloc, rule)?;
     let more = why_and_how(alloc, rule)?;

@@ -6,7 +6,7 @@ ghost use Rattle.lint_command.specs.Ends.{ShowsUsage};
 ghost use Rattle.tree_lint.specs.Refusals.{tree_linter};
 ghost use Rattle.lint_command.specs.declared.usage.Usage.TheVariants.{BadLine, Explain, ListRules};
 
-use crate::explain::{explained, rule_list};
+use crate::explain::{explanation_of, rule_list};
 use crate::linter_words::linter_words;
 use crate::usage::{HELP, Usage, VERSION};
 use crate::wrong_value::{unknown_rule, wrong_value};
@@ -82,7 +82,7 @@ fn explain<O: ByteSink, E: ByteSink>(alloc: Global, rule: Rule, streams: &mut St
     ensures { (texts : List (List ℕ)) → ShowsUsage texts (Explain rule)
         (end_of_streams O.ByteSink E.ByteSink streams.old streams.new result) }
 {
-    match explained(alloc, rule) {
+    match explanation_of(alloc, rule) {
         Ok(text) => streams.deliver(&tree_linter(), text.as_str(), 0),
         Err(_) => streams.tell_out_of_memory(&tree_linter()),
     }

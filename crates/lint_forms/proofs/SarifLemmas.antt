@@ -6,7 +6,7 @@ use Rattle.rule_set.specs.Rules.{all_rules, rule_name}
 use Rattle.rule_set.specs.declared.rule.Rule.{Rule}
 use Rattle.lint_forms.specs.Inner.SarifParts.{results_head, rules_tokens, sarif_start}
 use Rattle.lint_forms.specs.RuleTexts.{reason, reports}
-use Rattle.lint_forms.specs.Sarif.{comment_json, described, full_text, page_of, refusal_json, rule_json, sarif_head}
+use Rattle.lint_forms.specs.Sarif.{comment_json, described_rule, full_text, page_of, refusal_json, rule_json, sarif_head}
 use Rattle.lint_forms.specs.Values.{json_items}
 use Rattle.lint_forms.specs.Words.{level_word}
 use Rattle.lint_forms.specs.declared.subject.Subject.TheVariants as subject
@@ -49,8 +49,8 @@ head_tokens version = joined version all_rules
 -- ---- the description of a rule
 
 pub rule_by : (rule : Rule) (n s f w p l : List ℕ) → n ≡ rule_name rule → s ≡ reports rule → f ≡ full_text s w → w ≡ reason rule → p ≡ page_of n → l ≡ level_word (subject.Rule rule)
-    → json_tokens (described n s f w p l) ≡ json_tokens (rule_json rule)
+    → json_tokens (described_rule n s f w p l) ≡ json_tokens (rule_json rule)
 rule_by rule n s f w p l en es ef ew ep el =
     let full : f ≡ full_text (reports rule) (reason rule) = ef ∙ (λ i. full_text (es i) (ew i)) in
     let page : p ≡ page_of (rule_name rule) = ep ∙ ap page_of en in
-    λ i. json_tokens (described (en i) (es i) (full i) (ew i) (page i) (el i))
+    λ i. json_tokens (described_rule (en i) (es i) (full i) (ew i) (page i) (el i))

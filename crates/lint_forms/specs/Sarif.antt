@@ -28,8 +28,8 @@ abbrev pub help_json : List ℕ → List ℕ → Json
 help_json text markdown = object (member (codes "text") (string text) (member (codes "markdown") (string markdown) no_members))
 
 -- a rule of this name: its reports, its reports with the reason, the reason, its page, and its level
-abbrev pub described : List ℕ → List ℕ → List ℕ → List ℕ → List ℕ → List ℕ → Json
-described name short full why page level =
+abbrev pub described_rule : List ℕ → List ℕ → List ℕ → List ℕ → List ℕ → List ℕ → Json
+described_rule name short full why page level =
     object (member (codes "id") (string name) (member (codes "shortDescription") (text_json short) (member (codes "fullDescription") (text_json full)
     (member (codes "help") (help_json full why) (member (codes "helpUri") (string page) (member (codes "defaultConfiguration") (configuration_json level) no_members))))))
 
@@ -41,7 +41,7 @@ abbrev pub page_of : List ℕ → List ℕ
 page_of name = codes "https://github.com/terraform-linters/tflint-ruleset-terraform/blob/main/docs/rules/" ++ (name ++ codes ".md")
 
 abbrev pub rule_json : Rule → Json
-rule_json rule = described (rule_name rule) (reports rule) (full_text (reports rule) (reason rule)) (reason rule) (page_of (rule_name rule)) (level_word (subject.Rule rule))
+rule_json rule = described_rule (rule_name rule) (reports rule) (full_text (reports rule) (reason rule)) (reason rule) (page_of (rule_name rule)) (level_word (subject.Rule rule))
 
 -- the substitute for a rule, with less text: its name and its text
 abbrev pub briefly : List ℕ → List ℕ → Json

@@ -78,7 +78,7 @@ pub fn module_text(
 }
 
 /// A text with these bytes appended.
-fn closed(text: Vec<u8>, end: &str) -> Result<Vec<u8>, AllocError>
+fn with_end(text: Vec<u8>, end: &str) -> Result<Vec<u8>, AllocError>
     ensures { IfOk result (λ l. l.items ≡ text.items ++ end.now) }
 {
     let mut longer = text;
@@ -103,8 +103,8 @@ pub fn foot(
             values_of(alloc, Shape::SarifResult, is_after, refusals)?,
             status,
         ),
-        Form::Checkstyle => closed(module_files(alloc, refusals)?, "</checkstyle>\n"),
-        Form::Junit => closed(last_suite(alloc, is_after, refusals)?, "</testsuites>\n"),
+        Form::Checkstyle => with_end(module_files(alloc, refusals)?, "</checkstyle>\n"),
+        Form::Junit => with_end(last_suite(alloc, is_after, refusals)?, "</testsuites>\n"),
         Form::Gitlab => {
             gitlab::with_foot(values_of(alloc, Shape::GitlabEntry, is_after, refusals)?)
         }

@@ -8,7 +8,7 @@ ghost use Rattle.lint_forms.specs.Inner.AddsTokens.{AddsTokens};
 ghost use Rattle.lint_forms.specs.Inner.Shapes.{entry_by};
 ghost use Rattle.lint_forms.specs.Inner.SarifParts.{results_head, rules_tokens, sarif_start};
 ghost use Rattle.lint_forms.specs.Remarks.{said_by};
-ghost use Rattle.lint_forms.specs.Sarif.{briefly, described, full_text, page_of, result_by, result_json, rule_index, rule_json, sarif_foot, sarif_head};
+ghost use Rattle.lint_forms.specs.Sarif.{briefly, described_rule, full_text, page_of, result_by, result_json, rule_index, rule_json, sarif_foot, sarif_head};
 ghost use Rattle.lint_forms.specs.Values.{json_text};
 ghost use Rattle.lint_forms.specs.Words.{level_word, rule_id};
 
@@ -141,7 +141,7 @@ struct Described<'a> {
 /// The document's description of a rule, by these texts.
 fn write_described(writer: &mut Writer, rule: Described<'_>) -> Result<(), AllocError>
     ensures { AddsTokens result writer.old writer.new (json_tokens
-        (described rule.entry.name.now rule.entry.short.now rule.entry.full.now rule.entry.why.now
+        (described_rule rule.entry.name.now rule.entry.short.now rule.entry.full.now rule.entry.why.now
         rule.entry.page.now rule.entry.level.now)) }
 {
     write_parts(
@@ -189,7 +189,7 @@ fn write_rule(alloc: Global, writer: &mut Writer, rule: Rule) -> Result<(), Allo
     let full = full_text(alloc, short, why)?;
     let page = page_of(alloc, name)?;
     let level = level_word(Subject::Rule(rule));
-    let described = Described {
+    let described_rule = Described {
         name,
         short,
         full: full.as_str(),
@@ -197,7 +197,7 @@ fn write_rule(alloc: Global, writer: &mut Writer, rule: Rule) -> Result<(), Allo
         page: page.as_str(),
         level,
     };
-    write_described(writer, described)
+    write_described(writer, described_rule)
 }
 
 /// The document's description of a rule's substitute, by this name and text.

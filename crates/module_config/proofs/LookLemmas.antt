@@ -15,7 +15,7 @@ use Rattle.file_tree.specs.declared.fault.TreeFault.{TreeFault}
 use Rattle.file_tree.specs.declared.fault.TreeFault.TheVariants.{Missing}
 use Rattle.file_tree.specs.declared.walk.Found.{Found}
 use Rattle.file_tree.proofs.FileLemmas.{none_noted}
-use Rattle.module_config.specs.Governs.{Governs, IsFirst, counted, file_at, ups, ups_to}
+use Rattle.module_config.specs.Governs.{Governs, IsFirst, counted_folders, file_at, ups, ups_to}
 use Rattle.module_config.specs.Governors.{FailsAt, IsAsked, IsGovernor, OnlyMissing, shown_from}
 use Rattle.module_config.specs.Inner.Looking.{IsAskedIn, IsEntryOf, IsUnknownBy, LooksFirst, LooksUp, StuckBy, up_at}
 use Rattle.module_config.specs.declared.governor.Governor.{Governor}
@@ -110,7 +110,7 @@ entry_stuck entry folders n folder name lt at e = (get_or folders n [], Contains
 all_at : (P : Name → Type 0) (xs : List Name) (x : Name) → All P xs → Contains xs x → P x
 all_at P xs x all c = subst P c.2 (all c.0 x c.1)
 
-pub among : (current : Name) (folders : List Name) (top : ℕ) (f : Name) → Contains (counted current folders top) f → Contains folders f
+pub among : (current : Name) (folders : List Name) (top : ℕ) (f : Name) → Contains (counted_folders current folders top) f → Contains folders f
 among current folders top f c = by (nat_lt top (length folders)) c
   where
     own : Name → Bool
@@ -123,13 +123,13 @@ among current folders top f c = by (nat_lt top (length folders)) c
 pub git_asked : (path : Name) (folders : List Name) → folders ≡ ups path → (name : Name) → IsEntryOf (codes ".git") folders name → IsAskedIn path name
 git_asked path folders e name h = (h.0, subst (λ l. Contains l h.0) e h.1, inl h.2)
 
-pub file_asked : (path current : Name) (folders kept : List Name) (top : ℕ) → folders ≡ ups path → kept ≡ counted current folders top → (name : Name) → IsEntryOf (codes ".tfrules") kept name → IsAskedIn path name
+pub file_asked : (path current : Name) (folders kept : List Name) (top : ℕ) → folders ≡ ups path → kept ≡ counted_folders current folders top → (name : Name) → IsEntryOf (codes ".tfrules") kept name → IsAskedIn path name
 file_asked path current folders kept top e k name h = (h.0, subst (λ l. Contains l h.0) e (among current folders top h.0 (subst (λ l. Contains l h.0) k h.1)), inr h.2)
 
-pub all_kept : (current : Name) (folders kept shown : List Name) (top : ℕ) → shown ≡ folders → kept ≡ counted current shown top → kept ≡ counted current folders top
-all_kept current folders kept shown top e k = k ∙ ap (λ l. counted current l top) e
+pub all_kept : (current : Name) (folders kept shown : List Name) (top : ℕ) → shown ≡ folders → kept ≡ counted_folders current shown top → kept ≡ counted_folders current folders top
+all_kept current folders kept shown top e k = k ∙ ap (λ l. counted_folders current l top) e
 
-pub governs : (files : Files) (current path : Name) (folders kept : List Name) (top at : ℕ) (file : Option Name) (was between is : Faults) → folders ≡ ups path → kept ≡ counted current folders top → LooksFirst files (codes ".git") folders was between top
+pub governs : (files : Files) (current path : Name) (folders kept : List Name) (top at : ℕ) (file : Option Name) (was between is : Faults) → folders ≡ ups path → kept ≡ counted_folders current folders top → LooksFirst files (codes ".git") folders was between top
     → LooksFirst files (codes ".tfrules") kept between is at → file ≡ file_at kept at → OnlyMissing was is × Governs files current path file
 governs files current path folders kept top at file was between is e k first second f = (
   missing_then was between is first.0 second.0,
@@ -137,8 +137,8 @@ governs files current path folders kept top at file was between is e k first sec
     top = top;
     is_top = subst (λ l. IsFirst files (codes ".git") l top) e first.1;
     at = at;
-    is_at = subst (λ l. IsFirst files (codes ".tfrules") l at) (k ∙ ap (λ l. counted current l top) e) second.1;
-    is = f ∙ ap (λ l. file_at l at) (k ∙ ap (λ l. counted current l top) e);
+    is_at = subst (λ l. IsFirst files (codes ".tfrules") l at) (k ∙ ap (λ l. counted_folders current l top) e) second.1;
+    is = f ∙ ap (λ l. file_at l at) (k ∙ ap (λ l. counted_folders current l top) e);
   },
 )
 
@@ -169,7 +169,7 @@ when true a b e = refl
 when false a b e = absurd (cc)
 
 pub counted_top : (current : Name) (folders kept : List (Bor (List ℕ))) (top n : ℕ) → n ≡ length folders → top < n → kept ≡ take (top + 1) folders
-    → map (λ (f : Bor (List ℕ)). f.now) kept ≡ counted current (map (λ (f : Bor (List ℕ)). f.now) folders) top
+    → map (λ (f : Bor (List ℕ)). f.now) kept ≡ counted_folders current (map (λ (f : Bor (List ℕ)). f.now) folders) top
 counted_top current folders kept top n e lt is =
     let within : top < length (map (λ (f : Bor (List ℕ)). f.now) folders) = omega (arith, e, lt, length-map folders (λ (f : Bor (List ℕ)). f.now)) in
     ap (map (λ (f : Bor (List ℕ)). f.now)) is ∙ sym (take-map (λ (f : Bor (List ℕ)). f.now) (top + 1) folders) ∙ sym (when (nat_lt top (length (map (λ (f : Bor (List ℕ)). f.now) folders))) _ _ (lt-ltb _ _ within))

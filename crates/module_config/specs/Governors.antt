@@ -17,7 +17,7 @@ use Rattle.module_config.specs.declared.start.Start.TheVariants as start
 
 -- no call failed, except that some names don't exist
 abbrev pub OnlyMissing : Faults → Faults → Type 0
-OnlyMissing was is = (noted : List TreeFault) × All (λ fault. fault ≡ Missing) noted × (is ≡ with_faults was noted)
+OnlyMissing was is = (named_fault : List TreeFault) × All (λ fault. fault ≡ Missing) named_fault × (is ≡ with_faults was named_fault)
 
 -- then one call failed, for this name
 abbrev pub FailsAt : Faults → Faults → Found → Type 0

@@ -22,8 +22,8 @@ pub record IsFirst (files : Files) (entry : Name) (folders : List Name) (n : ℕ
 
 -- the folders whose `.tfrules` counts: up to the top of the repository, which is the first that has `.git`; if none
 -- has, the folder itself, and those that aren't above the current one
-abbrev pub counted : Name → List Name → ℕ → List Name
-counted current folders top =
+abbrev pub counted_folders : Name → List Name → ℕ → List Name
+counted_folders current folders top =
     if nat_lt top (length folders) then take (top + 1) folders else filter (λ folder. bytes_eq folder (get_or folders 0 []) || begins current folder) folders
 
 abbrev pub file_at : List Name → ℕ → Option Name
@@ -34,5 +34,5 @@ pub record Governs (files : Files) (current folder : Name) (governor : Option Na
   pub top : ℕ
   pub is_top : IsFirst files (codes ".git") (ups folder) top
   pub at : ℕ
-  pub is_at : IsFirst files (codes ".tfrules") (counted current (ups folder) top) at
-  pub is : governor ≡ file_at (counted current (ups folder) top) at
+  pub is_at : IsFirst files (codes ".tfrules") (counted_folders current (ups folder) top) at
+  pub is : governor ≡ file_at (counted_folders current (ups folder) top) at

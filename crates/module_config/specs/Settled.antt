@@ -39,8 +39,8 @@ first_said None own default = unwrap_or own default
 abbrev pub default_rules : List Rule
 default_rules = filter is_recommended all_rules
 
-abbrev pub settled : Options → Options → Wanted
-settled line own = record {
+abbrev pub policy_of : Options → Options → Wanted
+policy_of line own = record {
   asked = record { rules = first_said line.rules own.rules default_rules; naming = first_said line.naming own.naming SnakeCase };
   minimum = first_said line.minimum own.minimum Notice;
   force = line.force || own.force;
@@ -61,8 +61,8 @@ said_in files name = good_file (find (λ file. bytes_eq name file.name.items) fi
 
 -- THE OPTIONS by which a module is linted, unless its governor isn't known or is bad
 abbrev pub wanted_by : Options → List ConfigFile → Governor → Option Wanted
-wanted_by line files governor.Free = Some (settled line nothing)
-wanted_by line files (governor.File name) = option_map (settled line) (said_in files name.items)
+wanted_by line files governor.Free = Some (policy_of line nothing)
+wanted_by line files (governor.File name) = option_map (policy_of line) (said_in files name.items)
 wanted_by line files (governor.Unknown f) = None
 
 abbrev pub with_wanted : Module → Option Wanted → List (Module × Wanted)

@@ -9,7 +9,7 @@ ghost use Rattle.module_config.specs.Governors.{ArePlaced, wants};
 ghost use Rattle.module_config.specs.Inner.Reading.{AddsPlaced};
 
 use crate::config_file::{ConfigFile, read_all};
-use crate::governor::{Governor, Placed, governor_of, noted, wants};
+use crate::governor::{Governor, Placed, governor_of, named_fault, wants};
 use crate::policy::governed_of;
 use crate::start::Start;
 use file_tree::fault::TreeFault;
@@ -105,7 +105,7 @@ fn add_noted(
     ensures { OnOk result (map noted_of all.new.items
         ≡ map noted_of all.old.items ++ (name.now, fault) ∷ []) }
 {
-    let found = noted(alloc, name, fault)?;
+    let found = named_fault(alloc, name, fault)?;
     match all.push(found) {
         Ok(()) => Ok(()),
         Err(_) => Err(AllocError),

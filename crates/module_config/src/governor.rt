@@ -4,7 +4,7 @@ ghost use Rattle.std.specs.Prelude.{◌≡◌, ◌++◌, ◌∷◌, [], IfErr, I
 ghost use Rattle.file_tree.specs.Files.{Tells};
 ghost use Rattle.file_tree.specs.Paths.{place};
 ghost use Rattle.file_tree.specs.Unchanged.{Unchanged};
-ghost use Rattle.module_config.specs.Governs.{Governs, counted, file_at};
+ghost use Rattle.module_config.specs.Governs.{Governs, counted_folders, file_at};
 ghost use Rattle.module_config.specs.Governors.{IsGovernor, IsNoted, IsPlaced, OnlyMissing, wants};
 ghost use Rattle.module_config.specs.declared.first.Stuck.TheVariants.{OutOfMemory};
 ghost use Rattle.module_config.specs.Inner.Looking.{IsAskedIn, IsStuckOf, IsUnknownBy, StuckBy, counts};
@@ -38,7 +38,7 @@ pub struct Placed {
 }
 
 /// A name, and why it can't be looked at, if it can't.
-pub(crate) fn noted(
+pub(crate) fn named_fault(
     alloc: Global,
     name: &[u8],
     fault: Option<TreeFault>,
@@ -58,7 +58,7 @@ pub(crate) fn noted(
 fn failed_of(alloc: Global, name: &[u8], fault: TreeFault) -> Stuck
     ensures { IsStuckOf name.now fault result }
 {
-    match noted(alloc, name, Some(fault)) {
+    match named_fault(alloc, name, Some(fault)) {
         Ok(found) => Stuck::Failed(found),
         Err(_) => Stuck::OutOfMemory,
     }
@@ -124,14 +124,14 @@ fn all_counted<'p>(
 }
 
 /// The folders whose `.tfrules` counts.
-fn counted<'p>(
+fn counted_folders<'p>(
     alloc: Global,
     current: &[u8],
     mut folders: Vec<&'p [u8]>,
     top: usize,
 ) -> Result<Vec<&'p [u8]>, AllocError>
     ensures { IfOk result (λ kept. map (λ folder. folder.now) kept.items
-        ≡ counted current.now (map (λ folder. folder.now) folders.entry.items) top) }
+        ≡ counted_folders current.now (map (λ folder. folder.now) folders.entry.items) top) }
 {
     if top < folders.as_slice().len() {
         folders.truncate(top + 1);
@@ -187,7 +187,7 @@ fn file_over<T: Tree>(
         Ok(top) => top,
         Err(stuck) => return Err(stuck),
     };
-    let Ok(folders) = counted(alloc, current, folders, top) else {
+    let Ok(folders) = counted_folders(alloc, current, folders, top) else {
         return Err(Stuck::OutOfMemory);
     };
     match first_with(alloc, folders.as_slice(), b".tfrules", tree) {
@@ -251,7 +251,7 @@ pub(crate) fn governor_of<T: Tree>(
     }
     match start {
         Start::Unneeded => Ok(Governor::Free),
-        Start::Unknown(fault) => Ok(Governor::Unknown(noted(alloc, b"./", Some(*fault))?)),
+        Start::Unknown(fault) => Ok(Governor::Unknown(named_fault(alloc, b"./", Some(*fault))?)),
         Start::At(current) => governor_over(alloc, current.as_slice(), one.folder.as_slice(), tree),
     }
 }

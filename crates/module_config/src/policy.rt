@@ -5,7 +5,7 @@ ghost use Rattle.std.specs.Str.{bytes_eq};
 ghost use Rattle.rule_set.specs.RuleSets.{rules_of};
 ghost use Rattle.lint_config.specs.Lines.{nothing};
 ghost use Rattle.lint_config.specs.Options.{options_of};
-ghost use Rattle.module_config.specs.Settled.{default_rules, first_said, good_text, governed_in, paired, said_in, settled, wanted_by, wanted_of};
+ghost use Rattle.module_config.specs.Settled.{default_rules, first_said, good_text, governed_in, paired, said_in, policy_of, wanted_by, wanted_of};
 
 use crate::config_file::{ConfigFile, ConfigText};
 use crate::governor::{Governor, Placed};
@@ -47,8 +47,8 @@ fn first_said<A: Copy>(line: Option<A>, own: Option<A>, default: A) -> A
 }
 
 /// The options of a module from those of the line and of the file.
-pub fn settled(line: Said, own: Said) -> Policy
-    ensures { wanted_of result ≡ settled (options_of line) (options_of own) }
+pub fn policy_of(line: Said, own: Said) -> Policy
+    ensures { wanted_of result ≡ policy_of (options_of line) (options_of own) }
 {
     let rules = rules_by(line.rules, own.rules);
     let naming = first_said(line.naming, own.naming, Naming::SnakeCase);
@@ -94,9 +94,9 @@ fn policy_by(line: Said, files: &[ConfigFile], governor: &Governor) -> Option<Po
     ensures { option_map wanted_of result ≡ wanted_by (options_of line) files.now governor.now }
 {
     match governor {
-        Governor::Free => Some(settled(line, NOTHING)),
+        Governor::Free => Some(policy_of(line, NOTHING)),
         Governor::File(name) => match said_in(files, name.as_slice()) {
-            Some(said) => Some(settled(line, said)),
+            Some(said) => Some(policy_of(line, said)),
             None => None,
         },
         Governor::Unknown(_) => None,

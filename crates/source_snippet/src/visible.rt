@@ -70,7 +70,7 @@ fn before_column(line: &str, column: u32) -> &str
 }
 
 /// Appends a text for which there is room.
-fn put(snippet: &mut Snippet, text: &[u8])
+fn push(snippet: &mut Snippet, text: &[u8])
     requires { length snippet.old.items + length text.now ≤ MOST_SHOWN }
     ensures { snippet.new.items ≡ snippet.old.items ++ text.now }
 {
@@ -95,10 +95,10 @@ pub fn with_caret(line: &str, column: u32) -> Snippet
     let shown = visible(line);
     let before = visible(before_column(line, column));
     let mut snippet = ArrayVec::new();
-    put(&mut snippet, b"  ");
-    put(&mut snippet, shown.as_str().as_bytes());
-    put(&mut snippet, b"\n  ");
+    push(&mut snippet, b"  ");
+    push(&mut snippet, shown.as_str().as_bytes());
+    push(&mut snippet, b"\n  ");
     put_blanks(&mut snippet, before.as_str().width());
-    put(&mut snippet, b"^\n");
+    push(&mut snippet, b"^\n");
     snippet
 }

@@ -9,7 +9,7 @@ use std::io::ErrorKind;
 const LINKS: u32 = 40;
 
 /// The folder of a path, with the `/` at its end, and the name in it.
-pub fn parted(path: &str) -> (&str, &str) {
+pub fn split_path(path: &str) -> (&str, &str) {
     match path.rsplit_once('/') {
         Some((folder, name)) => (&path[..folder.len() + 1], name),
         None => ("", path),
@@ -28,7 +28,7 @@ fn target(rt: &HostRuntime, link: &str) -> Result<String, TreeFault> {
     let Some(target) = target.to_str() else {
         return Err(TreeFault::LinkNotUtf8);
     };
-    let (folder, _) = parted(link);
+    let (folder, _) = split_path(link);
     let folder = if target.starts_with('/') { "" } else { folder };
     match format!(in rt.alloc(); "{folder}{target}") {
         Ok(path) => Ok(path),
@@ -37,7 +37,7 @@ fn target(rt: &HostRuntime, link: &str) -> Result<String, TreeFault> {
 }
 
 /// A path to what a path leads to, whose last part is no link.
-pub fn followed(rt: &HostRuntime, path: &str) -> Result<String, TreeFault> {
+pub fn follow_links(rt: &HostRuntime, path: &str) -> Result<String, TreeFault> {
     let Ok(mut path) = String::from_str(rt.alloc(), path) else {
         return Err(TreeFault::OutOfMemory);
     };
@@ -53,14 +53,14 @@ pub fn followed(rt: &HostRuntime, path: &str) -> Result<String, TreeFault> {
 
 /// The path of the file that a linked path leads to, in a folder whose last part is no link.
 fn in_folder(rt: &HostRuntime, path: &str) -> Result<String, TreeFault> {
-    let (folder, name) = parted(path);
+    let (folder, name) = split_path(path);
     match folder.strip_suffix("/") {
         None | Some("") => match String::from_str(rt.alloc(), path) {
             Ok(path) => Ok(path),
             Err(_) => Err(TreeFault::OutOfMemory),
         },
         Some(bare) => {
-            let folder = followed(rt, bare)?;
+            let folder = follow_links(rt, bare)?;
             match format!(in rt.alloc(); "{folder}/{name}") {
                 Ok(path) => Ok(path),
                 Err(_) => Err(TreeFault::OutOfMemory),
@@ -71,7 +71,7 @@ fn in_folder(rt: &HostRuntime, path: &str) -> Result<String, TreeFault> {
 
 /// A path of the file that a name leads to, which is no link: the name itself where it is none.
 pub fn real_path(rt: &HostRuntime, name: &str) -> Result<String, TreeFault> {
-    let path = followed(rt, name)?;
+    let path = follow_links(rt, name)?;
     if path.as_str() == name {
         return Ok(path);
     }

@@ -3,7 +3,7 @@
 use crate::beside::{Beside, make};
 use crate::folder::{Folder, identity_of};
 use crate::in_place::{has_bytes, has_rest, write_over};
-use crate::link::parted;
+use crate::link::split_path;
 use crate::patient;
 use file_tree::fault::TreeFault;
 use file_tree::kind::Identity;
@@ -200,7 +200,7 @@ pub fn replace(
     began: Option<SystemTime>,
 ) -> Result<Replaced, TreeFault> {
     let front = folder.front();
-    let name = parted(origin.path).1;
+    let name = split_path(origin.path).1;
     let Ok(path) = format!(in rt.alloc(); "{front}{name}") else {
         return Err(TreeFault::OutOfMemory);
     };

@@ -2,7 +2,7 @@
 //! told from the others by where it stands, and a link to such a file goes with the name to which it leads.
 
 use crate::folder::identity_of;
-use crate::link::parted;
+use crate::link::split_path;
 use crate::patient;
 use file_tree::fault::TreeFault;
 use file_tree::kind::Identity;
@@ -27,7 +27,7 @@ pub struct SharedFiles {
 
 /// Where a path stands whose last part is no link.
 fn place_of(rt: &HostRuntime, path: &str) -> Result<Place, TreeFault> {
-    let (folder, name) = parted(path);
+    let (folder, name) = split_path(path);
     let folder = if folder.is_empty() { "./" } else { folder };
     let Ok(metadata) = patient::metadata(rt, folder) else {
         return Err(TreeFault::Unreadable);

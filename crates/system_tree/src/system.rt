@@ -5,7 +5,7 @@ ghost use Rattle.std.specs.Io.{ReadsAtMost};
 ghost use Rattle.file_tree.specs.Files.{silent};
 
 use crate::folder::{Folder, identity_of};
-use crate::link::{parted, real_path};
+use crate::link::{split_path, real_path};
 use crate::new_file::{Origin, Texts, replace};
 use crate::patient;
 use crate::shared::SharedFiles;
@@ -254,7 +254,7 @@ impl SystemTree {
         let path = if kind == Kind::Folder {
             path
         } else {
-            parted(path).0
+            split_path(path).0
         };
         let bare = path.strip_suffix("/").unwrap_or(path);
         if bare.is_empty() {
@@ -400,7 +400,7 @@ impl SystemTree {
         };
         let path = self.opened_path(name, opened)?;
         let path = path.as_str();
-        let place = parted(path).0;
+        let place = split_path(path).0;
         let Some(held) = self.held.take() else {
             let folder = Folder::open(&self.rt, place, self.linked.as_slice())?;
             return self.replace_at(path, folder, opened, texts, writing);

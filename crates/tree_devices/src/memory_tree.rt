@@ -385,7 +385,7 @@ impl<'a> MemoryTree<'a> {
     }
 
     /// Why a name can't be opened as a file, if it can't.
-    fn unopened(&self, name: &[u8]) -> Option<TreeFault> {
+    fn open_fault(&self, name: &[u8]) -> Option<TreeFault> {
         if let Some(Stands::Gone) = self.stands(name) {
             return Some(TreeFault::Missing);
         }
@@ -401,7 +401,7 @@ impl<'a> MemoryTree<'a> {
         ensures bytes { IfOk result (λ r. ⟦<MemoryReader as ByteSource>⟧.left r
             ≡ text_in self.now.files.items (real_in self.now.links.items name.now)) }
     {
-        if let Some(fault) = self.unopened(name) {
+        if let Some(fault) = self.open_fault(name) {
             return Err(fault);
         }
         let real = real_in(self.links.as_slice(), name);

@@ -20,7 +20,7 @@ use Rattle.tfrules_command.specs.Line.{max_files}
 use Rattle.tree_lint.specs.Faults.{fault_lines, refusal_by}
 use Rattle.tree_lint.specs.Inner.Showing.{HasOrNoMemory, Shows, is_nothing, refused}
 use Rattle.tree_lint.specs.KeptRefusals.{KeepsAll}
-use Rattle.tree_lint.specs.Parted.{parted}
+use Rattle.tree_lint.specs.Parted.{after_empty_line}
 use Rattle.tree_lint.specs.Refusals.{Refusal, refusal_line, refusal_of, reported_fault}
 use Rattle.tree_lint.specs.Runs.{comment_line, comment_remark, has_output, issue_remark, linted_output, remarks_by, report_of, verdict_message, verdict_output, verdict_status}
 use Rattle.tree_lint.specs.Verdicts.{CanBeRead, HaveFound, IsVerdict, Linted, StopsAt, Verdict, names_in, no_memory, stop_refusal, bytes_of_name, too_many}
@@ -125,8 +125,8 @@ map_twice f h [] = refl
 map_twice f h (x ∷ xs) = ap (λ l. f (h x) ∷ l) (map_twice f h xs)
 
 pub names_as : (shows : Bool) (m : Module) (is_after : Bool) (linted : Linted) (names : List (List ℕ)) (files : List (String Global)) → names ≡ map (λ name. quoted (string_bytes name)) files → files ≡ m.files.items
-    → parted is_after (report_of shows names linted) ≡ linted_output None shows is_after m linted
-names_as shows m is_after linted names files e same = ap (λ l. parted is_after (report_of shows l linted)) (e ∙ map_twice quoted string_bytes files ∙ ap (λ l. map quoted (map string_bytes l)) same)
+    → after_empty_line is_after (report_of shows names linted) ≡ linted_output None shows is_after m linted
+names_as shows m is_after linted names files e same = ap (λ l. after_empty_line is_after (report_of shows l linted)) (e ∙ map_twice quoted string_bytes files ∙ ap (λ l. map quoted (map string_bytes l)) same)
 
 -- in a form, nothing is written of no issue
 nothing_in_form : (form : Form) (is_after : Bool) → module_text form is_after [] ≡ []

@@ -2,7 +2,7 @@
 use Rattle.std.specs.Prelude.{ℕ, Bool, true, false, List, [], ◌∷◌}
 
 -- a text after others: an empty line stands before it, unless it is empty itself
-abbrev pub parted : Bool → List ℕ → List ℕ
-parted false text = text
-parted true [] = []
-parted true (b ∷ bs) = 10 ∷ b ∷ bs
+abbrev pub after_empty_line : Bool → List ℕ → List ℕ
+after_empty_line false text = text
+after_empty_line true [] = []
+after_empty_line true (b ∷ bs) = 10 ∷ b ∷ bs

@@ -18,7 +18,7 @@ use Rattle.tfrules_command.specs.Line.{Asking}
 use Rattle.tfrules_command.specs.Report.{issue_line, report, report_by, status}
 use Rattle.tree_lint.specs.KeptRefusals.{HoldsAll}
 use Rattle.tree_lint.specs.Numbers.{counts_of}
-use Rattle.tree_lint.specs.Parted.{parted}
+use Rattle.tree_lint.specs.Parted.{after_empty_line}
 use Rattle.tree_lint.specs.Refusals.{Refusal, refusal_line}
 use Rattle.tree_lint.specs.Verdicts.{IsVerdict, Linted, Verdict, names_in}
 use Rattle.tree_lint.specs.declared.policy.Governed.{Governed}
@@ -56,7 +56,7 @@ remarks_by names linted = map (issue_remark names) linted.issues ++ map (comment
 
 -- how what is found is written, after that of others or as the first: as a report of its issues, or in a form
 abbrev pub linted_output : Option Form → Bool → Bool → Module → Linted → List ℕ
-linted_output None shows is_after m linted = parted is_after (module_report shows m linted)
+linted_output None shows is_after m linted = after_empty_line is_after (module_report shows m linted)
 linted_output (Some form) shows is_after m linted = module_text form is_after (remarks_by (names_in m) linted)
 
 -- whether that isn't empty

@@ -4,7 +4,7 @@ ghost use Rattle.std.specs.Prelude.{◌≡◌, ◌∷◌, [], None, OnErr, OnOk,
 ghost use Rattle.command_line.specs.Rows.{Took, writer};
 ghost use Rattle.comment_faults.specs.CommentFaults.{fault_view};
 ghost use Rattle.lint_forms.specs.Forms.{module_text};
-ghost use Rattle.tree_lint.specs.Parted.{parted};
+ghost use Rattle.tree_lint.specs.Parted.{after_empty_line};
 ghost use Rattle.tree_lint.specs.Refusals.{refusal_line, refusal_view};
 ghost use Rattle.tree_lint.specs.KeptRefusals.{KeepsAll};
 ghost use Rattle.tree_lint.specs.Runs.{comment_line, linted_output, remarks_by, report_of};
@@ -57,7 +57,7 @@ fn show_parted<O: ByteSink, N: ShownNames>(
 )
     requires { O.failed out.old ≡ false }
     ensures { Took (writer O.ByteSink out.old out.new)
-        (parted true (report_of shows (N.names names.now) (linted_view linted.entry))) }
+        (after_empty_line true (report_of shows (N.names names.now) (linted_view linted.entry))) }
 {
     if linted.issues.is_empty() {
         return;
@@ -78,7 +78,7 @@ fn show_after<O: ByteSink, N: ShownNames>(
 )
     requires { O.failed out.old ≡ false }
     ensures { Took (writer O.ByteSink out.old out.new)
-        (parted is_after (report_of shows (N.names names.now) (linted_view linted.entry))) }
+        (after_empty_line is_after (report_of shows (N.names names.now) (linted_view linted.entry))) }
 {
     if is_after {
         return show_parted(shows, out, names, linted);
