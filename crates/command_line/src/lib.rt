@@ -4,7 +4,7 @@
 mod argument;
 mod flag;
 pub mod laws;
-mod pieces;
+mod parts;
 mod process;
 mod program;
 mod streams;
@@ -12,7 +12,7 @@ mod texts;
 
 pub use argument::{flag_named, option_named, usage_for};
 pub use flag::is_flag_set;
-pub use pieces::write_parts;
+pub use parts::write_parts;
 pub use process::{NoWords, borrowed_words, process_words};
 pub use streams::Streams;
 pub use texts::Program;

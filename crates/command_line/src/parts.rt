@@ -7,13 +7,13 @@ ghost use Rattle.command_line.specs.Rows.{Took, writer};
 use hcl_source::{ByteSink, Failed, write_fully};
 
 /// Writes the pieces one after the other, up to the first write that fails. So a line needs no memory.
-pub fn write_parts<S: ByteSink>(sink: &mut S, pieces: &[&[u8]]) -> Result<(), Failed>
+pub fn write_parts<S: ByteSink>(sink: &mut S, parts: &[&[u8]]) -> Result<(), Failed>
     requires { S.failed sink.old ≡ false }
     ensures took { Took (writer S.ByteSink sink.old sink.new)
-        (concat (map (λ piece. piece.now) pieces.now)) }
+        (concat (map (λ piece. piece.now) parts.now)) }
     ensures failed { S.failed sink.new ≡ is_err result }
 {
-    for piece in pieces {
+    for piece in parts {
         if let Err(_fault) = write_fully(sink, piece) {
             return Err(Failed);
         }
