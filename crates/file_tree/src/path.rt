@@ -24,7 +24,8 @@ pub fn join(alloc: Global, front: &[u8], back: &[u8]) -> Result<Vec<u8>, AllocEr
 
 /// The names between the NULs of a text, and before the first and after the last.
 pub fn names_in<'a>(alloc: Global, text: &'a [u8]) -> Result<Vec<&'a [u8]>, AllocError>
-    ensures { IfOk result (λ names. map (λ name. name.now) names.items ≡ names_in_listing text.entry.now) }
+    ensures { IfOk result (λ names. map (λ name. name.now) names.items
+        ≡ names_in_listing text.entry.now) }
 {
     let mut names = Vec::new(alloc);
     for name in text.split(|b| *b == 0) {

@@ -61,8 +61,8 @@ impl<'t, 's> Cursor<'t, 's> {
 
     /// The token after a block's opening brace. Returns whether its body continues over lines.
     fn block(&mut self) -> Result<bool, Refused>
-        ensures leads { Advances 0 (start at Seen ∷ []) self.old.left (with_refusal result self.new.refusal)
-            (after_item result) self.new.left }
+        ensures leads { Advances 0 (start at Seen ∷ []) self.old.left
+            (with_refusal result self.new.refusal) (after_item result) self.new.left }
         ensures shorter { NeverReturns result self.old self.new }
     {
         let Some(token) = self.look(Newlines::Seen) else {
@@ -102,8 +102,8 @@ impl<'t, 's> Cursor<'t, 's> {
 
     /// An attribute or a block after its first identifier.
     fn item(&mut self) -> Result<bool, Refused>
-        ensures leads { Advances 0 (rest at Seen ∷ []) self.old.left (with_refusal result self.new.refusal)
-            (after_item result) self.new.left }
+        ensures leads { Advances 0 (rest at Seen ∷ []) self.old.left
+            (with_refusal result self.new.refusal) (after_item result) self.new.left }
         ensures shorter { NeverReturns result self.old self.new }
     {
         if self.takes(Newlines::Seen, Terminal::Equals) {

@@ -108,7 +108,8 @@ fn naming_taken(text: Option<&str>) -> Result<Option<Naming>, Usage>
 /// The severity that a text of the line stands for, where it has one.
 fn severity_taken(text: Option<&str>) -> Result<Option<Severity>, Usage>
     ensures { result
-        ≡ taken BadSeverity (option_map severity_of_text (option_map (λ text. text.now) text.entry)) }
+        ≡ taken BadSeverity (option_map severity_of_text
+        (option_map (λ text. text.now) text.entry)) }
 {
     let Some(text) = text else {
         return Ok(None);

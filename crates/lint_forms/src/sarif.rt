@@ -141,8 +141,8 @@ struct Described<'a> {
 /// The document's description of a rule, by these texts.
 fn write_described(writer: &mut Writer, rule: Described<'_>) -> Result<(), AllocError>
     ensures { AddsTokens result writer.old writer.new (json_tokens
-        (described_rule rule.entry.name.now rule.entry.short.now rule.entry.full.now rule.entry.why.now
-        rule.entry.page.now rule.entry.level.now)) }
+        (described_rule rule.entry.name.now rule.entry.short.now rule.entry.full.now
+        rule.entry.why.now rule.entry.page.now rule.entry.level.now)) }
 {
     write_parts(
         writer,

@@ -75,7 +75,11 @@ fn add_folders(alloc: Global, found: &[Found], folders: &mut Vec<Found>) -> Resu
 }
 
 /// The folders that names stand for, some of them more than once.
-fn all_folders(alloc: Global, named: &[Found], looked: &[ListedFolder]) -> Result<Vec<Found>, AllocError>
+fn all_folders(
+    alloc: Global,
+    named: &[Found],
+    looked: &[ListedFolder],
+) -> Result<Vec<Found>, AllocError>
     ensures { IfOk result (λ folders. AreFoldersOf (all_found named.now looked.now)
         folders.items) }
 {

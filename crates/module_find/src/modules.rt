@@ -178,7 +178,8 @@ impl Modules {
         tree: &mut T,
     ) -> Result<(), AllocError>
         ensures unchanged { Unchanged T.Tree tree.old tree.new }
-        ensures left { (l : ListedFolder) → Contains looked.new.items l → Contains looked.old.items l }
+        ensures left { (l : ListedFolder) → Contains looked.new.items l
+            → Contains looked.old.items l }
         ensures adds { OnOk result (AddsModule (T.files tree.old) looked.old.items
             folder.name.items self.old self.new (T.faults tree.old) (T.faults tree.new)) }
     {

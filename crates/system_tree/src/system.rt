@@ -5,7 +5,7 @@ ghost use Rattle.std.specs.Io.{ReadsAtMost};
 ghost use Rattle.file_tree.specs.Files.{silent};
 
 use crate::folder::{Folder, identity_of};
-use crate::link::{split_path, real_path};
+use crate::link::{real_path, split_path};
 use crate::new_file::{Origin, Texts, replace};
 use crate::patient;
 use crate::shared::SharedFiles;

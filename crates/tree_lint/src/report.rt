@@ -78,7 +78,8 @@ fn show_after<O: ByteSink, N: ShownNames>(
 )
     requires { O.failed out.old ≡ false }
     ensures { Took (writer O.ByteSink out.old out.new)
-        (after_empty_line is_after (report_of shows (N.names names.now) (linted_view linted.entry))) }
+        (after_empty_line is_after
+        (report_of shows (N.names names.now) (linted_view linted.entry))) }
 {
     if is_after {
         return show_parted(shows, out, names, linted);
