@@ -1,4 +1,4 @@
-"""Names that collide under the kit's hash with the seed that all runs share.
+"""Names that collide under the kit's hash with the shared seed.
 
 `front` of a prefix such as `var.` begins texts of 32 bytes that all have one hash, whatever their last 8 bytes are. The
 hash takes 16 bytes at a time: it combines their first half with its state and their second half with a constant by xor,

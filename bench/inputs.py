@@ -1,6 +1,6 @@
 """Inputs for the benchmarks. Each call gives bytes; the same call gives the same bytes every time.
 
-Ordinary configuration comes in three kinds: `tidy` is in the style already, `messy` has the same words with other
+Ordinary configuration comes in three kinds: `tidy` is in the style already, `messy` has the same tokens with other
 blanks, `dense` is mostly signs. `TEXTS` are further kinds of ordinary text. Hostile inputs are made so that both they
 and their print have at most the given number of bytes.
 """

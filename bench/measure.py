@@ -1,7 +1,7 @@
-"""What the scripts of this folder share: running a program on a file, and measuring the run.
+"""Shared by the scripts of this folder: running a program on a file, and measuring the run.
 
-The program's standard input is the file, its standard output is /dev/null, and what it says on standard
-error is dropped. Linux only: the memory figure and the /dev paths are those of Linux.
+The program's standard input is the file, its standard output is /dev/null, and its standard error is dropped. Linux
+only: the memory figure and the /dev paths are those of Linux.
 """
 
 import os

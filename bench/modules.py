@@ -1,4 +1,4 @@
-"""Modules for the linter's benchmarks: ordinary ones, and how a module is written to a folder."""
+"""Modules for the linter's benchmarks: ordinary ones, and writing a module to a folder."""
 
 import inputs
 from measure import MAX, MIB, best, in_ms, memory, table

@@ -1,6 +1,6 @@
-"""Makes random files of ordinary Terraform, on which tffmt and `terraform fmt` are to agree, and spoils their blanks.
+"""Makes random files of ordinary Terraform, on which tffmt and `terraform fmt` must agree, and spoils their blanks.
 
-A file has what docs/TERRAFORM-FMT.md doesn't name: no comment goes over several lines, no sign follows `=>` or opens a
+A file has none of the cases in docs/TERRAFORM-FMT.md: no comment spans several lines, no sign follows `=>` or opens a
 sequence, no index follows a quote or a number, a heredoc has sequences of one line.
 """
 

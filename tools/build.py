@@ -1,8 +1,8 @@
-"""What the scripts that prove and pack share: crates, calls of `rt`, and the programs in bin/.
+"""Shared by the scripts that prove and pack: crates, calls of `rt`, and the programs in bin/.
 
-Each crate that is a program is in bin/ under its name, with `-` for `_`. Beside it PROGRAM.sha256 notes the sums of the
-program and of the object that it was linked from, as `rt` had just made both, so that a release, which is linked again,
-takes no other object. Called by itself, this ends with status 0 if all programs and objects are as noted.
+Each crate that is a program is in bin/ under its name, with `-` for `_`. Beside it PROGRAM.sha256 notes the checksums of
+the program and of the object that it was linked from, as `rt` had just made both, so that a release, which is linked
+again, takes no other object. Called by itself, this ends with status 0 if all programs and objects are as noted.
 """
 
 import contextlib

@@ -1,5 +1,5 @@
-"""The program tffmt-all over a tree of another user, who exchanges what is there while the program works: nothing of his
-comes into a folder that isn't his, whatever is exchanged and when. And which pipes the two programs of trees wait for."""
+"""The program tffmt-all over a tree of another user, who exchanges entries while the program works: nothing of his gets into
+a folder that isn't his, whatever he exchanges and when. And which pipes the two programs of trees wait for."""
 
 import contextlib
 import ctypes

@@ -1,4 +1,4 @@
-"""The recipe for Bazel: which parts run again, what the log has of a part that fails, and that no module is passed over."""
+"""The recipe for Bazel: which parts run again, the log of a part that fails, and that no module is passed over."""
 
 import os
 import re

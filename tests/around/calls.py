@@ -1,4 +1,4 @@
-"""Which calls of the system tffmt-all makes on a file that it writes, in which order, and with which operands."""
+"""The system calls that tffmt-all makes on a file that it writes, in which order, and with which operands."""
 
 import fcntl
 import os

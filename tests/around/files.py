@@ -1,5 +1,4 @@
-"""The program tffmt-all on real folders: which files it takes, what it does to them, and what it says if something
-fails."""
+"""The program tffmt-all on real folders: which files it takes, what it does to them, and its messages if something fails."""
 
 import contextlib
 import os

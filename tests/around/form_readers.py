@@ -1,7 +1,7 @@
 """The forms of `tfrules-all --format`, each read back as strictly as it can be, by Python's own readers of JSON and XML.
-A reader gives what the document says, in its order, as (file, line, column, severity, text, rule): of an issue, of a
-comment that is meant to silence a rule and doesn't under the rule COMMENT, and of what couldn't be linted under REFUSED. A
-column that a form lacks is None. What isn't as it must be is a ValueError."""
+A reader gives the entries of the document, in order, as (file, line, column, severity, text, rule): issues, comments that
+are meant to silence a rule and don't under the rule COMMENT, and files and folders that couldn't be linted under REFUSED.
+A column that a form lacks is None. A wrong document is a ValueError."""
 
 import json
 import re

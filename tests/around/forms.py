@@ -1,6 +1,6 @@
-"""`tfrules-all --format`: what the real program writes in each form, on small trees and on a large one, read by readers
-that aren't ours (form_readers.py, sarif_readers.py). It is what the reports and the messages of the same run say without
-a form."""
+"""`tfrules-all --format`: the real program's output in each form, on small trees and on a large one, read by readers that
+aren't ours (form_readers.py, sarif_readers.py). It must agree with the reports and the messages of the same run without a
+form."""
 
 import hashlib
 import json

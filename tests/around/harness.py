@@ -1,4 +1,4 @@
-"""What the checks of tests/contrib share: counting, and calling programs in a folder of their own."""
+"""Shared by the checks of tests/contrib: counting, and calling programs in a folder of their own."""
 
 import os
 import pathlib

@@ -1,5 +1,5 @@
-"""What tfrules-all says on real folders, by which options, and what its status is. Which modules it lints is in modules.py;
-its forms are in forms.py."""
+"""The output and the status of tfrules-all on real folders, by option. modules.py tests which modules it lints, forms.py its
+forms."""
 
 import os
 import re

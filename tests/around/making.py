@@ -1,4 +1,4 @@
-"""What `make` says if it can't do its work, on a copy of the repository, with a kit that proves nothing."""
+"""The messages of `make` when it can't do its work, on a copy of the repository, with a kit that proves nothing."""
 
 import os
 import shutil

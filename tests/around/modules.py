@@ -1,4 +1,4 @@
-"""Which modules tfrules-all lints on real folders, which files each of them has, and what it says of those that can't be
+"""Which modules tfrules-all lints on real folders, which files each of them has, and its messages about those that can't be
 looked at."""
 
 import json

@@ -1,4 +1,4 @@
-"""What `make dist` packs: the same bytes each time, and programs that run where there is nothing else."""
+"""The packages of `make dist`: the same bytes each time, and programs that run where there is nothing else."""
 
 import os
 import re

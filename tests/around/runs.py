@@ -1,5 +1,5 @@
-"""Runs of tffmt-all side by side in one folder: no text comes into the wrong file, and each run tells what became of its
-own."""
+"""Parallel runs of tffmt-all in one folder: no text gets into the wrong file, and each run reports the outcome of its own
+files."""
 
 import errno
 import fcntl

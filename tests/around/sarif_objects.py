@@ -1,5 +1,5 @@
-"""Reads documents of SARIF from standard input, one a line, each into the objects of sarif_om, whose attributes know the
-members of the schema, and writes them again. In place of one that it can't read it writes why."""
+"""Reads SARIF documents from standard input, one per line, each into the objects of sarif_om, whose attributes know the
+members of the schema, and writes them again. In place of one that it can't read it writes the reason."""
 
 import json
 import sys

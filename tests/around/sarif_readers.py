@@ -1,4 +1,4 @@
-"""SARIF as others read it: the types of a library of Go, and those of one of Python, each made of the schema by a
+"""SARIF as others read it: the types of a Go library, and those of a Python library, each made from the schema by a
 generator. Both are packages of Debian, golang-github-haya14busa-go-sarif-dev and python3-sarif-python-om."""
 
 import json
