@@ -47,7 +47,7 @@ def default(field):
 
 
 def again(kind, it):
-    """What an object has, without what is as it would be if it were left out."""
+    """The members of an object, without those that have their default."""
     if isinstance(it, list):
         return [again(kind, one) for one in it]
     told = {}

@@ -62,7 +62,7 @@ def differs(given, wanted, path=''):
 
 
 def check(group, documents):
-    """Each document, by its name, is read by both, and they have all that stands there."""
+    """Both readers read each document, by its name, and find everything in it."""
     for needs, name, found in (('go', 'go-sarif', by_go), (PYTHON, 'sarif_om', by_objects)):
         if not group.has(needs, checks=len(documents)):
             continue
