@@ -36,7 +36,7 @@ def hash_of(text):
 
 
 def front(prefix):
-    """A prefix and what follows it, up to the last 8 of the 32 bytes."""
+    """A prefix and the text after it, up to the last 8 of the 32 bytes."""
     tried = 0
     while True:
         block = prefix + (b'%x' % tried).rjust(16 - len(prefix), b'n')

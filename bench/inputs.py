@@ -194,7 +194,7 @@ HOSTILE = [
 ]
 
 
-# Other ordinary text, each in the style already but where said.
+# Other ordinary text, each in the style already unless it says otherwise.
 
 
 def _rows(n, names, values, comments=None):

@@ -43,7 +43,7 @@ def _declarations(number):
 
 
 def declared(size):
-    """Small declarations and comments with names that all differ, as many as fit into so many bytes."""
+    """Small declarations and comments with names that all differ, as many as fit into this many bytes."""
     pieces, left, number = [], size, 0
     while True:
         piece = _declarations(number)
