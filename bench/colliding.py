@@ -1,4 +1,4 @@
-"""Names that collide under the kit's hash with the seed that all runs share.
+"""Names that collide under the kit's hash with the shared seed.
 
 `front` of a prefix such as `var.` begins texts of 32 bytes that all have one hash, whatever their last 8 bytes are. The
 hash takes 16 bytes at a time: it combines their first half with its state and their second half with a constant by xor,
@@ -36,7 +36,7 @@ def hash_of(text):
 
 
 def front(prefix):
-    """A prefix and what follows it, up to the last 8 of the 32 bytes."""
+    """A prefix and the text after it, up to the last 8 of the 32 bytes."""
     tried = 0
     while True:
         block = prefix + (b'%x' % tried).rjust(16 - len(prefix), b'n')

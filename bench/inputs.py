@@ -1,6 +1,6 @@
 """Inputs for the benchmarks. Each call gives bytes; the same call gives the same bytes every time.
 
-Ordinary configuration comes in three kinds: `tidy` is in the style already, `messy` has the same words with other
+Ordinary configuration comes in three kinds: `tidy` is in the style already, `messy` has the same tokens with other
 blanks, `dense` is mostly signs. `TEXTS` are further kinds of ordinary text. Hostile inputs are made so that both they
 and their print have at most the given number of bytes.
 """
@@ -194,7 +194,7 @@ HOSTILE = [
 ]
 
 
-# Other ordinary text, each in the style already but where said.
+# Other ordinary text, each in the style already unless it says otherwise.
 
 
 def _rows(n, names, values, comments=None):

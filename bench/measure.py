@@ -1,7 +1,7 @@
-"""What the scripts of this folder share: running a program on a file, and measuring the run.
+"""Shared by the scripts of this folder: running a program on a file, and measuring the run.
 
-The program's standard input is the file, its standard output is /dev/null, and what it says on standard
-error is dropped. Linux only: the memory figure and the /dev paths are those of Linux.
+The program's standard input is the file, its standard output is /dev/null, and its standard error is dropped. Linux
+only: the memory figure and the /dev paths are those of Linux.
 """
 
 import os
@@ -108,7 +108,7 @@ def instructions(words, path):
 
 
 def where_taken(load):
-    """A sentence that says where figures are from: the processor, the load at the start and the day."""
+    """A sentence with the origin of figures: the processor, the load at the start and the day."""
     model = [it.split(':', 1)[1].strip() for it in open('/proc/cpuinfo') if it.startswith('model name')]
     where = (model[0] if model else 'unknown processor', os.cpu_count(), load, time.strftime('%d %B %Y'))
     return 'Taken on %s, %d cores, begun at a load of %.1f, on %s:\n\n' % where

@@ -1,4 +1,4 @@
-"""Modules for the linter's benchmarks: ordinary ones, and how a module is written to a folder."""
+"""Modules for the linter's benchmarks: ordinary ones, and writing a module to a folder."""
 
 import inputs
 from measure import MAX, MIB, best, in_ms, memory, table
@@ -43,7 +43,7 @@ def _declarations(number):
 
 
 def declared(size):
-    """Small declarations and comments with names that all differ, as many as fit into so many bytes."""
+    """Small declarations and comments with names that all differ, as many as fit into this many bytes."""
     pieces, left, number = [], size, 0
     while True:
         piece = _declarations(number)

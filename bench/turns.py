@@ -4,9 +4,9 @@
 
 OLD and NEW are checkouts in which each program that bench/workloads.txt names is built (`rt run` in its crate). A line of
 that file is NAME CRATE WORD..: the program crates/CRATE/out/CRATE is run with these words in the folder bench/ of this
-checkout, with SEED, 1 where none is given, in place of the word SEED, and with the file of a last word <FILE, or nothing,
-as its standard input. The runs take turns, so that a slow spell of the machine hits both checkouts. Where the outputs of
-the two differ, or those of one from turn to turn, it stops. It prints the medians in seconds, and their ratio.
+checkout, with SEED, 1 by default, in place of the word SEED, and with the file of a last word <FILE, or nothing, as its
+standard input. The runs take turns, so that a slow spell of the machine hits both checkouts. If the outputs of the two
+differ, or those of one from turn to turn, it stops. It prints the medians in seconds, and their ratio.
 """
 
 import pathlib

@@ -1,6 +1,6 @@
-"""Makes random files of ordinary Terraform, on which tffmt and `terraform fmt` are to agree, and spoils their blanks.
+"""Makes random files of ordinary Terraform, on which tffmt and `terraform fmt` must agree, and spoils their blanks.
 
-A file has what docs/TERRAFORM-FMT.md doesn't name: no comment goes over several lines, no sign follows `=>` or opens a
+A file has none of the cases in docs/TERRAFORM-FMT.md: no comment spans several lines, no sign follows `=>` or opens a
 sequence, no index follows a quote or a number, a heredoc has sequences of one line.
 """
 
@@ -56,7 +56,7 @@ class Ordinary(Maker):
         self.put(self.chance.choice(NUMBERS))
 
     def reference(self):
-        """A name with steps from it, of which one at most is a splat or a number after a dot."""
+        """A name with steps from it; at most one of them is a splat or a number after a dot."""
         self.name()
         may_splat = True
         for _ in range(self.chance.choice((1, 1, 2, 3))):
@@ -168,7 +168,7 @@ class Ordinary(Maker):
 
 
 def spoiled(text, chance):
-    """The same tokens with other blanks between them, as far as blanks may change."""
+    """These tokens with other blanks between them, as far as blanks may change."""
     made, at, last, heredocs, is_first = [], 0, '', 0, True
     for kind, piece in tokens(text):
         begin = text.index(piece, at) if piece else at
@@ -186,7 +186,7 @@ CLOSED = ('literal', 'quote open', 'sequence close', 'heredoc open', 'heredoc cl
 
 
 def gap(made, piece, is_first, chance):
-    """Some blanks before a piece, and at least one where it would be read as one with the piece before it."""
+    """Some blanks before a piece, and at least one if it would be read as one with the piece before it."""
     last = next((it[-1] for it in reversed(made) if it), '')
     parted = (
         (last in WORD or last > '\x7f')

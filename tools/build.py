@@ -1,8 +1,8 @@
-"""What the scripts that prove and pack share: crates, calls of `rt`, and the programs in bin/.
+"""Shared by the scripts that prove and pack: crates, calls of `rt`, and the programs in bin/.
 
-Each crate that is a program is in bin/ under its name, with `-` for `_`. Beside it PROGRAM.sha256 notes the sums of the
-program and of the object that it was linked from, as `rt` had just made both, so that a release, which is linked again,
-takes no other object. Called by itself, this ends with status 0 if all programs and objects are as noted.
+Each crate that is a program is in bin/ under its name, with `-` for `_`. Beside it PROGRAM.sha256 notes the checksums of
+the program and of the object that it was linked from, as `rt` had just made both, so that a release, which is linked
+again, takes no other object. Called by itself, this ends with status 0 if all programs and objects are as noted.
 """
 
 import contextlib
@@ -39,7 +39,7 @@ def is_program(crate):
 
 
 def programs():
-    """The crates that are programs, but for the benchmark's."""
+    """The crates that are programs, except the benchmark's."""
     return [it for it in crates() if is_program(it) and it != 'workloads']
 
 
@@ -123,7 +123,7 @@ def note_of(crate):
 
 
 def note_on(crate, program):
-    """What is noted of a program and its object, in the form of sha256sum."""
+    """The note on a program and its object, in the form of sha256sum."""
     files = ((program, BIN / built_name(crate)), (object_of(crate), object_of(crate)))
     sums = ((hashlib.sha256(file.read_bytes()).hexdigest(), name.relative_to(TOP)) for file, name in files)
     return ''.join('%s  %s\n' % it for it in sums)
@@ -137,7 +137,7 @@ def is_noted(crate):
 
 
 def forget(crate):
-    """Removes what `rt` made of a program before, so that nothing but what it makes next is taken for that."""
+    """Removes an earlier result of `rt` for a program, so that only its next result is taken."""
     for it in (made_by_rt(crate), object_of(crate), note_of(crate)):
         with contextlib.suppress(FileNotFoundError):
             it.unlink()

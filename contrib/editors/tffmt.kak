@@ -13,7 +13,7 @@ define-command -docstring 'tffmt: format the buffer with tffmt' tffmt %{
     }
     evaluate-commands -draft -no-hooks -save-regs '"' %{
         write "%opt{tffmt_folder}/before"
-        # The text goes into a register, quoted, or what went wrong becomes a failure.
+        # The text goes into a register, quoted, or the message becomes a failure.
         evaluate-commands %sh{
             cd "$kak_opt_tffmt_folder" || exit
             if tffmt <before >after 2>said; then

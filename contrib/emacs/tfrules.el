@@ -4,9 +4,9 @@
 ;;
 ;;     (add-hook 'terraform-mode-hook #'tfrules-mode)
 ;;
-;; Then flymake shows what tfrules finds in the file, when it is opened and whenever it is saved.  The module of the
-;; file is linted with all its files, as last saved.  `M-x compile' with `tfrules-all' lists what is
-;; found in all modules, with no settings.  Emacs 26.1 or later.
+;; Then flymake shows the issues of the file, when it is opened and whenever it is saved.  The module of the file is
+;; linted with all its files, as last saved.  `M-x compile' with `tfrules-all' lists the issues of all modules, with no
+;; settings.  Emacs 26.1 or later.
 
 ;;; Code:
 

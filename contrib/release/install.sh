@@ -1,14 +1,14 @@
 #!/bin/sh
-# Installs what is beside this script under a prefix, by default /usr/local, or removes it again:
+# Installs the files beside this script under a prefix, by default /usr/local, or removes them again:
 #
 #     sh install.sh [PREFIX]
 #     sh install.sh --remove [PREFIX]
 #
-# What was installed is listed in PREFIX/share/doc/tffmt/installed, and the removal uses that list alone, so it removes
-# the files of that version and the folders that were made for them, if they are empty. This script is there too. It says
-# in a few lines what it installed, and what to add to PATH if the programs wouldn't be found there. The status is 1 if a
-# file can't be written or removed, or the programs don't run here, and then nothing is installed; and 2 if the command
-# line is wrong.
+# The installed files are listed in PREFIX/share/doc/tffmt/installed, and the removal uses that list alone, so it removes
+# the files of that version and the folders that were made for them, if they are empty. This script is there too. It
+# prints in a few lines what it installed, and what to add to PATH if the programs wouldn't be found there. The status is
+# 1 if a file can't be written or removed, or the programs don't run here, and then nothing is installed; and 2 if the
+# command line is wrong.
 set -u
 LC_ALL=C
 export LC_ALL

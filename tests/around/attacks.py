@@ -1,5 +1,5 @@
-"""The program tffmt-all over a tree of another user, who exchanges what is there while the program works: nothing of his
-comes into a folder that isn't his, whatever is exchanged and when. And which pipes the two programs of trees wait for."""
+"""The program tffmt-all over a tree of another user, who exchanges entries while the program works: nothing of his gets into
+a folder that isn't his, whatever he exchanges and when. And which pipes the two programs of trees wait for."""
 
 import contextlib
 import ctypes
@@ -39,7 +39,8 @@ def library(group):
 
 
 def attacked(group, words, top, counted='any', program=None, **setting):
-    """(what a run shows, whether the call was reached before which something is done, whether the run had to be woken)."""
+    """(the output of a run, whether the call was reached before which something is done, whether the run had to be
+    woken)."""
     back, told = os.pipe()
     started = subprocess.Popen(
         [program or group.trees, '--quiet', *words],
@@ -101,7 +102,7 @@ class Held:
             os.write(self.to, b'.')
 
     def ended(self):
-        """What the run shows, once it has ended."""
+        """The output of the run, once it has ended."""
         out, err = self.started.communicate(timeout=LIMIT)
         os.close(self.told)
         os.close(self.to)
@@ -126,7 +127,7 @@ def give_away(path):
 
 
 def lay(group, what):
-    """(the attacker's tree, root's folder, what is exchanged, and for what)."""
+    """(the attacker's tree, root's folder, the exchanged name, and its replacement)."""
     top, victim = group.fresh(), group.fresh()
     put(top, {'in/x.tf': OTHER, 'in/y.tf': OTHER})
     put(victim, {'x.tf': OTHER, 'note': b'of root\n'})
@@ -147,7 +148,7 @@ def lay(group, what):
 
 
 def is_untouched(victim):
-    """Whether root's folder has what it had: its own files, which root may have formatted."""
+    """Whether root's folder has its own files and no others; root may have formatted them."""
     found = {path.name: path for path in victim.iterdir()}
     return (
         set(found) == {'x.tf', 'note'}
@@ -196,8 +197,9 @@ def linter_held_up(group):
 
 
 def stepped(group, top, victim, moments):
-    """(what a run over the attacker's file shows, how many calls it makes, what root's folder has at one of them that it
-    shouldn't). Before some calls the attacker exchanges the folder above his for a link to the one above root's."""
+    """(the output of a run over the attacker's file, the number of its calls, the entries of root's folder at one of
+    them that shouldn't be there). Before some calls the attacker exchanges the folder above his for a link to the one
+    above root's."""
     run, number, exchange, wrong = Held(group, ['up/in/x.tf'], top, REFUSE='1', FROM_THEN='1'), 0, exchanger(), []
     while run.reached():
         number += 1
@@ -233,7 +235,7 @@ def above(group):
 
 
 class Attacker(threading.Thread):
-    """Exchanges two names as often as it can, where it is told to."""
+    """Exchanges two names as often as it can, if it is to."""
 
     def __init__(self, *pair):
         super().__init__(daemon=True)

@@ -1,4 +1,4 @@
-"""The recipe for Bazel: which parts run again, what the log has of a part that fails, and that no module is passed over."""
+"""The recipe for Bazel: which parts run again, the log of a part that fails, and that no module is passed over."""
 
 import os
 import re
@@ -46,7 +46,7 @@ def hindrance(group):
 
 
 def build(group, top, root, *words):
-    """(status, the names of the actions that ran, what was said) of a build, which leaves no server, nor anything in the
+    """(status, the names of the actions that ran, the output) of a build, which leaves no server, nor anything in the
     home folder."""
     status, out, err = group.call(
         'bazel',
@@ -139,7 +139,7 @@ def changed(group, work):
 
 
 def failing(group, work):
-    """Parts with an issue and with a refused file fail, and the log has what the program says of them."""
+    """Parts with an issue and with a refused file fail, and the log has the program's output for them."""
     issue, bad = 'odd/$HOME/', next(it for it in sorted(work.first) if part_of(it) != part_of('odd/$HOME/'))
     put(work.top, {work.first[issue]: ISSUE, work.first[bad]: BAD})
     status, ran, said = work.build('//:terraform')
@@ -172,7 +172,7 @@ def passed_over(group, work):
 
 
 def below(group, work):
-    """A package below, with options of its own, and without a sandbox: its folders are told by their whole paths."""
+    """A package below, with options of its own, and without a sandbox: its folders are named by their whole paths."""
     status, ran, _ = work.build('--spawn_strategy=local', '//...')
     every = names_of(*range(1, PARTS + 1)) + ['below:mine_1', 'below:mine_2']
     group.check('a package below', (status, ran), (0, every))

@@ -1,4 +1,4 @@
-"""Which calls of the system tffmt-all makes on a file that it writes, in which order, and with which operands."""
+"""The system calls that tffmt-all makes on a file that it writes, in which order, and with which operands."""
 
 import fcntl
 import os
@@ -85,8 +85,8 @@ def in_place(group):
 
 
 def not_in_place(group):
-    """Where anything else fails, it isn't written over. The file is the caller's, since that of another user isn't replaced
-    where its folder can't be held, as where a question of it fails, and then it may be written over."""
+    """If anything else fails, it isn't overwritten. The file is the caller's, since another user's isn't replaced if
+    its folder can't be held, as when a look-up of it fails, and then it may be overwritten."""
     for kind in NEEDED:
         over, number = [], 0
         for number in range(1, MOST):

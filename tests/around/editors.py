@@ -16,8 +16,8 @@ from harness import BAD, GOOD, OTHER, put
 
 
 def on_terminal(group, words, cwd, seconds=20, keys=(), **setting):
-    """Runs a command on a terminal until it ends; what it wrote there. `keys` are pairs: once the first stands in
-    what was written since the last were typed, the second are typed."""
+    """Runs a command on a terminal until it ends, and returns its output there. `keys` are pairs: once the output since
+    the last keys has the first, the second are typed."""
     master, slave = pty.openpty()
     fcntl.ioctl(slave, termios.TIOCSWINSZ, struct.pack('HHHH', 30, 100, 0, 0))
 
@@ -86,7 +86,7 @@ def run_vim(group):
         return
 
     def edit(name, text, keys=':w', program=group.program, path=None, **setting):
-        """What the last line shows, what the buffer holds, and what the file holds."""
+        """The last line, the text of the buffer, and the text of the file."""
         here = group.fresh()
         put(here, {name: text})
         script = VIM.replace('PLUGIN', str(group.contrib / 'vim/plugin/tffmt.vim')).replace('KEYS', keys)
@@ -172,7 +172,7 @@ def run_kakoune(group):
         return
 
     def edit(name, text, keys='write', program=group.program):
-        """What was shown, what the buffer holds, and what the file holds."""
+        """The output, the text of the buffer, and the text of the file."""
         here = group.fresh()
         put(here, {name: text})
         plugin = str(group.contrib / 'editors' / 'tffmt.kak')

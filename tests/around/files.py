@@ -1,5 +1,4 @@
-"""The program tffmt-all on real folders: which files it takes, what it does to them, and what it says if something
-fails."""
+"""The program tffmt-all on real folders: which files it takes, what it does to them, and its messages if something fails."""
 
 import contextlib
 import os
@@ -169,7 +168,7 @@ def walk(group, program):
 
 
 def exclusions(group, program):
-    """They go by the names that are met, and not by what these lead to; one that meets nothing isn't told."""
+    """Exclusions match the names that are met, and not the targets of links; one that matches nothing isn't reported."""
     top = group.fresh()
     put(top, {'in/a.tf': OTHER, 'b.tf': OTHER})
     for word in ('im', 'in/b.tf', str(top / 'in'), '../%s/in' % top.name, 'in/../in', 'in/*', ''):
@@ -335,7 +334,7 @@ def links_and_files(group, program):
 
 
 def links_and_hard_links(group, program):
-    """A link is looked at where a hard link of its file is, but its own name isn't: the names come apart."""
+    """A link is looked at if a hard link of its file is, but its own name isn't: the names come apart."""
     top = four_names(group)
     told = lines('hard.tf', 'two.tf')
     group.check('a link, and a hard link of its file', program('--list', 'two.tf', 'hard.tf', cwd=top), (3, told, b''))
@@ -471,7 +470,7 @@ def refusals(group, program):
 
 
 def special_files(group, program):
-    """Pipes, sockets and devices are passed over in a walk, and so are links to them; one that is named is told."""
+    """Pipes, sockets and devices are passed over in a walk, and so are links to them; a named one is reported."""
     top = group.fresh()
     put(top, {'a.tf': OTHER})
     links = special_links(top)
@@ -609,7 +608,7 @@ def input_left(group, program):
 
 
 def other_names(group, program):
-    """A name that isn't UTF-8 is told, and the work goes on."""
+    """A name that isn't UTF-8 is reported, and the work continues."""
     top = group.fresh()
     put(top, {b'caf\xe9.tf': OTHER, 'a.tf': OTHER, b'in/b\xff/c.tf': OTHER, b'.h\xff': OTHER})
     said = b"caf\xe9.tf: the name isn't UTF-8\nin/b\xff: the name isn't UTF-8\n"
@@ -628,7 +627,7 @@ def other_names(group, program):
 
 
 def shown_names(group, program):
-    """No name in what is said begins a line of its own, or forges a part of a diff; and one that is told is told once."""
+    """No name in the output begins a line of its own, or forges a part of a diff; and a name is reported once."""
     evil = 'x\n--- old/good.tf\n+++ new/good.tf\n@@ -1 +1 @@\n-a = 1\n+a = "evil"\n.tf'.replace('/', '\\')
     names = [evil, 'esc\x1b[2J.tf', 'bell\a.tf', 'del\x7f.tf', 'a.tf:1:1: error: x\n.tf', '\x01.tf', '\u00e9.tf']
     top = group.fresh()
@@ -667,7 +666,7 @@ def shown_names(group, program):
 
 
 def counted(group, program):
-    """How many files there were is said at the end, unless that isn't asked for."""
+    """The end of a run counts the files, unless it is to be quiet."""
     top = group.fresh()
     put(top, {'a.tf': OTHER, 'b.tf': GOOD, 'c.tf': BAD, 'd.tf': GOOD})
     for words, status, said in (
@@ -722,7 +721,7 @@ def diffs(group, program):
 
 
 def sizes(group, program):
-    """A file past the limit is told with its name, and so is one whose print is."""
+    """A file beyond the limit is reported with its name, and so is one whose print is."""
     top = group.fresh()
     put(top, {'a.tf': b'#' * (4 << 20) + b'\n', 'b.tf': OTHER, 'c.tf': b'a=1\n' * ((4 << 20) // 4)})
     large, wide = program('--check', 'a.tf', cwd=top)[2], program('--check', 'c.tf', cwd=top)[2]
@@ -734,7 +733,7 @@ def sizes(group, program):
 
 
 def full_devices(group, program):
-    """A limit on the size of a file stands for a full device."""
+    """A limit on the size of a file serves as a full device."""
     top = group.fresh()
     text = b'a=1\n' * 1000
     for limit in (2000, 5000):  # too small for the old text, and for the print alone
@@ -747,7 +746,7 @@ def full_devices(group, program):
 
 
 def full_output(group, program):
-    """Standard output that is full or closed: the files are whole, and so is what is said of it."""
+    """Standard output that is full or closed: the files are whole, and so are the messages."""
     top = group.fresh()
     for mode in ('--list', '--diff', '--help', ''):
         for output in ('/dev/full', '&-'):
@@ -771,7 +770,7 @@ def full_output(group, program):
 
 
 def mounted(group, size, script, *words):
-    """Runs a script below a small device of its own, where one can be mounted. None where none can."""
+    """Runs a script below a small device of its own, if one can be mounted; otherwise returns None."""
     if not shutil.which('unshare'):
         return None
     done = group.call(
@@ -929,7 +928,7 @@ def synced(group, program):
 
 
 def slow_trees(group, seconds):
-    """The program where each opening takes so long."""
+    """The program with each open delayed this long."""
     return [
         'strace',
         '-f',
@@ -1008,7 +1007,7 @@ def many(group, program):
 
 
 def shards(group, program):
-    """Each file is in one shard, which is told by its name alone."""
+    """Each file is in one shard, which depends on its name alone."""
     names = sorted(['new\nline.tf', 'a b/\u00e9.tf'] + ['d/%d.tf' % i for i in range(40)], key=os.fsencode)
     top = group.fresh()
     put(top, {name: OTHER for name in names})

@@ -1,7 +1,7 @@
 """The forms of `tfrules-all --format`, each read back as strictly as it can be, by Python's own readers of JSON and XML.
-A reader gives what the document says, in its order, as (file, line, column, severity, text, rule): of an issue, of a
-comment that is meant to silence a rule and doesn't under the rule COMMENT, and of what couldn't be linted under REFUSED. A
-column that a form lacks is None. What isn't as it must be is a ValueError."""
+A reader gives the entries of the document, in order, as (file, line, column, severity, text, rule): issues, comments that
+are meant to silence a rule and don't under the rule COMMENT, and files and folders that couldn't be linted under REFUSED.
+A column that a form lacks is None. A wrong document is a ValueError."""
 
 import json
 import re
@@ -88,7 +88,7 @@ def once(pairs):
 
 
 def parsed(out):
-    """One line of UTF-8 without its end: one value, without a member that stands twice, NaN or Infinity."""
+    """One line of UTF-8 without its end: one value, without a duplicate member, NaN or Infinity."""
     text = out.decode()
     if '\n' in text or text != text.strip():
         wrong('the document is not one line without its end: %r', text[-20:])
@@ -261,7 +261,7 @@ def suite_in(suite):
 
 
 def case_in(case):
-    """What a case says, and by which element, or nothing of one that passed."""
+    """The text of a case and its element, or nothing for one that passed."""
     rule, place = element(case, 'testcase', 'classname', 'name')
     if not len(case):
         return wrong('%s, %s passed', rule, place) if (rule, place) != ('tfrules', 'no issue') else None
@@ -318,7 +318,7 @@ READERS = {
 
 
 def read(form, out):
-    """What a document says; where it can't be read, why, and how it ends."""
+    """The entries of a document; if it can't be read, why, and its end."""
     try:
         return READERS[form](out)
     except (ValueError, LookupError, TypeError, xml.etree.ElementTree.ParseError) as why:
@@ -326,7 +326,7 @@ def read(form, out):
 
 
 def shown(form, said):
-    """What a form says of an issue or a refusal, since not each can say all."""
+    """The part of an issue or a refusal that a form has, since not each can have all."""
     file, line, column, *rest = said
     if form in ('checkstyle', 'junit'):
         file = re.sub('[^\t\n\r\x20-\ud7ff\ue000-\ufffd\U00010000-\U0010ffff]', '\ufffd', file)
@@ -334,7 +334,7 @@ def shown(form, said):
 
 
 def apart(given, wanted):
-    """Where what is said first differs from what is wanted, or nothing."""
+    """The first difference from the expected entries, or nothing."""
     for at, (one, other) in enumerate(zip([*given, None], [*wanted, None])):
         if one != other:
             return 'number %d is %r and not %r; there are %d, and %d are wanted' % (
@@ -348,7 +348,7 @@ def apart(given, wanted):
 
 
 def of_text(out, err, names=()):
-    """The same of the reports and the messages of a run without a form. `names` has names by how they are shown."""
+    """The entries from the reports and the messages of a run without a form. `names` has names by how they are shown."""
     *reports, end = out.decode().split('\n')
     heads = [re.fullmatch(r'([1-9][0-9]*) issue\(s\) found:', it) for it in reports]
     issues = [ISSUE.fullmatch(it) or wrong('no issue: %r', it) for it, head in zip(reports, heads) if it and not head]

@@ -1,6 +1,6 @@
-"""`tfrules-all --format`: what the real program writes in each form, on small trees and on a large one, read by readers
-that aren't ours (form_readers.py, sarif_readers.py). It is what the reports and the messages of the same run say without
-a form."""
+"""`tfrules-all --format`: the real program's output in each form, on small trees and on a large one, read by readers that
+aren't ours (form_readers.py, sarif_readers.py). It must agree with the reports and the messages of the same run without a
+form."""
 
 import hashlib
 import json
@@ -102,8 +102,8 @@ def refusal(file, text, line=1, column=1):
 
 
 def in_each_form(group, name, *words, wanted=None, count=None, keep=False, names=(), **more):
-    """Each form says what the text says, in its order, and that is what is wanted; messages and status are those of the
-    text. With `keep` the SARIF is for the readers of others, too."""
+    """Each form has the entries of the text, in order, as expected; messages and status are those of the text. With
+    `keep` the SARIF is for the readers of others, too."""
     status, out, err = lint(group, *words, **more)
     told = of_text(out, err, {quoted(it): it for it in names})
     if wanted is not None:
@@ -160,7 +160,7 @@ def several(group):
 
 
 def odd_names(group):
-    """Names that hold what else stands after a name, and what is escaped."""
+    """Names with the texts that come after a name, and with characters that are escaped."""
     here = tree(group, {name: UNTYPED for name in NAMES})
     order = sorted(NAMES, key=lambda name: (os.fsencode(os.path.dirname(name)), os.fsencode(name)))
     wanted = [(name, *it) for name in order for it in FOUND if it[4] != 'terraform_documented_outputs']
@@ -172,7 +172,7 @@ def odd_names(group):
 
 
 def paths(group):
-    """Files are named as they are found: from the current folder where the operand is relative, and else from the root."""
+    """Files are named as they are found: from the current folder if the operand is relative, otherwise from the root."""
     here, far = tree(group, {'in/m.tf': DECLARED, 'in/o d#?%:,\u00e9/m.tf': DECLARED}), group.fresh()
     within = ['m.tf', 'o d#?%:,\u00e9/m.tf']
     for words, folder, before in (
@@ -193,7 +193,7 @@ def paths(group):
 
 
 def refused(group):
-    """A module that is refused stands in each form, after the issues of those that are linted."""
+    """A refused module is in each form, after the issues of those that are linted."""
     here = tree(group, {'a/a.tf': DECLARED, 'bad/b.tf': BAD, 'bad/in/a.tf': DECLARED, 'c/c.tf': b'variable "n" {}\n'})
     found = [unused('a/a.tf'), unused('bad/in/a.tf'), *untyped('c/c.tf')]
     wanted = [*found, refusal('bad/b.tf', 'unexpected token', 1, 3)]
@@ -297,7 +297,7 @@ def not_linted(group):
 
 
 def all_at_once(group):
-    """All of these beside one another: what is said at the end stands in its order."""
+    """All of these together: the last messages are in their order."""
     files = {}
     for number, (_, (made, _)) in enumerate(NOT_LINTED.items()):
         for name, text in made.items():
@@ -335,7 +335,7 @@ def nothing(group):
 
 
 def statuses(group):
-    """That of the run is the same in each form, and SARIF tells it."""
+    """The status of the run is the same in each form, and SARIF has it."""
     here = tree(group, {'a/a.tf': DECLARED, 'b/b.tf': BAD, 'd/d.tf': b''})
     for words, wanted in (
         (['d'], 0),
@@ -397,7 +397,7 @@ def rules(group):
 
 
 def comments(group):
-    """With --check-comments, comments that silence nothing stand after the issues of their module, as errors."""
+    """With --check-comments, comments that silence nothing come after the issues of their module, as errors."""
     text = b'# tflint-ignore: "q", x\ny = [a.0] # tflint-ignore-file: all\n'
     here = tree(group, {'m/m.tf': text, 'm/n.tf': b'# tflint-ignore: <&>%\n', 'n/n.tf': DECLARED, 'bad/b.tf': BAD})
     wanted = [
@@ -431,7 +431,7 @@ def marks(group, form, here):
 
 
 def fingerprints(group):
-    """They are the same where lines moved, and no two are the same."""
+    """Marks stay when lines move, and no two are alike."""
     text = b'variable "n" {}\nx = [a.0, b.0]\ny = a.1\n'
     here = tree(
         group, {'m/m.tf': text + b'y = a.1\n', 'm/n.tf': text, 'n/m.tf': text, 'bad/b.tf': BAD, 'bad/in/b.tf': BAD}
@@ -452,7 +452,7 @@ def fingerprints(group):
 
 
 def numbered(group):
-    """A fingerprint is a SHA-256 of the rule, the file and what is said, with a number among those that are alike."""
+    """A fingerprint is a SHA-256 of the rule, the file and the text, with a number among those that are alike."""
     files = {'m/\u00e9 "m".tf': UNTYPED, 'm/n.tf': b'y = [a.0, a.1]\n', b'\xff/\xff.tf': DECLARED, 'bad/b.tf': BAD}
     here = tree(group, files)
     told = read('json', lint(group, '--format', 'json', cwd=here)[1])
@@ -490,7 +490,7 @@ def command_line(group):
 
 
 def choices(group):
-    """Whatever is said of the run as a whole stands on standard error, and not in the document."""
+    """Messages about the run as a whole are on standard error, and not in the document."""
     here = tree(group, {'m/m.tf': DECLARED, 'bad/b.tf': BAD})
     told = lines('tfrules-all: error: bad/b.tf:1:3: unexpected token')
     for form in FORMS:
@@ -549,7 +549,7 @@ def failing_writes(group):
 
 
 def many_modules(group):
-    """Very many modules, of which some have no issue and some are refused."""
+    """Very many modules; some of them have no issue and some are refused."""
     texts = (UNTYPED, DECLARED, b'', EACH, BAD, b'# x\n\nvariable "n" {}\n')
     files = {'tree/%02d/module%04d/main.tf' % (number % 40, number): texts[number % 7 % 6] for number in range(MODULES)}
     here = tree(group, files)
@@ -559,7 +559,7 @@ def many_modules(group):
 
 
 def counted(group, texts, files):
-    """What is said of each module, by what is said of one with its text."""
+    """The entries of each module, from those of one with its text."""
     one = group.fresh()
     known = {}
     for text in texts:
@@ -569,5 +569,5 @@ def counted(group, texts, files):
 
 
 def others(group):
-    """The readers of others have all that stands in the SARIF of the runs above."""
+    """The readers of others find everything in the SARIF of the runs above."""
     sarif_readers.check(group, DOCUMENTS)

@@ -1,4 +1,4 @@
-"""What the checks of tests/contrib share: counting, and calling programs in a folder of their own."""
+"""Shared by the checks of tests/contrib: counting, and calling programs in a folder of their own."""
 
 import os
 import pathlib
@@ -23,7 +23,7 @@ def is_open(path):
 
 
 class Group:
-    """Checks of one subject, with a temporary folder. `lines` is what is to be printed in the end."""
+    """Checks of one subject, with a temporary folder. `lines` is printed in the end."""
 
     def __init__(self, name, program, contrib):
         self.name, self.program, self.contrib = name, program, contrib
@@ -56,7 +56,7 @@ class Group:
         self.top.joinpath('tmp').chmod(0o777)
 
     def take_in(self):
-        """Copies what is tested below the temporary folder, where another user reaches it."""
+        """Copies the tested files below the temporary folder, where another user reaches them."""
         under_test = self.folder('under-test')
         self.program, self.linter, self.trees, self.linted = (
             shutil.copy(it, str(under_test)) for it in (self.program, self.linter, self.trees, self.linted)
@@ -126,7 +126,7 @@ class Group:
         return done.returncode, done.stdout, done.stderr
 
     def leaves(self, *words, cwd, given):
-        """What a command leaves of these bytes, as a file and as a pipe that is its standard input."""
+        """The result of a command on these bytes, as a file and as a pipe that is its standard input."""
         out, into = os.pipe()
         os.write(into, given)
         os.close(into)
@@ -146,7 +146,7 @@ class Group:
             return file.read(), pipe.read()
 
     def format(self, *words, **more):
-        """The same of tffmt-all, which counts no files at its end."""
+        """The output of tffmt-all without the count of files at its end."""
         return self.call(self.trees, '--quiet', *words, **more)
 
     def start(self, *words, cwd, **setting):
@@ -216,7 +216,7 @@ def special_links(top):
 
 
 def quoted(name):
-    """A name as it is shown: between double quotes, with escapes of C, where it has a control character, `"` or `\\`."""
+    """A name as it is shown: between double quotes, with escapes of C, if it has a control character, `"` or `\\`."""
     odd = {code: '\\' + letter for code, letter in zip(b'\a\b\t\n\v\f\r"\\', 'abtnvfr"\\')}
     odd.update({code: '\\%03o' % code for code in [*range(32), 127] if code not in odd})
     return '"%s"' % name.translate(odd) if any(ord(letter) in odd for letter in name) else name

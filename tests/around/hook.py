@@ -31,7 +31,7 @@ class Repository:
         self.git('add', '-A')
 
     def commit(self, *words, **more):
-        """Whether the commit passed, and what was said."""
+        """Whether the commit passed, and the output."""
         status, _, err = self.git('commit', '-q', '-m', 'x', *words, **more)
         return status == 0, b''.join(sorted(err.splitlines(True)))
 
@@ -225,7 +225,7 @@ def odd_names(group):
 
 
 def mended(group):
-    """The command that is printed formats just the files that were reported, from where git was called."""
+    """The printed command formats just the reported files, from where git was called."""
     names = [
         '.config/x.tf',
         'in/a b.tf',
@@ -278,7 +278,7 @@ def many_files(group):
 
 
 def sparse(group):
-    """What is staged counts where a sparse checkout has no file of it."""
+    """The staged text counts if a sparse checkout has no file of it."""
     here = installed(group)
     here.stage({'in/x.tf': OTHER, 'out/y.tf': OTHER})
     here.git('update-index', '--skip-worktree', 'out/y.tf')
@@ -375,7 +375,7 @@ def failing_tools(group):
 
 
 def filters(group):
-    """What is staged is judged as a checkout would have it."""
+    """The staged text is judged as a checkout would have it."""
     here = installed(group)
     here.git('config', 'filter.turned.clean', 'tr =a-y y=-x')
     here.git('config', 'filter.turned.smudge', 'tr y=-x =a-y')
@@ -644,7 +644,7 @@ def lost_by_framework(group, framework):
 
 
 def refs_by_framework(group, framework):
-    """What a commit lost that isn't staged any more, as in a pipeline."""
+    """Files that a commit lost and that aren't staged any more, as in a pipeline."""
     here = with_modules(group, framework)
     here.git('rm', '-q', 'm/-u.tf', 'lost/a.tf')
     here.git('commit', '-q', '-m', 'x', '--no-verify')
@@ -666,8 +666,8 @@ def example(group, framework):
 
 
 class ByHand:
-    """The linter's hook of the example as pre-commit calls it, where `sh` is a shell and nothing but it, git and the
-    program is there."""
+    """The linter's hook of the example as pre-commit calls it, with a `sh` that is only a shell, and with only it, git
+    and the program there."""
 
     def __init__(self, group, shell):
         text = (group.contrib / 'pre-commit-config.yaml').read_text().split('- id: tfrules\n')[1]
@@ -679,7 +679,7 @@ class ByHand:
             (self.path / name).symlink_to(program)
 
     def __call__(self, here, *args, named=None, **setting):
-        """The hook on what is staged, or on the files that are named."""
+        """The hook on the staged files, or on the named files."""
         if named is None:
             staged = ('diff', '--staged', '--name-only', '-z', '--diff-filter=ACMRTUXB')
             named = here.git(*staged)[1].decode().split('\0')[:-1]

@@ -32,7 +32,7 @@ class Judged:
 
 
 def tree(group, judged):
-    """A tree of FILES files: their texts by their names, in the order in which they are told."""
+    """A tree of FILES files: their texts by their names, in the order of the reports."""
     top = group.fresh()
     texts = {name_of(number): TEXTS[number % 7 % len(TEXTS)] for number in range(FILES)}
     put(top, texts)
@@ -40,7 +40,7 @@ def tree(group, judged):
 
 
 def reports(judged, texts, line):
-    """What is said on standard error of refused files, and of others where there is something to say."""
+    """The standard error for refused files, and for others with a message."""
     return b''.join(
         b'%s:%s' % (name.encode(), judged.faults[text]) if text in judged.faults else line(name, text)
         for name, text in texts.items()

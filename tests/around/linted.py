@@ -1,5 +1,5 @@
-"""What tfrules-all says on real folders, by which options, and what its status is. Which modules it lints is in modules.py;
-its forms are in forms.py."""
+"""The output and the status of tfrules-all on real folders, by option. modules.py tests which modules it lints, forms.py its
+forms."""
 
 import os
 import re
@@ -101,7 +101,7 @@ def statuses(group, lint):
 
 
 def summaries(group, lint):
-    """What is said at the end of a run, unless it is to be quiet."""
+    """The last line of a run, unless it is to be quiet."""
     top = tree(
         group,
         {
@@ -244,7 +244,7 @@ def configs(group, lint):
 
 
 def bad_configs(group, lint):
-    """A line that is wrong is told once, and the modules of its file are not linted."""
+    """A wrong line is reported once, and the modules of its file are not linted."""
     top = tree(group, {'m/a.tf': DECLARED, 'm/in/b.tf': DECLARED, 'n/a.tf': DECLARED})
     for text, *told in (
         (b'--force\n--bogus\n', '2: no option of a project: "--bogus"'),
@@ -282,7 +282,7 @@ def bad_configs(group, lint):
 
 
 def no_configs(group, lint):
-    """What stands under the name of one, whatever it is, is told, and the next one above isn't taken."""
+    """An entry under its name, of any kind, is reported, and the next one above isn't taken."""
     top = tree(group, {'m/a.tf': DECLARED, '.tfrules': b'--force\n', 'm/.tfrules': b'->nowhere'})
     group.check('a dead link', lint('m', cwd=top), (1, b'', lines(fault('m/.tfrules', 'the link leads nowhere'))))
     (top / 'm' / '.tfrules').unlink()
@@ -294,7 +294,7 @@ def no_configs(group, lint):
 
 
 def rule_texts(group, lint):
-    """What is said of the rules is what docs/RULES.md says of them."""
+    """The texts about the rules are those of docs/RULES.md."""
     rows = re.findall(r'^\| \[`(\w+)`\]\(#\1\) \| (\w+) \| (yes|no) \| (.*) \|$', GUIDE, re.M)
     told = ['%s (%s%s): %s' % (name, how, ', default' * (given == 'yes'), what) for name, how, given, what in rows]
     group.check('--list-rules', lint('--list-rules', cwd=TOP), (0, lines(*told), b''))
@@ -347,7 +347,7 @@ def lists_of_rules(group, lint):
 
 
 def unknown(place, *names):
-    """What is said of a comment that names what no rule has."""
+    """The message about a comment with a name that no rule has."""
     shown = [it if it.startswith('"') else '"%s"' % it for it in map(quoted, names)]
     return fault(place, 'no rule is called ' + ' or '.join(shown))
 
@@ -357,7 +357,7 @@ def of_file(place):
 
 
 def comments(group, lint):
-    """Each silencing comment that names what no rule has is told, and each for a whole file."""
+    """Each silencing comment with a name that no rule has is reported, and each for a whole file."""
     for text, *told in (
         (b'# tflint-ignore: %s\n' % ','.join(ALL + ['all']).encode(),),
         (
@@ -386,7 +386,7 @@ def comments(group, lint):
 
 
 def comments_and_the_rest(group, lint):
-    """What is said of comments stands beside reports, files that are refused, and statuses."""
+    """Messages about comments, together with reports, refused files, and statuses."""
     comment = b'# tflint-ignore: x\n'
     top = tree(
         group, {'a/a.tf': comment + DECLARED, 'a/b.tf': comment, 'b/b.tf': BAD, 'b/c.tf': comment, 'd/d.tf': b''}
@@ -413,7 +413,7 @@ def comments_and_the_rest(group, lint):
 
 
 def comments_asked_by_a_project(group, lint):
-    """The option stands on the line or in a .tfrules, and governs the modules of that one."""
+    """The option is on the line or in a .tfrules, and governs the modules of that one."""
     top = tree(group, {name + '/a.tf': b'# tflint-ignore: x\n' for name in ('m', 'n', 'o')})
     put(top, {'m/.tfrules': b'--check-comments\n', 'n/.tfrules': b'--force\n  --check-comments # ours\r\n'})
     told = {name: unknown(name + '/a.tf:1:1', 'x') for name in ('m', 'n', 'o')}
@@ -432,7 +432,7 @@ def comments_asked_by_a_project(group, lint):
 
 
 def lines_of_files(group, lint):
-    """On a terminal the line of a file stands below what is said of a place in it, and nowhere else."""
+    """On a terminal the line of a file is below the message about a place in it, and nowhere else."""
     top = tree(
         group,
         {

@@ -1,4 +1,4 @@
-"""What `make` says if it can't do its work, on a copy of the repository, with a kit that proves nothing."""
+"""The messages of `make` when it can't do its work, on a copy of the repository, with a kit that proves nothing."""
 
 import os
 import shutil
@@ -79,7 +79,7 @@ def run(group):
 
 
 def tools_alone(group):
-    """A folder with what the Makefile's rules need, and neither Python nor rt."""
+    """A folder with the tools that the Makefile's rules need, and neither Python nor rt."""
     folder = group.fresh()
     for name in ('sh', 'find', 'echo', 'make', 'env', 'sed'):
         os.symlink(shutil.which(name), str(folder / name))
@@ -118,12 +118,12 @@ def interrupted(group, copy, calls, stand_in):
 
 
 def made_in(folder):
-    """What is there, but for what the prover printed and what keeps another make waiting."""
+    """The files, except the prover's output and the file that keeps another make waiting."""
     return sorted(it.name for it in folder.iterdir() if not it.name.endswith('.log') and it.name != 'lock')
 
 
 def not_proved(group, copy, calls, stand_in):
-    """What stands on a crate that isn't proved, at whatever distance, is not tried, and the work ends."""
+    """A crate above one that isn't proved, at any distance, is not tried, and the work ends."""
     setting = dict(
         PATH='%s:%s' % (stand_in, group.setting['PATH']),
         CALLS=str(calls),
@@ -140,7 +140,7 @@ def not_proved(group, copy, calls, stand_in):
 
 
 def two_at_once(group, copy, calls, stand_in):
-    """Of two that build the same at once the second waits, and finds it done."""
+    """If two build the same at once, the second waits, and finds it done."""
     setting = dict(
         PATH='%s:%s' % (stand_in, group.setting['PATH']), CALLS=str(calls), PAUSE='0.1', PROGRAM=group.program
     )

@@ -1,4 +1,4 @@
-"""Which modules tfrules-all lints on real folders, which files each of them has, and what it says of those that can't be
+"""Which modules tfrules-all lints on real folders, which files each of them has, and its messages about those that can't be
 looked at."""
 
 import json
@@ -196,7 +196,7 @@ def special_files(group, lint):
 
 
 def deleted(group, lint):
-    """A file of a module that isn't there stands for its folder, if that is."""
+    """A missing file of a module stands for its folder, if that exists."""
     top = tree(group, {'m/a.tf': DECLARED, 'm/b.tf': USED, 'o/a.tofu': DECLARED, 'none/x.txt': b'', 'gone/a.tf': USED})
     (top / 'm' / 'b.tf').unlink()
     group.check(
@@ -255,7 +255,7 @@ TEXTS = (
 
 
 def many_modules(group, lint):
-    """Each of very many modules is linted: what is said of each is what tfrules says of its files."""
+    """Each of very many modules is linted: its output is that of tfrules for its files."""
     names = ['a.tf', 'b.tf', 'c.tofu', 'main.tf', 'z.tofu']
     files = {}
     for number in range(MODULES):
@@ -323,12 +323,12 @@ def input_left(group, lint):
 
 
 def folder_of(name):
-    """The name of a module, by which its part is told."""
+    """The name of a module, by which its part is chosen."""
     return name[: name.rfind('/') + 1]
 
 
 def shards(group, lint):
-    """Each module is in one part, which is told by the name of its folder alone."""
+    """Each module is in one part, which depends on the name of its folder alone."""
     every = ['a b/m.tf', 'm.tf', 'new\nline/m.tf', '\u00e9/m.tf'] + ['d/%d/m.tf' % number for number in range(40)]
     every.sort(key=lambda name: os.fsencode(folder_of(name)))
     top = tree(group, {name: DECLARED for name in every})

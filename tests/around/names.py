@@ -135,8 +135,8 @@ def interrupted(group):
 
 
 def groups(group):
-    """Where the group can't be kept, it and all others may do what both might. It is kept where it is one of the caller's,
-    also where the owner can't be."""
+    """If the group can't be kept, it and all others get the rights that both had. It is kept if it is one of the
+    caller's, even if the owner can't be."""
     for before, after in ((0o640, 0o600), (0o604, 0o600), (0o664, 0o644), (0o646, 0o644), (0o2775, 0o755)):
         top = group.fresh()
         put(top, {'x.tf': OTHER})

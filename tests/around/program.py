@@ -1,4 +1,4 @@
-"""The program itself, where tests/cases can't go: devices that fail, and what the documents show."""
+"""The program itself, where tests/cases can't go: devices that fail, and the examples of the documents."""
 
 import json
 import os

@@ -309,7 +309,7 @@ def recipes(group):
 
 
 def same_hooks(group):
-    """The linter's hook for pre-commit stands in three files, which differ in how it is installed alone."""
+    """The linter's hook for pre-commit is in three files, which differ only in its installation."""
     hooks = []
     for file in (
         TOP / '.pre-commit-hooks.yaml',
@@ -322,7 +322,7 @@ def same_hooks(group):
 
 
 def sharded(group, path, suffixes):
-    """The jobs for very many files: what the shards say together is what one run says."""
+    """The jobs for very many files: the shards together report the same as one run."""
     if not group.has('git', checks=6):
         return
     here = group.fresh()
@@ -371,8 +371,8 @@ def sharded(group, path, suffixes):
 
 
 def scanning(group, here, path):
-    """The steps of the job for code scanning. A module that has issues doesn't fail it, and a refused one does; what was
-    written is uploaded then too."""
+    """The steps of the job for code scanning. A module with issues doesn't fail it, and a refused one does; the
+    document is uploaded then too."""
     text = (group.contrib / 'ci' / 'github-code-scanning.yml').read_text()
     step, into = re.search(r'run: (tfrules-all .* >(\S+))', text).groups()
     issues = group.fresh()
@@ -391,7 +391,7 @@ def scanning(group, here, path):
 
 
 def quality(group, here, path):
-    """The job for GitLab's code quality. Its report has what can't be linted, and is kept where the job fails."""
+    """The job for GitLab's code quality. Its report has the refused files, and is kept if the job fails."""
     job = (group.contrib / 'ci' / 'gitlab.yml').read_text().split('\ncode-quality:\n')[1]
     step, into = re.search(r'- (tfrules-all .* >(\S+))', job).groups()
     put(here, {'m/a.tf': b'variable "n" { type = string }\n'})
@@ -403,7 +403,7 @@ def quality(group, here, path):
 
 
 def lint_matchers(group):
-    """The matchers read a report, and what is said of files that are refused or can't be opened."""
+    """The matchers read a report, and the messages about files that are refused or can't be opened."""
     contrib = group.contrib
     matcher = json.loads((contrib / 'ci' / 'tfrules-matcher.json').read_text())
     tasks = json.loads((contrib / 'editors' / 'vscode' / 'tasks.json').read_text())

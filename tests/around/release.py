@@ -1,4 +1,4 @@
-"""What `make dist` packs: the same bytes each time, and programs that run where there is nothing else."""
+"""The packages of `make dist`: the same bytes each time, and programs that run where there is nothing else."""
 
 import os
 import re
@@ -201,7 +201,7 @@ def not_packed(group, copy):
 
 
 def runs_in(group, root, folder):
-    """What the programs do in the root."""
+    """The programs' behaviour in the root."""
     (root / 'a.tf').write_bytes(OTHER)
     how = {'cwd': str(root)}
     said = [
@@ -220,8 +220,8 @@ def may_chroot():
 
 
 def releasing(group):
-    """The tarball and the package are installed into an empty root, run there, and removed; nothing is left. The same in
-    a root with busybox alone, where the scripts that need no git run too."""
+    """The tarball and the package are installed into an empty root, run there, and removed; nothing is left. Then in a
+    root with busybox alone, where the scripts that need no git run too."""
     if not may_chroot():
         group.skip('an empty root', 22, 'chroot is not allowed here')
         return
@@ -451,7 +451,7 @@ def wheel(group):
 
 
 def by_wheel(group, made):
-    """The example for pre-commit with the wheel, of which pip knows only a folder."""
+    """The example for pre-commit with the wheel, with pip knowing only a folder."""
     if not all([group.has('git', checks=0), group.has('pre-commit', checks=2)]):
         return
     if not os.path.isdir(BUILDERS):

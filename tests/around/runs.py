@@ -1,5 +1,5 @@
-"""Runs of tffmt-all side by side in one folder: no text comes into the wrong file, and each run tells what became of its
-own."""
+"""Parallel runs of tffmt-all in one folder: no text gets into the wrong file, and each run reports the outcome of its own
+files."""
 
 import errno
 import fcntl
@@ -29,7 +29,7 @@ LEFT = b'left'
 
 
 def lay(top, free=()):
-    """The files, and what runs left long ago under each name for a new file, but for those that are free."""
+    """The files, and old leftovers of runs under each name for a new file, except the free names."""
     put(top, {name: old for name, (old, _) in TEXTS.items()})
     for number in range(NAMES):
         path = str(top / ('.tffmt.%d' % number))
@@ -43,7 +43,7 @@ def lay(top, free=()):
 
 
 def fault_of(top, shown):
-    """What is wrong after these runs, or nothing."""
+    """The fault after these runs, or nothing."""
     found = contents(top)
     for name, (status, out, err) in shown.items():
         old, new = TEXTS[name]
@@ -55,7 +55,7 @@ def fault_of(top, shown):
 
 
 def side_by_side(group, top, held, order):
-    """What the runs show that are held up before these calls, started in turn, and let go in this order."""
+    """The output of the runs that are held up before these calls, started in turn, and let go in this order."""
     runs = []
     for name, (kind, number) in zip(TEXTS, held):
         runs.append((name, Held(group, [name], top, kind, REFUSE=str(number))))
@@ -68,7 +68,7 @@ def side_by_side(group, top, held, order):
 
 
 def two(group):
-    """Two runs, of which each is held up before each call, where all names are taken, and where one is free."""
+    """Two runs, each held up before each call, with all names taken, and with one free."""
     top = group.fresh()
     for free in ((), (7,)):
         wrong, ends = [], []
@@ -98,7 +98,7 @@ def three(group):
 
 
 def locked(group):
-    """What another run may hold isn't taken for a leftover, nor anything where there are no locks."""
+    """A file that another run may hold isn't taken for a leftover, nor is any file if there are no locks."""
     top = group.fresh()
     lay(top)
     with open(str(top / '.tffmt.0'), 'rb') as file:

@@ -1,5 +1,5 @@
-"""Reads documents of SARIF from standard input, one a line, each into the objects of sarif_om, whose attributes know the
-members of the schema, and writes them again. In place of one that it can't read it writes why."""
+"""Reads SARIF documents from standard input, one per line, each into the objects of sarif_om, whose attributes know the
+members of the schema, and writes them again. In place of one that it can't read it writes the reason."""
 
 import json
 import sys
@@ -47,7 +47,7 @@ def default(field):
 
 
 def again(kind, it):
-    """What an object has, without what is as it would be if it were left out."""
+    """The members of an object, without those that have their default."""
     if isinstance(it, list):
         return [again(kind, one) for one in it]
     told = {}

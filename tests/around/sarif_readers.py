@@ -1,4 +1,4 @@
-"""SARIF as others read it: the types of a library of Go, and those of one of Python, each made of the schema by a
+"""SARIF as others read it: the types of a Go library, and those of a Python library, each made from the schema by a
 generator. Both are packages of Debian, golang-github-haya14busa-go-sarif-dev and python3-sarif-python-om."""
 
 import json
@@ -62,7 +62,7 @@ def differs(given, wanted, path=''):
 
 
 def check(group, documents):
-    """Each document, by its name, is read by both, and they have all that stands there."""
+    """Both readers read each document, by its name, and find everything in it."""
     for needs, name, found in (('go', 'go-sarif', by_go), (PYTHON, 'sarif_om', by_objects)):
         if not group.has(needs, checks=len(documents)):
             continue

@@ -19,7 +19,7 @@ _LETTERS = (
 _BYTES = {letter: 32 + number for number, letter in enumerate(_LETTERS.elems())}
 
 def _sum_of(name):
-    """The sum by which the part of a name is told."""
+    """The sum that decides the part of a name."""
     total = 0
     for letter in name.elems():
         if letter not in _BYTES:
@@ -40,8 +40,8 @@ def _quoted(word):
     """A word as the shell takes it, in a text in which Bazel replaces `$`."""
     return "'" + word.replace("'", "'\\''").replace("$", "$$") + "'"
 
-# A file stands for its module, so one name of each is enough. Where one fails, the action fails, and all that was said is in
-# the log. The last line counts the modules: where it isn't as many as there are folders, one was passed over.
+# A file stands for its module, so one name of each is enough. If one fails, the action fails, and all messages are in the
+# log. The last line counts the modules: if the number isn't that of the folders, one was passed over.
 _COMMAND = """
 status=0
 said=$$(printf '%s\\0' {names} | $(execpath {tool}) --null --shard {part}/{parts} {options} 2>&1 >$@) || status=$$?

@@ -1,4 +1,4 @@
-" Vim and Neovim: lints the module of the file at hand, and lists what is found.
+" Vim and Neovim: lints the module of the current file, and lists the issues.
 "
 " The plugin in the folder above this one brings it. After `:compiler tfrules`, `:make`
 " lints the folder of the file with all its files, as last saved, and fills the quickfix list; `:lmake`

@@ -1,4 +1,4 @@
--- Neovim 0.7 or later: shows as diagnostics what tfrules finds, when a Terraform file is opened or written.
+-- Neovim 0.7 or later: shows the issues of tfrules as diagnostics, when a Terraform file is opened or written.
 --
 -- The plugin in the folder above this one calls `enable`. The module of the file is linted with all its files, as last
 -- saved. vim.g.tfrules_command names the program and its options, if it isn't { "tfrules-all", "--quiet" }.
@@ -38,8 +38,8 @@ local function read_line(line)
   end
 end
 
--- Shows the lines of a run in the buffers of the module, and wipes what was shown there before. Why a module is refused is
--- a message where no buffer has it, as of a .tfrules.
+-- Shows the lines of a run in the buffers of the module, and removes earlier ones. The reason why a module is refused is a
+-- message if no buffer has the file, such as a .tfrules.
 local function show(folder, lines, is_refused)
   local found, shown = {}, {}
   for _, line in ipairs(lines) do

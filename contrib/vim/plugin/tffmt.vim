@@ -10,7 +10,7 @@
 " formatted on writing.
 "
 " 'formatprg' and 'equalprg' are not the place for tffmt: they pass it a part of a file, and Vim replaces the text
-" by what a failed filter said.
+" by the message of a failed filter.
 
 " Formats the buffer; what went wrong, or nothing.
 function! s:Format() abort

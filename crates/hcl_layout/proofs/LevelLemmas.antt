@@ -118,7 +118,7 @@ levels_of_state before (n ∷ rest) =
     (levels_of_state (before ++ n ∷ []) rest
     ∙ ap₂ (λ (s : Net) (g : List Net). levels_from s g rest) (total-more no_net before n) (open-more no_net before n))
 
--- ---- the same by depths
+-- ---- groups by depths
 
 -- a net is that of a depth
 abbrev pub Is : ℕ → Net → Type 0

@@ -19,7 +19,7 @@ after_lines (suc n) text = after_first (λ b. b == 10) (after_lines n text)
 abbrev pub nth_line : ℕ → List ℕ → List ℕ
 nth_line number text = before_first (λ b. b == 10) (after_lines (number - 1) text)
 
--- a terminal may treat it as more than a character: a control, or one that ends a line or turns the direction of writing
+-- a terminal may treat it as more than a character: a control, a line end, or one that turns the direction of writing
 abbrev pub is_hidden : ℕ → Bool
 is_hidden c = nat_lt c 32 || is_in_range 127 159 c || is_in_range 0x2028 0x202E c || is_in_range 0x2066 0x2069 c
 

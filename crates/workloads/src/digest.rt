@@ -47,7 +47,7 @@ impl Digest {
         }
     }
 
-    /// Adds bytes, of which most come in words of eight.
+    /// Adds bytes, most of them in words of eight.
     pub fn add(&mut self, bytes: &[u8]) {
         self.length = self.length.saturating_add(bytes.len() as u64);
         let missing = if self.count == 0 || self.count > 8 {

@@ -31,7 +31,7 @@ impl Draw {
         drawn % bound
     }
 
-    /// One of some pieces, or nothing where there is none.
+    /// One of some pieces, or nothing if there is none.
     pub fn one_of<'a, T>(&mut self, pieces: &'a [T]) -> Option<&'a T> {
         let number = self.below(pieces.len());
         pieces.get(number)

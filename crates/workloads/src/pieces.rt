@@ -224,7 +224,7 @@ output "addresses_@" { value = local.all_addresses_@ }
 "#,
 ];
 
-/// Declarations of which several have something to report.
+/// Declarations; several of them have something to report.
 pub static DECLARED: &[&str] = &[
     r#"# Zone @, by its number.
 variable "zone_@" {

@@ -38,7 +38,7 @@ impl Shape {
 /// The least number of seven digits.
 const FIRST: u32 = 1_000_000;
 
-/// The last seven digits of a number, of which the first isn't 0.
+/// The last seven digits of a number; the first isn't 0.
 fn digits_of(number: u32) -> [u8; 7] {
     let mut left = FIRST + number % (9 * FIRST);
     let mut digits = [b'0'; 7];
