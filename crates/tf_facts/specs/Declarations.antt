@@ -1,7 +1,7 @@
 -- What a file declares: its top-level blocks `variable`, `output` and `module` with one label, `resource` and `data`
 -- with two, and the attributes of its top-level blocks `locals` without labels. Our own choice, after Terraform's
 -- documentation of its blocks.
-use Rattle.std.specs.Prelude.{ℕ, ◌-◌, ◌==◌, ◌&&◌, Bool, true, false, not, List, [], ◌∷◌, ◌++◌, length, filter, map, take, drop, codes, Option, Some, None, if◌then◌else◌, find}
+use Rattle.std.specs.Prelude.{ℕ, ◌-◌, ◌==◌, ◌&&◌, Bool, true, false, not, List, [], ◌∷◌, ◌++◌, length, filter, map, take, drop, codes, Option, Some, None, if◌then◌else◌, find, option_map, option_and_then}
 use Rattle.std.specs.List.{list_any}
 use Rattle.std.specs.Str.{bytes_eq}
 use Rattle.hcl_grammar.specs.Numbered.{Numbered, is_comment}
@@ -50,10 +50,8 @@ attribute ts _ = None
 
 -- the labels of a block, where `rest` follows it
 abbrev pub labels_in : List Numbered → List Item → List (List ℕ)
-labels_in ts [] = []
 labels_in ts (item.Label l ∷ rest) = label_text ts l ∷ labels_in ts rest
-labels_in ts (item.Attribute level name first end ∷ rest) = []
-labels_in ts (item.Block level kind end ∷ rest) = []
+labels_in ts _ = []
 
 abbrev pub with_attribute : Option Attribute → List Attribute → List Attribute
 with_attribute None attributes = attributes
@@ -84,12 +82,10 @@ abbrev pub value_of : List Numbered → Attribute → List Numbered
 value_of ts a = filter (λ t. not (is_comment t.kind) && not (is Newline t.kind)) (take (a.end - a.first) (drop a.first ts))
 
 abbrev pub source_of_plain_text : Option PlainText → Option (SourceAt ℕ)
-source_of_plain_text None = None
-source_of_plain_text (Some p) = Some (record { source = source_of p.text; at = p.quote })
+source_of_plain_text = option_map (λ p. record { source = source_of p.text; at = p.quote })
 
 abbrev pub source_of_attribute : List Numbered → Option Attribute → Option (SourceAt ℕ)
-source_of_attribute ts None = None
-source_of_attribute ts (Some a) = source_of_plain_text (plain_text (value_of ts a))
+source_of_attribute ts = option_and_then (λ a. source_of_plain_text (plain_text (value_of ts a)))
 
 -- by the first attribute `source`
 abbrev pub module_source : List Numbered → List Attribute → Option (SourceAt ℕ)

@@ -1,7 +1,7 @@
 -- The references of a file: `var . n`, `local . n` and `data . t . n`, where n and t are identifiers and the first word
 -- isn't directly after a dot, over the tokens without comments, blanks and newlines, heredocs included. A reference is
 -- told by its text, with nothing around the dots. Left out is `var . n` inside the block of a variable declared as n.
-use Rattle.std.specs.Prelude.{ℕ, ◌++◌, ◌&&◌, Bool, true, false, List, [], ◌∷◌, Option, Some, None, codes, nat_le, nat_lt, filter, map, drop, if◌then◌else◌}
+use Rattle.std.specs.Prelude.{ℕ, ◌++◌, ◌&&◌, Bool, false, List, [], ◌∷◌, Option, Some, None, codes, nat_le, nat_lt, filter, map, drop, if◌then◌else◌, option_map, option_and_then}
 use Rattle.std.specs.List.{list_any}
 use Rattle.std.specs.Str.{bytes_eq}
 use Rattle.hcl_tokens.specs.Kinds.{is}
@@ -28,8 +28,7 @@ name_after (d ∷ n ∷ rest) = if is kind.Dot d.kind && is kind.Ident n.kind th
 name_after _ = None
 
 abbrev pub data_of : List ℕ → Option Numbered → Option (List ℕ)
-data_of t None = None
-data_of t (Some n) = Some (data_reference t n.text)
+data_of t = option_map (λ n. data_reference t n.text)
 
 -- the reference of a first word and a name after a dot, where `rest` follows
 abbrev pub reference_of : List ℕ → List ℕ → List Numbered → Option (List ℕ)
@@ -40,8 +39,7 @@ reference_of word n rest =
     else None
 
 abbrev pub by_name : List ℕ → Option Numbered → List Numbered → Option (List ℕ)
-by_name word None rest = None
-by_name word (Some n) rest = reference_of word n.text rest
+by_name word name rest = option_and_then (λ n. reference_of word n.text rest) name
 
 -- the reference with which these tokens begin
 abbrev pub reference_at : List Numbered → Option (List ℕ)

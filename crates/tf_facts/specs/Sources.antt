@@ -1,9 +1,10 @@
 -- What the source of a module is, by its text. Our own choice, after Terraform's documentation of module sources: a
 -- text that begins with `./` or `../` is a local path, and never an address in a registry.
-use Rattle.std.specs.Prelude.{ℕ, ◌||◌, ◌&&◌, ◌==◌, Bool, false, not, List, [], ◌∷◌, Option, Some, None, codes, length, drop, if◌then◌else◌, find}
+use Rattle.std.specs.Prelude.{ℕ, ◌||◌, ◌&&◌, ◌==◌, Bool, false, not, List, [], ◌∷◌, Option, codes, length, drop, if◌then◌else◌, find}
 use Rattle.std.specs.List.{list_any, list_all, slice_split}
 use Rattle.std.specs.Char.{is_ascii_digit, is_ascii_lowercase, is_ascii_uppercase}
 use Rattle.std.specs.Str.{bytes_eq}
+use Rattle.std.specs.Option.{option_map_or}
 use Rattle.tf_facts.specs.Texts.{begins}
 
 pub data Source : Type 0 where
@@ -30,8 +31,7 @@ abbrev pub parameters : List ℕ → List (List ℕ)
 parameters text = slice_split (λ b. b == 38) (after_question text)
 
 abbrev pub value_after : List ℕ → Option (List ℕ) → List ℕ
-value_after front None = []
-value_after front (Some part) = drop (length front) part
+value_after front part = option_map_or (drop (length front)) part []
 
 -- what follows this front in the first parameter that begins with it, or nothing
 abbrev pub revision : List ℕ → List ℕ → List ℕ

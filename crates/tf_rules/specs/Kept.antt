@@ -1,5 +1,5 @@
 -- What is kept of the files of a module: places, names and flags, and no source. The issues are a function of it.
-use Rattle.std.specs.Prelude.{ℕ, ◌++◌, List, [], Option, Some, None, map, fold}
+use Rattle.std.specs.Prelude.{ℕ, ◌++◌, List, [], Option, option_map, map, fold}
 use Rattle.std.specs.Str.{bytes_eq}
 use Rattle.indexmap.specs.IndexSet.{insert_all}
 use Rattle.tf_facts.specs.Declarations.{Declaration, SourceAt}
@@ -16,8 +16,7 @@ pub record Kept : Type 0 where
 -- ---- facts at other places
 
 abbrev pub source_at : {P Q : Type 0} → (P → Q) → Option (SourceAt P) → Option (SourceAt Q)
-source_at f None = None
-source_at f (Some s) = Some (record { source = s.source; at = f s.at })
+source_at f = option_map (λ s. record { source = s.source; at = f s.at })
 
 abbrev pub declaration_at : {P Q : Type 0} → (P → Q) → Declaration P → Declaration Q
 declaration_at f d = record {
