@@ -72,7 +72,7 @@ fn comment_at(tokens: &Tokens<'_>, number: usize) -> Option<FoundComment>
 }
 
 /// Puts what the token of this number says last, where it is a line comment that says something.
-pub fn put_comment(
+pub fn push_comment(
     tokens: &Tokens<'_>,
     number: usize,
     found: &mut Vec<FoundComment>,

@@ -187,7 +187,7 @@ fn local_of<'s>(accepted: &Accepted<'_, 's>, item: Item) -> Option<Declared<'s>>
 }
 
 /// Puts the attributes of a `locals` block, by the number of the item after it, after what was found.
-fn put_locals<'s>(
+fn push_locals<'s>(
     accepted: &Accepted<'_, 's>,
     items: &Outline,
     from: usize,
@@ -216,7 +216,7 @@ fn is_unlabelled(names: Names<'_>) -> bool
 }
 
 /// Puts what a top-level block declares, by the number of its kind and that of the item after it, after what was found.
-fn put_block<'s>(
+fn push_block<'s>(
     accepted: &Accepted<'_, 's>,
     items: &Outline,
     token: usize,
@@ -236,11 +236,11 @@ fn put_block<'s>(
     if !is_unlabelled(names(accepted, items, from)) {
         return Ok(());
     }
-    put_locals(accepted, items, from, found)
+    push_locals(accepted, items, from, found)
 }
 
 /// Puts what the item of this number declares after what was found.
-fn put_item<'s>(
+fn push_item<'s>(
     accepted: &Accepted<'_, 's>,
     items: &Outline,
     number: usize,
@@ -260,7 +260,7 @@ fn put_item<'s>(
     if level > 0 {
         return Ok(());
     }
-    put_block(accepted, items, kind, number + 1, found)
+    push_block(accepted, items, kind, number + 1, found)
 }
 
 /// How many items of an outline there are for each declaration that the list has room for at first. Most files have five
@@ -284,7 +284,7 @@ pub fn declarations<'s>(
     let room = (items.len() / ITEMS_A_DECLARATION / 4 * 4).min(MOST_ROOM);
     let mut found = Vec::with_capacity(alloc, room)?;
     for number in 0..items.len() {
-        put_item(accepted, items, number, &mut found)?;
+        push_item(accepted, items, number, &mut found)?;
     }
     Ok(found)
 }

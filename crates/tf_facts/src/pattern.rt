@@ -16,7 +16,7 @@ ghost use Rattle.tf_facts.specs.Found.{comment};
 ghost use Rattle.tf_facts.specs.Patterns.{legacy_indexes, wrapped_interpolations};
 ghost use Rattle.tf_facts.specs.Inner.Closings.{part_of};
 
-use crate::comment::put_comment;
+use crate::comment::push_comment;
 use crate::found::FoundComment;
 use crate::part::Part;
 use hcl_tokens::{Kind, Nesting, Tokens};
@@ -139,7 +139,7 @@ pub fn found_patterns(alloc: Global, tokens: &Tokens<'_>) -> Result<Patterns, Al
         match part_of(kind) {
             Part::PassedOver => continue,
             Part::LineComment => {
-                put_comment(tokens, number, &mut comments)?;
+                push_comment(tokens, number, &mut comments)?;
                 continue;
             }
             Part::Plain => {}

@@ -5,5 +5,5 @@ use Rattle.tf_facts.proofs.declaration.declarations.Goals as goal
 
 pub loop-number-preserved : goal.loop-number-preserved
 loop-number-preserved c =
-    declared_more (numbered c.args.accepted.now.tokens) c.args.items.now c.loop-number.found.items c.loop-number.number c.put_item.new.found.items (omega (arith, c.loop-number-test.true, c.len-number-end.ensures))
-    c.in_ok-put_item.ensures c.loop-number.invariant
+    declared_more (numbered c.args.accepted.now.tokens) c.args.items.now c.loop-number.found.items c.loop-number.number c.push_item.new.found.items (omega (arith, c.loop-number-test.true, c.len-number-end.ensures))
+    c.in_ok-push_item.ensures c.loop-number.invariant

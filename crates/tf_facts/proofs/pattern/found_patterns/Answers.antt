@@ -17,7 +17,7 @@ loop-number-preserved-in-LineComment c = record {
   walked =
       walk_past c.args.tokens.now.tokens (c.loop-number.number - 1) c.loop-number.number (omega arith) c.loop-number.indexes.items c.loop-number.interpolations.items c.loop-number.openers.items c.loop-number.next c.loop-number.is_closed c.loop-number.invariant.walked c.kind-kind.result c.kind-kind.ensures
       (past_comment c.kind-kind.result (sym c.part_of.ensures ∙ c.in-LineComment.is));
-  said = comments_noted c.args.tokens.now.tokens (c.loop-number.number - 1) c.loop-number.number (omega arith) (omega (arith, c.loop-number.invariant.walked.within)) c.loop-number.comments.items c.loop-number.invariant.said c.put_comment.new.found.items c.in_ok-put_comment-in-LineComment.ensures;
+  said = comments_noted c.args.tokens.now.tokens (c.loop-number.number - 1) c.loop-number.number (omega arith) (omega (arith, c.loop-number.invariant.walked.within)) c.loop-number.comments.items c.loop-number.invariant.said c.push_comment.new.found.items c.in_ok-push_comment-in-LineComment.ensures;
 }
 
 pub loop-number-preserved-in-Plain : goal.loop-number-preserved-in-Plain

@@ -2,7 +2,7 @@ use Rattle.std.proofs.Common.{◌∙◌, ap, sym, [], ◌∷◌, ◌++◌, map}
 use Rattle.std.proofs.lemmas.List.{map-append}
 use Rattle.tf_facts.specs.Found.{comment}
 use Rattle.tf_facts.specs.Inner.FoundViews.{comment_listed}
-use Rattle.tf_facts.proofs.comment.put_comment.Goals as goal
+use Rattle.tf_facts.proofs.comment.push_comment.Goals as goal
 
 pub returns : goal.returns
 returns c = λ t e.

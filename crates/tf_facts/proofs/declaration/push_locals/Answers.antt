@@ -2,7 +2,7 @@ use Rattle.std.proofs.Common.{◌∙◌, ◌++◌, ap, map, sym}
 use Rattle.hcl_grammar.specs.Numbered.{numbered}
 use Rattle.tf_facts.specs.Found.{declaration}
 use Rattle.tf_facts.proofs.DeclarationLemmas.{locals_more, locals_over}
-use Rattle.tf_facts.proofs.declaration.put_locals.Goals as goal
+use Rattle.tf_facts.proofs.declaration.push_locals.Goals as goal
 
 pub returns-then-not-is_inside : goal.returns-then-not-is_inside
 returns-then-not-is_inside c =
