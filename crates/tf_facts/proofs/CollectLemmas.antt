@@ -12,9 +12,9 @@ use Rattle.hcl_tokens.specs.declared.token.Kind.{Kind}
 use Rattle.hcl_tokens.specs.declared.token.Kind.TheVariants as kind
 use Rattle.hcl_tokens.specs.Lexemes.{Lexeme}
 use Rattle.hcl_grammar.specs.Numbered.{Numbered, is_passed_over}
-use Rattle.tf_facts.specs.References.{Own, by_name, name_after, reference_at, references_from, unless_own}
+use Rattle.tf_facts.specs.References.{VariableSpan, by_name, name_after, reference_at, references_from, unless_self_reference}
 use Rattle.tf_facts.specs.Inner.Seen.{AreNoIdents, after_dot, number_of, seen_from}
-use Rattle.tf_facts.specs.OwnBlocks.{ArePassed, Extends}
+use Rattle.tf_facts.specs.VariableBlocks.{ArePassed, Extends}
 use Rattle.tf_facts.proofs.PatternLemmas.{there_is}
 use Rattle.tf_facts.proofs.SeenLemmas.{after_past, after_seen, seen_here, seen_past, seen_none}
 
@@ -38,17 +38,17 @@ cond-same false x = refl
 -- ---- the walk
 
 -- what is in the set, with what is left, is what is to be in it; and it has what it had in front
-pub record IsCollected (own : List Own) (ts : List Lexeme) (old new : List (List ℕ)) (after_dot : Bool) (n : ℕ) : Type 0 where
+pub record IsCollected (own : List VariableSpan) (ts : List Lexeme) (old new : List (List ℕ)) (after_dot : Bool) (n : ℕ) : Type 0 where
   pub left : insert_all bytes_eq new (references_from own after_dot (seen_from ts n)) ≡ insert_all bytes_eq old (references_from own false (seen_from ts 0))
   pub kept : Extends old new
 
 -- a loop has come to a number, with so many blocks passed
-pub record IsWalked (own : List Own) (ts : List Lexeme) (old new : List (List ℕ)) (after_dot : Bool) (next count n : ℕ) : Type 0 where
+pub record IsWalked (own : List VariableSpan) (ts : List Lexeme) (old new : List (List ℕ)) (after_dot : Bool) (next count n : ℕ) : Type 0 where
   pub collected : IsCollected own ts old new after_dot n
   pub passed : ArePassed own next n
   pub within : next ≤ count
 
-module _ (own : List Own) (ts : List Lexeme) (old : List (List ℕ)) where
+module _ (own : List VariableSpan) (ts : List Lexeme) (old : List (List ℕ)) where
   pub begins : IsCollected own ts old old false 0
   begins = record { left = refl; kept = record { more = []; is = sym (append-nil old) } }
 
@@ -83,10 +83,10 @@ module _ (own : List Own) (ts : List Lexeme) (old : List (List ℕ)) where
   extends_all new (x ∷ xs) h = extends_all (insert_key bytes_eq new x) xs (extends_key new x h)
 
   pub puts : (new next : List (List ℕ)) (n : ℕ) (t : Lexeme) → slice_get ts n ≡ Some t → is_passed_over t.kind ≡ false
-      → next ≡ insert_all bytes_eq new (unless_own own n (reference_at (number_of n t ∷ seen_from ts (n + 1))))
+      → next ≡ insert_all bytes_eq new (unless_self_reference own n (reference_at (number_of n t ∷ seen_from ts (n + 1))))
       → IsCollected own ts old new false n → IsCollected own ts old next (is kind.Dot t.kind) (n + 1)
   puts new next n t e seen put h =
-      let here = unless_own own n (reference_at (number_of n t ∷ seen_from ts (n + 1))) in
+      let here = unless_self_reference own n (reference_at (number_of n t ∷ seen_from ts (n + 1))) in
       let rest = references_from own (is kind.Dot t.kind) (seen_from ts (n + 1)) in
       let P : List (List ℕ) → Type 0 = λ s. Extends old s in
       record {
@@ -106,7 +106,7 @@ module _ (own : List Own) (ts : List Lexeme) (old : List (List ℕ)) where
       rw same (rw is (skips new n t e seen (subst P is_after h)))
 
   pub collected : (new next into : List (List ℕ)) (after dot : Bool) (n : ℕ) (t : Lexeme) → slice_get ts n ≡ Some t → is_passed_over t.kind ≡ false → after ≡ false → dot ≡ is kind.Dot t.kind → into ≡ next
-      → next ≡ insert_all bytes_eq new (unless_own own n (reference_at (number_of n t ∷ seen_from ts (n + 1))))
+      → next ≡ insert_all bytes_eq new (unless_self_reference own n (reference_at (number_of n t ∷ seen_from ts (n + 1))))
       → IsCollected own ts old new after n → IsCollected own ts old into dot (n + 1)
   collected new next into after dot n t e seen free is same put h =
       let P : Bool → Type 0 = λ b. IsCollected own ts old new b n in
@@ -118,15 +118,15 @@ module _ (own : List Own) (ts : List Lexeme) (old : List (List ℕ)) where
   no_word new true dot n t e seen none is_dot h = skipped new new true dot n t e seen refl is_dot refl h
   no_word new false dot n t e seen none is_dot h =
       collected new new new false dot n t e seen refl is_dot refl
-      (sym (ap (λ b. insert_all bytes_eq new (unless_own own n (cond b (by_name t.text (name_after (seen_from ts (n + 1))) (drop 2 (seen_from ts (n + 1)))) None))) none)) h
+      (sym (ap (λ b. insert_all bytes_eq new (unless_self_reference own n (cond b (by_name t.text (name_after (seen_from ts (n + 1))) (drop 2 (seen_from ts (n + 1)))) None))) none)) h
 
   -- a word that no name after a dot follows begins no reference
   pub no_name : (new : List (List ℕ)) (after dot : Bool) (n : ℕ) (t : Lexeme) → slice_get ts n ≡ Some t → is_passed_over t.kind ≡ false → name_after (seen_from ts (n + 1)) ≡ None → after ≡ false → dot ≡ is kind.Dot t.kind
       → IsCollected own ts old new after n → IsCollected own ts old new dot (n + 1)
   no_name new after dot n t e seen none free same h =
       collected new new new after dot n t e seen free same refl
-      (sym (ap (λ (o : Option Numbered). insert_all bytes_eq new (unless_own own n (cond (is kind.Ident t.kind) (by_name t.text o (drop 2 (seen_from ts (n + 1)))) None))) none
-      ∙ ap (λ (r : Option (List ℕ)). insert_all bytes_eq new (unless_own own n r)) (cond-same (is kind.Ident t.kind) None))) h
+      (sym (ap (λ (o : Option Numbered). insert_all bytes_eq new (unless_self_reference own n (cond (is kind.Ident t.kind) (by_name t.text o (drop 2 (seen_from ts (n + 1)))) None))) none
+      ∙ ap (λ (r : Option (List ℕ)). insert_all bytes_eq new (unless_self_reference own n r)) (cond-same (is kind.Ident t.kind) None))) h
 
   -- so does one that is passed over
   pub no_ident : (new : List (List ℕ)) (n : ℕ) (t : Lexeme) → slice_get ts n ≡ Some t → is kind.Ident t.kind ≡ false → IsCollected own ts old new (after_dot ts n) n → IsCollected own ts old new (after_dot ts (n + 1)) (n + 1)

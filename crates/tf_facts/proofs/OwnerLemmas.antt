@@ -11,10 +11,10 @@ use Rattle.hcl_grammar.specs.declared.item.Item.{Item}
 use Rattle.hcl_grammar.specs.declared.item.Item.TheVariants as item
 use Rattle.hcl_grammar.proofs.NumberedLemmas.{drop_at}
 use Rattle.tf_facts.specs.Declarations.{is_kind, Attribute, Declaration, Declarer, attributes_in, by_declarer, declarer, has, is_empty, labels_in, of_block, of_local}
-use Rattle.tf_facts.specs.References.{Own, last_of, own_of_item, own_of_items}
-use Rattle.tf_facts.specs.OwnBlocks.{own_of}
+use Rattle.tf_facts.specs.References.{VariableSpan, last_of, variable_blocks_of_item, variable_blocks_of_items}
+use Rattle.tf_facts.specs.VariableBlocks.{block_view}
 use Rattle.tf_facts.specs.declared.declaration_kind.DeclarationKind.TheVariants as declares
-use Rattle.tf_facts.specs.declared.own_block.OwnBlock.{OwnBlock}
+use Rattle.tf_facts.specs.declared.variable_block.VariableBlock.{VariableBlock}
 use Rattle.tf_facts.proofs.OwnLemmas.{no_locals}
 
 abbrev variables : List (Declaration ℕ) → List (Declaration ℕ)
@@ -89,11 +89,11 @@ pub closed_at : (level : ℕ) → level ≤ 0 → is_closed level ≡ true
 closed_at zero h = refl
 closed_at (suc level) h = absurd (omega (arith, h))
 
-abbrev own_by : List ℕ → ℕ → ℕ → Own
+abbrev own_by : List ℕ → ℕ → ℕ → VariableSpan
 own_by name first end = record { name = name; first = first; end = end }
 
 module _ (ts : List Numbered) (items : List Item) (n level token end : ℕ) (e : slice_get items n ≡ Some (item.Block level token end)) (x : Item) (k : slice_get items n ≡ Some x) where
-  abbrev own_as : Declaration ℕ → Own
+  abbrev own_as : Declaration ℕ → VariableSpan
   own_as d = record { name = last_of d.names; first = token; end = end }
 
   abbrev rest : List Item
@@ -111,27 +111,27 @@ module _ (ts : List Numbered) (items : List Item) (n level token end : ℕ) (e :
       some_same : Some (item.Block level token end) ≡ Some x → item.Block level token end ≡ x
       some_same h = cc
 
-  at_level : (b : Bool) → is_closed level ≡ b → map own_as (variables (cond b inside [])) ≡ own_of_item ts x rest
-  at_level b is = ap (λ c. map own_as (variables (cond c inside []))) (sym is) ∙ ap (λ i. own_of_item ts i rest) same
+  at_level : (b : Bool) → is_closed level ≡ b → map own_as (variables (cond b inside [])) ≡ variable_blocks_of_item ts x rest
+  at_level b is = ap (λ c. map own_as (variables (cond c inside []))) (sym is) ∙ ap (λ i. variable_blocks_of_item ts i rest) same
 
-  at_top : is_closed level ≡ true → (ds : List (Declaration ℕ)) → ds ≡ all_by → map own_as (variables ds) ≡ own_of_item ts x rest
+  at_top : is_closed level ≡ true → (ds : List (Declaration ℕ)) → ds ≡ all_by → map own_as (variables ds) ≡ variable_blocks_of_item ts x rest
   at_top top ds is = ap (λ es. map own_as (variables es)) is ∙ ap (map own_as) (variables_in ts token (labels_in ts rest) (attributes_in ts rest)) ∙ at_level true top
 
-  pub owner_none : is_closed level ≡ true → variables all_by ≡ [] → [] ≡ own_of_item ts x (drop (n + 1) items)
+  pub owner_none : is_closed level ≡ true → variables all_by ≡ [] → [] ≡ variable_blocks_of_item ts x (drop (n + 1) items)
   owner_none top none = sym (ap (map own_as) none) ∙ at_top top all_by refl
 
   -- a block of another kind
-  pub owner_other : is_closed level ≡ true → bytes_eq (text_of ts token) (codes "variable") ≡ false → [] ≡ own_of_item ts x (drop (n + 1) items)
+  pub owner_other : is_closed level ≡ true → bytes_eq (text_of ts token) (codes "variable") ≡ false → [] ≡ variable_blocks_of_item ts x (drop (n + 1) items)
   owner_other top other = owner_none top (no_variable ts token (labels_in ts rest) (attributes_in ts rest) (text_of ts token) other)
 
   -- a block of this kind with more labels, or none
-  pub owner_unfit : is_closed level ≡ true → bytes_eq (text_of ts token) (codes "variable") ≡ true → (length (labels_in ts (drop (n + 1) items)) == 1) ≡ false → [] ≡ own_of_item ts x (drop (n + 1) items)
+  pub owner_unfit : is_closed level ≡ true → bytes_eq (text_of ts token) (codes "variable") ≡ true → (length (labels_in ts (drop (n + 1) items)) == 1) ≡ false → [] ≡ variable_blocks_of_item ts x (drop (n + 1) items)
   owner_unfit top same unfit =
       owner_none top (one_variable ts token (labels_in ts rest) (attributes_in ts rest) (text_of ts token) same
       ∙ ap (λ b. variables (cond b (a_variable ts token (labels_in ts rest) (attributes_in ts rest) ∷ []) [])) unfit)
 
-  pub owner_one : is_closed level ≡ true → bytes_eq (text_of ts token) (codes "variable") ≡ true → (name : List ℕ) → labels_in ts (drop (n + 1) items) ≡ name ∷ [] → (o : OwnBlock) → o.name.now ≡ name → o.first ≡ token → o.end ≡ end
-      → own_of o ∷ [] ≡ own_of_item ts x (drop (n + 1) items)
+  pub owner_one : is_closed level ≡ true → bytes_eq (text_of ts token) (codes "variable") ≡ true → (name : List ℕ) → labels_in ts (drop (n + 1) items) ≡ name ∷ [] → (o : VariableBlock) → o.name.now ≡ name → o.first ≡ token → o.end ≡ end
+      → block_view o ∷ [] ≡ variable_blocks_of_item ts x (drop (n + 1) items)
   owner_one top same name label o is first last =
       ap (λ v. own_by v o.first o.end ∷ []) is
       ∙ ap (λ v. own_by name v o.end ∷ []) first
@@ -142,31 +142,31 @@ module _ (ts : List Numbered) (items : List Item) (n level token end : ℕ) (e :
 
 -- ---- all items
 
-abbrev pub AreOwners : List Numbered → List Item → List OwnBlock → ℕ → Type 0
-AreOwners ts items found n = map own_of found ++ own_of_items ts (drop n items) ≡ own_of_items ts items
+abbrev pub AreOwners : List Numbered → List Item → List VariableBlock → ℕ → Type 0
+AreOwners ts items found n = map block_view found ++ variable_blocks_of_items ts (drop n items) ≡ variable_blocks_of_items ts items
 
-module _ (ts : List Numbered) (items : List Item) (found : List OwnBlock) (n : ℕ) where
-  pub owners_end : length items ≤ n → AreOwners ts items found n → map own_of found ≡ own_of_items ts items
-  owners_end past h = sym (append-nil (map own_of found)) ∙ ap (λ is. map own_of found ++ own_of_items ts is) (sym (drop_all n items past)) ∙ h
+module _ (ts : List Numbered) (items : List Item) (found : List VariableBlock) (n : ℕ) where
+  pub owners_end : length items ≤ n → AreOwners ts items found n → map block_view found ≡ variable_blocks_of_items ts items
+  owners_end past h = sym (append-nil (map block_view found)) ∙ ap (λ is. map block_view found ++ variable_blocks_of_items ts is) (sym (drop_all n items past)) ∙ h
 
   there_is : (k : ℕ) (xs : List Item) → k < length xs → (i : Item) × (slice_get xs k ≡ Some i)
   there_is k [] h = absurd (omega (arith, h))
   there_is zero (x ∷ xs) h = (x, refl)
   there_is (suc k) (x ∷ xs) h = there_is k xs (omega (arith, h))
 
-  step : (own : List Own) → n < length items → ((i : Item) → slice_get items n ≡ Some i → own ≡ own_of_item ts i (drop (n + 1) items)) → own ++ own_of_items ts (drop (n + 1) items) ≡ own_of_items ts (drop n items)
+  step : (own : List VariableSpan) → n < length items → ((i : Item) → slice_get items n ≡ Some i → own ≡ variable_blocks_of_item ts i (drop (n + 1) items)) → own ++ variable_blocks_of_items ts (drop (n + 1) items) ≡ variable_blocks_of_items ts (drop n items)
   step own less is =
       let i = there_is n items less in
-      ap (λ r. r ++ own_of_items ts (drop (n + 1) items)) (is i.0 i.1) ∙ ap (own_of_items ts) (sym (drop_at items n i.0 i.1))
+      ap (λ r. r ++ variable_blocks_of_items ts (drop (n + 1) items)) (is i.0 i.1) ∙ ap (variable_blocks_of_items ts) (sym (drop_at items n i.0 i.1))
 
-  pub owners_past : n < length items → ((i : Item) → slice_get items n ≡ Some i → [] ≡ own_of_item ts i (drop (n + 1) items)) → AreOwners ts items found n → AreOwners ts items found (n + 1)
-  owners_past less none h = ap (λ r. map own_of found ++ r) (step [] less none) ∙ h
+  pub owners_past : n < length items → ((i : Item) → slice_get items n ≡ Some i → [] ≡ variable_blocks_of_item ts i (drop (n + 1) items)) → AreOwners ts items found n → AreOwners ts items found (n + 1)
+  owners_past less none h = ap (λ r. map block_view found ++ r) (step [] less none) ∙ h
 
-  pub owners_more : (next : List OwnBlock) (o : OwnBlock) → n < length items → next ≡ found ++ o ∷ [] → ((i : Item) → slice_get items n ≡ Some i → own_of o ∷ [] ≡ own_of_item ts i (drop (n + 1) items))
+  pub owners_more : (next : List VariableBlock) (o : VariableBlock) → n < length items → next ≡ found ++ o ∷ [] → ((i : Item) → slice_get items n ≡ Some i → block_view o ∷ [] ≡ variable_blocks_of_item ts i (drop (n + 1) items))
       → AreOwners ts items found n → AreOwners ts items next (n + 1)
   owners_more next o less pushed one h =
-      ap (λ r. map own_of r ++ own_of_items ts (drop (n + 1) items)) pushed
-      ∙ ap (λ r. r ++ own_of_items ts (drop (n + 1) items)) (map-append own_of found (o ∷ []))
-      ∙ append_assoc (map own_of found) (own_of o ∷ []) (own_of_items ts (drop (n + 1) items))
-      ∙ ap (λ r. map own_of found ++ r) (step (own_of o ∷ []) less one)
+      ap (λ r. map block_view r ++ variable_blocks_of_items ts (drop (n + 1) items)) pushed
+      ∙ ap (λ r. r ++ variable_blocks_of_items ts (drop (n + 1) items)) (map-append block_view found (o ∷ []))
+      ∙ append_assoc (map block_view found) (block_view o ∷ []) (variable_blocks_of_items ts (drop (n + 1) items))
+      ∙ ap (λ r. map block_view found ++ r) (step (block_view o ∷ []) less one)
       ∙ h

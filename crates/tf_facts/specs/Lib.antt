@@ -7,6 +7,6 @@ pub mod References
 pub mod Patterns
 pub mod Facts
 pub mod Found
-pub mod OwnBlocks
+pub mod VariableBlocks
 pub mod Examples
 pub mod Inner

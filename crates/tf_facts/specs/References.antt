@@ -47,7 +47,7 @@ reference_at [] = None
 reference_at (w ∷ ts) = if is kind.Ident w.kind then by_name w.text (name_after ts) (drop 2 ts) else None
 
 -- where a variable is declared, and as what
-pub record Own : Type 0 where
+pub record VariableSpan : Type 0 where
   pub name : List ℕ
   pub first : ℕ
   pub end : ℕ
@@ -58,33 +58,33 @@ last_of (x ∷ []) = x
 last_of (x ∷ y ∷ xs) = last_of (y ∷ xs)
 
 -- the variable that an item declares, where `rest` follows it in the list of items
-abbrev pub own_of_item : List Numbered → Item → List Item → List Own
-own_of_item ts (item.Block level token end) rest =
+abbrev pub variable_blocks_of_item : List Numbered → Item → List Item → List VariableSpan
+variable_blocks_of_item ts (item.Block level token end) rest =
     map (λ d. record { name = last_of d.names; first = token; end = end })
     (filter (λ d. is_kind declares.Variable d.kind) (of_item ts (item.Block level token end) rest))
-own_of_item ts _ rest = []
+variable_blocks_of_item ts _ rest = []
 
-abbrev pub own_of_items : List Numbered → List Item → List Own
-own_of_items ts [] = []
-own_of_items ts (i ∷ rest) = own_of_item ts i rest ++ own_of_items ts rest
+abbrev pub variable_blocks_of_items : List Numbered → List Item → List VariableSpan
+variable_blocks_of_items ts [] = []
+variable_blocks_of_items ts (i ∷ rest) = variable_blocks_of_item ts i rest ++ variable_blocks_of_items ts rest
 
-abbrev pub own_blocks : List Numbered → List Own
-own_blocks ts = own_of_items ts (items_of ts)
+abbrev pub variable_blocks : List Numbered → List VariableSpan
+variable_blocks ts = variable_blocks_of_items ts (items_of ts)
 
 -- the token stands in the block of the variable to which this text refers
-abbrev pub is_own : List Own → ℕ → List ℕ → Bool
-is_own own number text = list_any (λ o. nat_le o.first number && nat_lt number o.end && bytes_eq (variable_reference o.name) text) own
+abbrev pub is_self_reference : List VariableSpan → ℕ → List ℕ → Bool
+is_self_reference own number text = list_any (λ o. nat_le o.first number && nat_lt number o.end && bytes_eq (variable_reference o.name) text) own
 
-abbrev pub unless_own : List Own → ℕ → Option (List ℕ) → List (List ℕ)
-unless_own own number None = []
-unless_own own number (Some text) = if is_own own number text then [] else text ∷ []
+abbrev pub unless_self_reference : List VariableSpan → ℕ → Option (List ℕ) → List (List ℕ)
+unless_self_reference own number None = []
+unless_self_reference own number (Some text) = if is_self_reference own number text then [] else text ∷ []
 
 -- the references of significant tokens, where a dot stands before them or not
-abbrev pub references_from : List Own → Bool → List Numbered → List (List ℕ)
+abbrev pub references_from : List VariableSpan → Bool → List Numbered → List (List ℕ)
 references_from own after_dot [] = []
 references_from own after_dot (t ∷ ts) =
-    (if after_dot then [] else unless_own own t.number (reference_at (t ∷ ts))) ++ references_from own (is kind.Dot t.kind) ts
+    (if after_dot then [] else unless_self_reference own t.number (reference_at (t ∷ ts))) ++ references_from own (is kind.Dot t.kind) ts
 
 -- THE REFERENCES of numbered tokens, in order, repeats included
 abbrev pub references : List Numbered → List (List ℕ)
-references ts = references_from (own_blocks ts) false (significant ts)
+references ts = references_from (variable_blocks ts) false (significant ts)

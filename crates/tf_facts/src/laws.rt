@@ -3,10 +3,10 @@
 ghost use Rattle.std.specs.Prelude.{◌≡◌, List};
 ghost use Rattle.hcl_tokens.specs.Lexemes.{Lexeme};
 ghost use Rattle.hcl_grammar.specs.Numbered.{numbered};
-ghost use Rattle.tf_facts.specs.OwnBlocks.{Apart};
-ghost use Rattle.tf_facts.specs.References.{own_blocks};
+ghost use Rattle.tf_facts.specs.VariableBlocks.{Apart};
+ghost use Rattle.tf_facts.specs.References.{variable_blocks};
 
 /// The blocks of the variables of a file follow one another.
-pub fn own_apart()
-    ensures { (tokens : List Lexeme) → Apart 0 (own_blocks (numbered tokens)) }
+pub fn variable_blocks_apart()
+    ensures { (tokens : List Lexeme) → Apart 0 (variable_blocks (numbered tokens)) }
 {}

@@ -16,7 +16,7 @@ mod hashing;
 pub mod laws;
 mod module_source;
 mod names;
-mod own_block;
+mod variable_block;
 mod owners;
 mod part;
 mod pattern;

@@ -6,14 +6,14 @@ ghost use Rattle.indexmap.specs.IndexSet.{insert_all};
 ghost use Rattle.hcl_grammar.specs.Items.{outline};
 ghost use Rattle.hcl_grammar.specs.Numbered.{numbered};
 ghost use Rattle.hcl_grammar.specs.declared.item.Item.{Item};
-ghost use Rattle.tf_facts.specs.OwnBlocks.{own_of, Apart};
-ghost use Rattle.tf_facts.specs.References.{own_blocks, own_of_item, references};
-ghost use Rattle.tf_facts.specs.Inner.FoundViews.{own_listed};
+ghost use Rattle.tf_facts.specs.VariableBlocks.{block_view, Apart};
+ghost use Rattle.tf_facts.specs.References.{variable_blocks, variable_blocks_of_item, references};
+ghost use Rattle.tf_facts.specs.Inner.FoundViews.{blocks_listed};
 ghost use Rattle.tf_facts.specs.Inner.Labelled.{AreNames};
 
 use crate::block::{names, word_at};
 use crate::names::Names;
-use crate::own_block::OwnBlock;
+use crate::variable_block::VariableBlock;
 use crate::references::add_references;
 use crate::text_set::TextSet;
 use hcl_grammar::{Accepted, Item, Outline};
@@ -33,16 +33,16 @@ fn only<'s>(names: Names<'s>) -> Option<&'s str>
 }
 
 /// The block of the variable that the item of this number declares.
-fn own_block_at<'s>(
+fn variable_block_at<'s>(
     accepted: &Accepted<'_, 's>,
     items: &Outline,
     number: usize,
-) -> Option<OwnBlock<'s>>
+) -> Option<VariableBlock<'s>>
     requires items { items.now ≡ outline accepted.now.tokens }
     requires within { number < length items.now }
     requires small { number + 1 < 2 ^ 64 }
     ensures { (item : Item) → slice_get items.now number ≡ Some item
-        → own_listed result ≡ own_of_item (numbered accepted.now.tokens) item
+        → blocks_listed result ≡ variable_blocks_of_item (numbered accepted.now.tokens) item
         (drop (number + 1) items.now) }
 {
     let Item::Block { level, kind, end } = items.get(number) else {
@@ -57,7 +57,7 @@ fn own_block_at<'s>(
     let Some(name) = only(names(accepted, items, number + 1)) else {
         return None;
     };
-    Some(OwnBlock {
+    Some(VariableBlock {
         name,
         first: kind,
         end,
@@ -65,19 +65,19 @@ fn own_block_at<'s>(
 }
 
 /// The blocks of the variables of a file, in order, by its outline.
-pub fn own_blocks<'s>(
+pub fn variable_blocks<'s>(
     alloc: Global,
     accepted: &Accepted<'_, 's>,
     items: &Outline,
-) -> Result<Vec<OwnBlock<'s>>, AllocError>
+) -> Result<Vec<VariableBlock<'s>>, AllocError>
     requires { items.now ≡ outline accepted.now.tokens }
-    ensures blocks { IfOk result (λ found. map own_of found.items
-        ≡ own_blocks (numbered accepted.now.tokens)) }
-    ensures apart { IfOk result (λ found. Apart 0 (map own_of found.items)) }
+    ensures blocks { IfOk result (λ found. map block_view found.items
+        ≡ variable_blocks (numbered accepted.now.tokens)) }
+    ensures apart { IfOk result (λ found. Apart 0 (map block_view found.items)) }
 {
     let mut found = Vec::new(alloc);
     for number in 0..items.len() {
-        let Some(block) = own_block_at(accepted, items, number) else {
+        let Some(block) = variable_block_at(accepted, items, number) else {
             continue;
         };
         found.push(block)?;
@@ -97,7 +97,7 @@ pub fn add_references_of(
         ≡ insert_all bytes_eq into.old (references (numbered accepted.now.tokens))) }
     ensures err { OnErr result (into.new ≡ into.old) }
 {
-    let blocks = own_blocks(alloc, accepted, items)?;
+    let blocks = variable_blocks(alloc, accepted, items)?;
     let tokens = accepted.tokens();
     add_references(alloc, tokens, &blocks, into)?;
     Ok(())

@@ -5,12 +5,12 @@ ghost use Rattle.std.specs.Prelude.{◌≡◌, ◌<◌, ◌≤◌, ◌+◌, ◌^
 ghost use Rattle.std.specs.String.{string_bytes};
 ghost use Rattle.std.specs.Str.{bytes_eq};
 ghost use Rattle.indexmap.specs.IndexSet.{insert_all};
-ghost use Rattle.tf_facts.specs.References.{is_own, reference_at, references_from, unless_own};
+ghost use Rattle.tf_facts.specs.References.{is_self_reference, reference_at, references_from, unless_self_reference};
 ghost use Rattle.tf_facts.specs.Inner.Seen.{AreNoIdents, IsIdentAt, seen_from, numbered_of};
 ghost use Rattle.tf_facts.specs.Inner.Spelled.{spelled};
-ghost use Rattle.tf_facts.specs.OwnBlocks.{own_of, Apart, ArePassed, Extends, IsAhead};
+ghost use Rattle.tf_facts.specs.VariableBlocks.{block_view, Apart, ArePassed, Extends, IsAhead};
 
-use crate::own_block::OwnBlock;
+use crate::variable_block::VariableBlock;
 use crate::reference::{Reference, is_ident, may_be_named, reference_at};
 use crate::seen::{Seen, is_after_dot};
 use crate::text_set::TextSet;
@@ -44,7 +44,7 @@ fn spell(reference: Reference<'_>, text: &mut String) -> Result<(), AllocError>
 }
 
 /// The block of this number.
-fn block_at<'s>(blocks: &[OwnBlock<'s>], i: usize) -> OwnBlock<'s>
+fn block_at<'s>(blocks: &[VariableBlock<'s>], i: usize) -> VariableBlock<'s>
     requires { i < length blocks.now }
     ensures { slice_get blocks.now i ≡ Some result }
 {
@@ -52,17 +52,17 @@ fn block_at<'s>(blocks: &[OwnBlock<'s>], i: usize) -> OwnBlock<'s>
 }
 
 /// Whether the block begins at or before a token, and is that of the variable of this name.
-fn begins_before(block: OwnBlock<'_>, number: usize, name: &str) -> bool
+fn begins_before(block: VariableBlock<'_>, number: usize, name: &str) -> bool
     ensures { result ≡ (nat_le block.entry.first number && bytes_eq block.entry.name.now name.now) }
 {
     block.first <= number && block.name == name
 }
 
 /// How many blocks end at or before a token, where so many are known to.
-fn passed(blocks: &[OwnBlock<'_>], from: usize, number: usize) -> usize
-    requires passed { ArePassed (map own_of blocks.now) from number }
+fn passed(blocks: &[VariableBlock<'_>], from: usize, number: usize) -> usize
+    requires passed { ArePassed (map block_view blocks.now) from number }
     requires within { from ≤ length blocks.now }
-    ensures passed { ArePassed (map own_of blocks.now) result number }
+    ensures passed { ArePassed (map block_view blocks.now) result number }
     ensures within { result ≤ length blocks.now }
     ensures ahead { IsAhead blocks.now result number }
 {
@@ -79,12 +79,12 @@ fn passed(blocks: &[OwnBlock<'_>], from: usize, number: usize) -> usize
 
 /// Whether a reference at a token stands in the block of the variable that it names. Blocks before `next` end at or
 /// before the token, and the blocks follow one another, so no other block is asked.
-fn is_own(blocks: &[OwnBlock<'_>], next: usize, number: usize, reference: Reference<'_>) -> bool
-    requires apart { Apart 0 (map own_of blocks.now) }
-    requires passed { ArePassed (map own_of blocks.now) next number }
+fn is_self_reference(blocks: &[VariableBlock<'_>], next: usize, number: usize, reference: Reference<'_>) -> bool
+    requires apart { Apart 0 (map block_view blocks.now) }
+    requires passed { ArePassed (map block_view blocks.now) next number }
     requires within { next ≤ length blocks.now }
     requires ahead { IsAhead blocks.now next number }
-    ensures { result ≡ is_own (map own_of blocks.now) number (spelled reference.entry) }
+    ensures { result ≡ is_self_reference (map block_view blocks.now) number (spelled reference.entry) }
 {
     let Reference::Variable(name) = reference else {
         return false;
@@ -99,7 +99,7 @@ fn is_own(blocks: &[OwnBlock<'_>], next: usize, number: usize, reference: Refere
 /// The blocks of variables, in order.
 #[derive(Clone, Copy)]
 struct Blocks<'b, 's> {
-    all: &'b [OwnBlock<'s>],
+    all: &'b [VariableBlock<'s>],
     /// How many of them end at or before the token that is looked at.
     passed: usize,
 }
@@ -116,12 +116,12 @@ fn put(
 ) -> Result<(), AllocError>
     requires within { word.number < length tokens.now.tokens }
     requires small { word.number + 1 < 2 ^ 64 }
-    requires apart { Apart 0 (map own_of blocks.all.now) }
-    requires passed { ArePassed (map own_of blocks.all.now) blocks.passed word.number }
+    requires apart { Apart 0 (map block_view blocks.all.now) }
+    requires passed { ArePassed (map block_view blocks.all.now) blocks.passed word.number }
     requires next { blocks.passed ≤ length blocks.all.now }
     requires ahead { IsAhead blocks.all.now blocks.passed word.number }
     ensures ok { OnOk result (into.new
-        ≡ insert_all bytes_eq into.old (unless_own (map own_of blocks.entry.all.now)
+        ≡ insert_all bytes_eq into.old (unless_self_reference (map block_view blocks.entry.all.now)
         word.entry.number
         (reference_at (numbered_of word.entry ∷ seen_from tokens.now.tokens
         (word.entry.number + 1))))) }
@@ -130,7 +130,7 @@ fn put(
     let Some(reference) = reference_at(tokens, word) else {
         return Ok(());
     };
-    if is_own(blocks.all, blocks.passed, word.number, reference) {
+    if is_self_reference(blocks.all, blocks.passed, word.number, reference) {
         return Ok(());
     }
     spell(reference, text)?;
@@ -162,12 +162,12 @@ fn next_ident(tokens: &Tokens<'_>, from: usize) -> usize
 pub fn collect(
     alloc: Global,
     tokens: &Tokens<'_>,
-    blocks: &[OwnBlock<'_>],
+    blocks: &[VariableBlock<'_>],
     into: &mut TextSet,
 ) -> Result<(), AllocError>
-    requires { Apart 0 (map own_of blocks.now) }
+    requires { Apart 0 (map block_view blocks.now) }
     ensures ok { OnOk result (into.new
-        ≡ insert_all bytes_eq into.old (references_from (map own_of blocks.now) false
+        ≡ insert_all bytes_eq into.old (references_from (map block_view blocks.now) false
         (seen_from tokens.now.tokens 0))) }
     ensures err { OnErr result (Extends into.old into.new) }
 {
@@ -205,12 +205,12 @@ pub fn collect(
 pub fn add_references(
     alloc: Global,
     tokens: &Tokens<'_>,
-    blocks: &[OwnBlock<'_>],
+    blocks: &[VariableBlock<'_>],
     into: &mut TextSet,
 ) -> Result<(), AllocError>
-    requires { Apart 0 (map own_of blocks.now) }
+    requires { Apart 0 (map block_view blocks.now) }
     ensures ok { OnOk result (into.new
-        ≡ insert_all bytes_eq into.old (references_from (map own_of blocks.now) false
+        ≡ insert_all bytes_eq into.old (references_from (map block_view blocks.now) false
         (seen_from tokens.now.tokens 0))) }
     ensures err { OnErr result (into.new ≡ into.old) }
 {

@@ -17,7 +17,7 @@ use Rattle.tf_rules.specs.Growth.{entries, places_of, source_places}
 use Rattle.tf_rules.specs.Issues.{File, comment_at, place_in, tokens_of}
 use Rattle.tf_rules.specs.Kept.{Kept, declaration_at, source_at, with_file}
 use Rattle.tf_facts.specs.Patterns.{begins_with_close, after_closer, is_index, is_wrapped, legacy_indexes, numbers_where, wrapped_interpolations}
-use Rattle.tf_facts.specs.References.{Own, by_name, is_own, name_after, own_blocks, reference_at, references, references_from, unless_own}
+use Rattle.tf_facts.specs.References.{VariableSpan, by_name, is_self_reference, name_after, variable_blocks, reference_at, references, references_from, unless_self_reference}
 use Rattle.tf_facts.specs.Silencing.{has_slashes, silenced_rules}
 use Rattle.tf_rules.proofs.ItemCostLemmas.{is_telling, places, places_few, tally, tally_filter}
 use Rattle.tf_rules.proofs.ItemWeightLemmas.{bit}
@@ -80,9 +80,9 @@ names_next [] = false
 names_next (d ∷ []) = false
 names_next (d ∷ n ∷ rest) = is kind.Dot d.kind && is kind.Ident n.kind
 
-own_few : (own : List Own) (n : ℕ) (o : Option (List ℕ)) → length (unless_own own n o) ≤ 1
+own_few : (own : List VariableSpan) (n : ℕ) (o : Option (List ℕ)) → length (unless_self_reference own n o) ≤ 1
 own_few own n None = omega arith
-own_few own n (Some text) = by (is_own own n text)
+own_few own n (Some text) = by (is_self_reference own n text)
   where
     by : (b : Bool) → length (cond b [] (text ∷ [])) ≤ 1
     by true = omega arith
@@ -94,26 +94,26 @@ unnamed (d ∷ []) e = refl
 unnamed (d ∷ n ∷ rest) e = ap (λ b. cond b (Some n) None) e
 
 -- a reference begins with an identifier, and a dot and a name come next
-none_begun : (own : List Own) (t : Numbered) (ts : List Numbered) → (is kind.Ident t.kind && names_next ts) ≡ false → length (unless_own own t.number (reference_at (t ∷ ts))) ≡ 0
-none_begun own t ts e = ap (λ o. length (unless_own own t.number o)) (by (is kind.Ident t.kind) (names_next ts) (unnamed ts) e)
+none_begun : (own : List VariableSpan) (t : Numbered) (ts : List Numbered) → (is kind.Ident t.kind && names_next ts) ≡ false → length (unless_self_reference own t.number (reference_at (t ∷ ts))) ≡ 0
+none_begun own t ts e = ap (λ o. length (unless_self_reference own t.number o)) (by (is kind.Ident t.kind) (names_next ts) (unnamed ts) e)
   where
     by : (a b : Bool) → (b ≡ false → name_after ts ≡ None) → (a && b) ≡ false → cond a (by_name t.text (name_after ts) (drop 2 ts)) None ≡ None
     by true b u h = ap (λ o. by_name t.text o (drop 2 ts)) (u h)
     by false b u h = refl
 
-begun_few : (own : List Own) (t : Numbered) (ts : List Numbered) → length (unless_own own t.number (reference_at (t ∷ ts))) ≤ bit (is kind.Ident t.kind && names_next ts)
+begun_few : (own : List VariableSpan) (t : Numbered) (ts : List Numbered) → length (unless_self_reference own t.number (reference_at (t ∷ ts))) ≤ bit (is kind.Ident t.kind && names_next ts)
 begun_few own t ts = by (is kind.Ident t.kind && names_next ts) refl
   where
-    by : (b : Bool) → (is kind.Ident t.kind && names_next ts) ≡ b → length (unless_own own t.number (reference_at (t ∷ ts))) ≤ bit b
+    by : (b : Bool) → (is kind.Ident t.kind && names_next ts) ≡ b → length (unless_self_reference own t.number (reference_at (t ∷ ts))) ≤ bit b
     by true e = own_few own t.number (reference_at (t ∷ ts))
     by false e = omega (arith, none_begun own t ts e)
 
 -- how many references and indexes there are, where a dot stands before or not
-abbrev dotted : List Own → Bool → List Numbered → ℕ
+abbrev dotted : List VariableSpan → Bool → List Numbered → ℕ
 dotted own after ts = length (numbers_where is_index ts) + length (references_from own after ts)
 
 -- a dot before a name is no index, and no reference begins at it
-abbrev AreDotted : List Own → List Numbered → Type 0
+abbrev AreDotted : List VariableSpan → List Numbered → Type 0
 AreDotted own ts = ((after : Bool) → dotted own after ts + 0 ≤ tally (is kind.Dot) ts) × (names_next ts ≡ true → dotted own false ts + 1 ≤ tally (is kind.Dot) ts)
 
 index_few : (t : Numbered) (ts : List Numbered) → bit (is_index (t ∷ ts)) + bit (is kind.Ident t.kind && names_next ts) ≤ bit (is kind.Dot t.kind) + bit (names_next ts)
@@ -156,12 +156,12 @@ numbers_here t ts = by (is_index (t ∷ ts))
     by true = omega arith
     by false = omega arith
 
-references_here : (own : List Own) (after : Bool) (t : Numbered) (ts : List Numbered)
-    → length (references_from own after (t ∷ ts)) ≤ length (unless_own own t.number (reference_at (t ∷ ts))) + length (references_from own (is kind.Dot t.kind) ts)
+references_here : (own : List VariableSpan) (after : Bool) (t : Numbered) (ts : List Numbered)
+    → length (references_from own after (t ∷ ts)) ≤ length (unless_self_reference own t.number (reference_at (t ∷ ts))) + length (references_from own (is kind.Dot t.kind) ts)
 references_here own true t ts = omega arith
-references_here own false t ts = omega (arith, length-append (unless_own own t.number (reference_at (t ∷ ts))) (references_from own (is kind.Dot t.kind) ts))
+references_here own false t ts = omega (arith, length-append (unless_self_reference own t.number (reference_at (t ∷ ts))) (references_from own (is kind.Dot t.kind) ts))
 
-module _ (own : List Own) (t : Numbered) (ts : List Numbered) (more : AreDotted own ts) where
+module _ (own : List VariableSpan) (t : Numbered) (ts : List Numbered) (more : AreDotted own ts) where
   left : (b : Bool) → names_next ts ≡ b → is kind.Dot t.kind ≡ false → dotted own (is kind.Dot t.kind) ts + bit b ≤ tally (is kind.Dot) ts
   left true e d = let h = more.1 e in omega (arith, h, ap (λ a. length (references_from own a ts)) d)
   left false e d = more.0 (is kind.Dot t.kind)
@@ -194,7 +194,7 @@ module _ (own : List Own) (t : Numbered) (ts : List Numbered) (more : AreDotted 
       let m = more.0 (is kind.Dot t.kind) in
       omega (arith, numbers_here t ts, none, one, references_here own false t ts, begun_few own t ts, word, m)
 
-dots_few : (own : List Own) (ts : List Numbered) → AreDotted own ts
+dots_few : (own : List VariableSpan) (ts : List Numbered) → AreDotted own ts
 dots_few own [] = ((λ after. omega arith), (λ e. absurd (true≢false (sym e))))
 dots_few own (t ∷ ts) = let more = dots_few own ts in ((λ after. any_by own t ts more after (is kind.Dot t.kind) refl), first own t ts more)
 
@@ -202,7 +202,7 @@ dots_few own (t ∷ ts) = let more = dots_few own ts in ((λ after. any_by own t
 
 few : (ts : List Numbered) → length (comments ts) + (length (legacy_indexes ts) + (length (wrapped_interpolations ts) + (places (declarations ts) + length (references ts)))) ≤ length ts
 few ts =
-    let dots = (dots_few (own_blocks ts) (significant ts)).0 false in
+    let dots = (dots_few (variable_blocks ts) (significant ts)).0 false in
     omega (
       arith,
       kinds_few ts,

@@ -21,7 +21,7 @@ use Rattle.label_laws.proofs.NamePlaceLemmas.{IsApart, apart, apart_on, begins_d
 use Rattle.label_laws.proofs.PieceTurnLemmas.{AllGood, Good}
 use Rattle.label_laws.proofs.PlainLabelLemmas.{file_good}
 use Rattle.tf_facts.specs.Declarations.{Declaration, SourceAt, declarations}
-use Rattle.tf_facts.specs.References.{own_blocks, references}
+use Rattle.tf_facts.specs.References.{variable_blocks, references}
 use Rattle.tf_rules.specs.Growth.{bytes, name_bytes, source_texts, declared_texts}
 use Rattle.tf_rules.specs.Issues.{File, place_in, tokens_of}
 use Rattle.tf_rules.specs.Kept.{Kept, declaration_at, source_at, with_file}
@@ -172,7 +172,7 @@ names_grow kept file scans accepted =
       weight_filter (weigh (own_weight ts)) (λ t. not (is_comment t.kind)) ts,
       items_weigh (cost (own_weight ts)) (weigh (own_weight ts)) (counted (own_weight ts)) (length ts) 0 (without_comments ts),
       told_few ts (own_weight ts) (items_of ts) (all_weigh ts (items_of ts) (file_good file.source.text file.source.tokens scans accepted)),
-      made_few (own_blocks ts) (significant ts) false,
+      made_few (variable_blocks ts) (significant ts) false,
       told_both kept.facts.declarations (map (declaration_at (place_in file)) (declarations ts)),
       told_same (place_in file) (declarations ts),
       all_inserted_short kept.references (references ts),

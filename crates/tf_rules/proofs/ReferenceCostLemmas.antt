@@ -7,7 +7,7 @@ use Rattle.hcl_tokens.specs.Kinds.{is}
 use Rattle.hcl_tokens.specs.declared.token.Kind.{Kind}
 use Rattle.hcl_tokens.specs.declared.token.Kind.TheVariants as kind
 use Rattle.hcl_grammar.specs.Numbered.{Numbered}
-use Rattle.tf_facts.specs.References.{Own, by_name, data_of, is_own, local_reference, name_after, reference_of, reference_at, references_from, unless_own, variable_reference}
+use Rattle.tf_facts.specs.References.{VariableSpan, by_name, data_of, is_self_reference, local_reference, name_after, reference_of, reference_at, references_from, unless_self_reference, variable_reference}
 use Rattle.tf_rules.specs.Growth.{bytes}
 use Rattle.tf_rules.proofs.DeclaredTextLemmas.{bytes_both}
 use Rattle.tf_rules.proofs.ItemWeightLemmas.{bit}
@@ -77,9 +77,9 @@ named_short word n rest = by (bytes_eq word (codes "var")) (bytes_eq word (codes
     by false false true e f g = data_short (name_after rest) (same_length word (codes "data") 4 g refl)
     by false false false e f g = omega arith
 
-own_short : (own : List Own) (n : ℕ) (o : Option (List ℕ)) → bytes (unless_own own n o) ≤ some_bytes o
+own_short : (own : List VariableSpan) (n : ℕ) (o : Option (List ℕ)) → bytes (unless_self_reference own n o) ≤ some_bytes o
 own_short own n None = omega arith
-own_short own n (Some text) = by (is_own own n text)
+own_short own n (Some text) = by (is_self_reference own n text)
   where
     by : (b : Bool) → bytes (cond b [] (text ∷ [])) ≤ length text
     by true = omega arith
@@ -105,7 +105,7 @@ begun_short t ts = by (is kind.Ident t.kind) (comes_dot ts) refl
 
 -- ---- all of them
 
-module _ (own : List Own) where
+module _ (own : List VariableSpan) where
   abbrev made : Bool → List Numbered → ℕ
   made after ts = bytes (references_from own after ts)
 
@@ -114,7 +114,7 @@ module _ (own : List Own) where
   made_here false t ts =
       omega (
         arith,
-        bytes_both (unless_own own t.number (reference_at (t ∷ ts))) (references_from own (is kind.Dot t.kind) ts),
+        bytes_both (unless_self_reference own t.number (reference_at (t ∷ ts))) (references_from own (is kind.Dot t.kind) ts),
         own_short own t.number (reference_at (t ∷ ts)),
         begun_short t ts,
       )
@@ -134,12 +134,12 @@ module _ (own : List Own) where
       on : made (is kind.Dot t.kind) (n ∷ rest) ≡ made false rest
       on = ap (λ b. made b (n ∷ rest)) d ∙ ap (λ b. made b rest) (ident_is n.kind i)
 
-      none : bytes (unless_own own t.number (reference_at (t ∷ n ∷ rest))) ≡ 0
-      none = ap (λ b. bytes (unless_own own t.number (cond b (by_name t.text (name_after (n ∷ rest)) (drop 2 (n ∷ rest))) None))) (dot_is t.kind d)
+      none : bytes (unless_self_reference own t.number (reference_at (t ∷ n ∷ rest))) ≡ 0
+      none = ap (λ b. bytes (unless_self_reference own t.number (cond b (by_name t.text (name_after (n ∷ rest)) (drop 2 (n ∷ rest))) None))) (dot_is t.kind d)
 
       by : (b : Bool) → made b (t ∷ n ∷ rest) ≤ made false rest
       by true = omega (arith, on)
-      by false = omega (arith, on, none, bytes_both (unless_own own t.number (reference_at (t ∷ n ∷ rest))) (references_from own (is kind.Dot t.kind) (n ∷ rest)))
+      by false = omega (arith, on, none, bytes_both (unless_self_reference own t.number (reference_at (t ∷ n ∷ rest))) (references_from own (is kind.Dot t.kind) (n ∷ rest)))
 
   step_weighs : (after : Bool) (t n : Numbered) (rest : List Numbered) → is kind.Dot t.kind ≡ true → is kind.Ident n.kind ≡ true → 1 + (length n.text + dotted false rest) ≤ dotted after (t ∷ n ∷ rest)
   step_weighs after t n rest d i =

@@ -3,12 +3,12 @@ use Rattle.std.specs.Prelude.{ℕ, List, [], ◌∷◌, Option, Some, None}
 use Rattle.tf_facts.specs.Comments.{Comment}
 use Rattle.tf_facts.specs.Declarations.{Declaration, Declarer}
 use Rattle.tf_facts.specs.Found.{comment, declaration}
-use Rattle.tf_facts.specs.OwnBlocks.{own_of}
-use Rattle.tf_facts.specs.References.{Own}
+use Rattle.tf_facts.specs.VariableBlocks.{block_view}
+use Rattle.tf_facts.specs.References.{VariableSpan}
 use Rattle.tf_facts.specs.declared.found.Declared.{Declared}
 use Rattle.tf_facts.specs.declared.found.Declarer as found
 use Rattle.tf_facts.specs.declared.found.FoundComment.{FoundComment}
-use Rattle.tf_facts.specs.declared.own_block.OwnBlock.{OwnBlock}
+use Rattle.tf_facts.specs.declared.variable_block.VariableBlock.{VariableBlock}
 
 abbrev pub declarer_of : found.Declarer → Declarer
 declarer_of d = record { kind = d.kind; labels = d.labels }
@@ -18,9 +18,9 @@ abbrev pub listed : Option Declared → List (Declaration ℕ)
 listed None = []
 listed (Some d) = declaration d ∷ []
 
-abbrev pub own_listed : Option OwnBlock → List Own
-own_listed None = []
-own_listed (Some o) = own_of o ∷ []
+abbrev pub blocks_listed : Option VariableBlock → List VariableSpan
+blocks_listed None = []
+blocks_listed (Some o) = block_view o ∷ []
 
 abbrev pub comment_listed : Option FoundComment → List (Comment ℕ)
 comment_listed None = []

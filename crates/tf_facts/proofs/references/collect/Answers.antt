@@ -1,7 +1,7 @@
 use Rattle.std.proofs.Common.{◌∙◌, ◌+◌, ◌<◌, sym, map, refl, length, arith}
 use Rattle.hcl_tokens.specs.Scanned.{lexeme}
 use Rattle.tf_facts.specs.Inner.Seen.{after_dot}
-use Rattle.tf_facts.specs.OwnBlocks.{own_of}
+use Rattle.tf_facts.specs.VariableBlocks.{block_view}
 use Rattle.tf_facts.proofs.CollectLemmas.{begins, collected, no_after, over_no_idents, skipped}
 use Rattle.tf_facts.proofs.OwnLemmas.{nothing_passed, still_passed}
 use Rattle.tf_facts.proofs.PatternLemmas.{there_is}
@@ -10,7 +10,7 @@ use Rattle.tf_facts.proofs.references.collect.Goals as goal
 
 pub loop-next-init : goal.loop-next-init
 loop-next-init c =
-    let own = map own_of c.args.blocks.now in
+    let own = map block_view c.args.blocks.now in
     let ts = c.args.tokens.now.tokens in
     record {
       walked = record {
@@ -24,7 +24,7 @@ loop-next-init c =
 
 pub loop-next-preserved-then-not-may_be_named : goal.loop-next-preserved-then-not-may_be_named
 loop-next-preserved-then-not-may_be_named c =
-    let own = map own_of c.args.blocks.now in
+    let own = map block_view c.args.blocks.now in
     let ts = c.args.tokens.now.tokens in
     let n = c.loop-next.next in
     let less : n < length ts = omega (arith, c.loop-next-test.true, c.len-count.ensures.len) in
@@ -45,7 +45,7 @@ loop-next-preserved-then-not-may_be_named c =
 
 pub loop-next-preserved-then-is_after_dot : goal.loop-next-preserved-then-is_after_dot
 loop-next-preserved-then-is_after_dot c =
-    let own = map own_of c.args.blocks.now in
+    let own = map block_view c.args.blocks.now in
     let ts = c.args.tokens.now.tokens in
     let n = c.loop-next.next in
     let less : n < length ts = omega (arith, c.loop-next-test.true, c.len-count.ensures.len) in
@@ -66,7 +66,7 @@ loop-next-preserved-then-is_after_dot c =
 
 pub loop-next-preserved : goal.loop-next-preserved
 loop-next-preserved c =
-    let own = map own_of c.args.blocks.now in
+    let own = map block_view c.args.blocks.now in
     let ts = c.args.tokens.now.tokens in
     let n = c.loop-next.next in
     let t = lexeme c.get-token.result in

@@ -1,12 +1,12 @@
 use Rattle.std.proofs.Common.{map, length, ◌-◌, ◌≤◌}
 use Rattle.tf_facts.specs.Inner.Seen.{IsIdentAt, after_dot}
-use Rattle.tf_facts.specs.OwnBlocks.{own_of}
+use Rattle.tf_facts.specs.VariableBlocks.{block_view}
 use Rattle.tf_facts.proofs.CollectLemmas.{IsWalked}
 use Rattle.tf_facts.proofs.references.collect.Given as goal
 
 abbrev pub invariant-loop-next : goal.invariant-loop-next
 invariant-loop-next l = record {
-  walked : IsWalked (map own_of l.blocks) l.tokens.tokens l.fn.into l.into (after_dot l.tokens.tokens l.next) l.passed_blocks (length l.blocks) l.next;
+  walked : IsWalked (map block_view l.blocks) l.tokens.tokens l.fn.into l.into (after_dot l.tokens.tokens l.next) l.passed_blocks (length l.blocks) l.next;
   within : l.next ≤ length l.tokens.tokens;
   ident : IsIdentAt l.tokens.tokens l.next;
 }

@@ -1,9 +1,9 @@
 use Rattle.std.proofs.Common.{map, ◌-◌, ◌≤◌, length}
-use Rattle.tf_facts.specs.OwnBlocks.{own_of, ArePassed}
+use Rattle.tf_facts.specs.VariableBlocks.{block_view, ArePassed}
 use Rattle.tf_facts.proofs.references.passed.Given as goal
 
 abbrev pub invariant-loop-next : goal.invariant-loop-next
-invariant-loop-next l = record { passed : ArePassed (map own_of l.blocks) l.next l.number; within : l.next ≤ length l.blocks }
+invariant-loop-next l = record { passed : ArePassed (map block_view l.blocks) l.next l.number; within : l.next ≤ length l.blocks }
 
 abbrev pub decreases-loop-next : goal.decreases-loop-next
 decreases-loop-next l = length l.blocks - l.next

@@ -1,6 +1,6 @@
 use Rattle.hcl_grammar.specs.Numbered.{numbered}
 use Rattle.tf_facts.proofs.OwnerLemmas.{AreOwners}
-use Rattle.tf_facts.proofs.owners.own_blocks.Given as goal
+use Rattle.tf_facts.proofs.owners.variable_blocks.Given as goal
 
 abbrev pub invariant-loop-number : goal.invariant-loop-number
 invariant-loop-number l = AreOwners (numbered l.accepted.tokens) l.items l.found.items l.number

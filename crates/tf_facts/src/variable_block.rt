@@ -2,7 +2,7 @@
 
 /// The block of a variable, by its name and the numbers of its first token and of the one after its last.
 #[derive(Clone, Copy)]
-pub struct OwnBlock<'s> {
+pub struct VariableBlock<'s> {
     pub name: &'s str,
     pub first: usize,
     pub end: usize,

@@ -7,7 +7,7 @@ use Rattle.hcl_grammar.specs.declared.item.Item.TheVariants as item
 use Rattle.tf_facts.specs.Declarations.{labels_in}
 use Rattle.tf_facts.proofs.BodyLemmas.{begins_within}
 use Rattle.tf_facts.proofs.OwnerLemmas.{closed_at, differs, is_same, owner_one, owner_other, owner_unfit}
-use Rattle.tf_facts.proofs.owners.own_block_at.Goals as goal
+use Rattle.tf_facts.proofs.owners.variable_block_at.Goals as goal
 
 pub word_at-requires : goal.word_at-requires
 word_at-requires c =
