@@ -3,7 +3,7 @@ use Rattle.std.specs.Prelude.{ℕ, Bool, not, List, [], ◌∷◌, ◌++◌, cod
 use Rattle.std.specs.List.{list_any}
 use Rattle.file_tree.specs.Quotes.{in_quotes}
 use Rattle.rule_set.specs.Rules.{all_rules}
-use Rattle.tf_facts.specs.Silencing.{comment_words, names, parts, trimmed}
+use Rattle.tf_facts.specs.Silencing.{comment_words, names, parts, trim_blanks}
 use Rattle.tf_facts.specs.Texts.{begins}
 
 -- a name in a silencing comment means a rule, or all
@@ -12,7 +12,7 @@ is_known name = list_any (λ rule. names rule name) all_rules
 
 -- the names in the comment of this text that mean none
 abbrev pub unknown_names : List ℕ → List (List ℕ)
-unknown_names text = filter (λ name. not (is_known name)) (map trimmed (parts (comment_words text)))
+unknown_names text = filter (λ name. not (is_known name)) (map trim_blanks (parts (comment_words text)))
 
 -- ` or "NAME"`
 abbrev pub or_name : List ℕ → List ℕ

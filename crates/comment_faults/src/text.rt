@@ -2,14 +2,14 @@
 
 ghost use Rattle.std.specs.Prelude.{◌≡◌, ◌==◌, IfOk, OnOk, filter, map, not};
 ghost use Rattle.std.specs.List.{slice_split};
-ghost use Rattle.tf_facts.specs.Silencing.{trimmed};
+ghost use Rattle.tf_facts.specs.Silencing.{trim_blanks};
 ghost use Rattle.comment_faults.specs.CommentTexts.{fault_text, has_file_keyword, is_known, unknown_names, unknown_text};
 ghost use Rattle.comment_faults.specs.Inner.Growth.{before_name, with_name, with_unknown};
 
 use file_tree::quote::push_in_quotes;
 use rule_set::{ALL_RULES, rule_named};
 use std::alloc::{AllocError, Global};
-use tf_facts::{comment_words, silencing_list, trimmed};
+use tf_facts::{comment_words, silencing_list, trim_blanks};
 
 /// The beginning of TFLint's comment for a whole file, after its mark and blanks.
 const FILE_KEYWORD: &[u8] = b"tflint-ignore-file:";
@@ -59,11 +59,11 @@ fn push_unknown(text: &mut Vec<u8>, name: &[u8]) -> Result<(), AllocError>
 fn unknown_text(alloc: Global, list: &[u8]) -> Result<Vec<u8>, AllocError>
     ensures { IfOk result (λ text. text.items
         ≡ unknown_text (filter (λ name. not (is_known name))
-        (map trimmed (slice_split (λ b. b == 44) list.now)))) }
+        (map trim_blanks (slice_split (λ b. b == 44) list.now)))) }
 {
     let mut text = Vec::new(alloc);
     for part in list.split(|byte| *byte == b',') {
-        push_unknown(&mut text, trimmed(part))?;
+        push_unknown(&mut text, trim_blanks(part))?;
     }
     Ok(text)
 }

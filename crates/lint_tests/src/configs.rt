@@ -399,7 +399,7 @@ fn run(
 ) -> (MemorySink, u8, bool) {
     let entries = all_of(alloc, entries).expect(rt, "memory");
     let tree = MemoryTree::new_in(alloc, HERE, entries.as_slice(), failures).expect(rt, "memory");
-    let mut files = ModuleTree::new(tree, Hashing::shared());
+    let mut files = ModuleTree::new(tree, Hashing::with_shared_seed());
     let mut input = MemorySource::new(b"", 4096);
     let mut streams = Streams {
         out: MemorySink::new(4096),

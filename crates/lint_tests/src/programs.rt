@@ -381,7 +381,7 @@ pub(crate) fn shows_on(
     row: &Row,
 ) {
     let tree = MemoryTree::new_in(alloc, b"/r/w", entries, STEADY).expect(rt, "memory");
-    let mut files = ModuleTree::new(tree, Hashing::shared());
+    let mut files = ModuleTree::new(tree, Hashing::with_shared_seed());
     let mut input = MemorySource::new(row.input, 4096);
     let mut streams = Streams {
         out: MemorySink::new(4096),
@@ -489,7 +489,7 @@ fn failing(rt: &impl Abort, alloc: Global, words: Words, call: usize) -> (u8, bo
         ..STEADY
     };
     let tree = MemoryTree::new(alloc, ENTRIES, failures).expect(rt, "memory");
-    let mut files = ModuleTree::new(tree, Hashing::shared());
+    let mut files = ModuleTree::new(tree, Hashing::with_shared_seed());
     let mut input = MemorySource::new(UNREAD, 4096);
     let mut streams = Streams {
         out: MemorySink::new(4096),

@@ -173,7 +173,7 @@ fn sink(write: Option<usize>) -> MemorySink
 /// Runs over modules of the tree.
 fn run(alloc: Global, given: &Given, modules: &[Governed]) -> Result<Shown, AllocError> {
     let tree = MemoryTree::new(alloc, ENTRIES, given.failures)?;
-    let mut files = ModuleTree::new(tree, Hashing::shared());
+    let mut files = ModuleTree::new(tree, Hashing::with_shared_seed());
     let mut streams = Streams {
         out: sink(given.write),
         err: sink(None),

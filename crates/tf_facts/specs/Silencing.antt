@@ -13,22 +13,22 @@ abbrev pub has_slashes : List ℕ → Bool
 has_slashes text = begins (codes "//") text
 
 -- a comment without its mark
-abbrev pub unmarked : List ℕ → List ℕ
-unmarked text = if has_slashes text then drop 2 text else drop 1 text
+abbrev pub without_mark : List ℕ → List ℕ
+without_mark text = if has_slashes text then drop 2 text else drop 1 text
 
 -- a space, a tab or a CR
 abbrev pub is_margin : ℕ → Bool
 is_margin b = is_blank b || (b == 13)
 
-abbrev pub trimmed : List ℕ → List ℕ
-trimmed part = without_end is_margin (without_front is_margin part)
+abbrev pub trim_blanks : List ℕ → List ℕ
+trim_blanks part = without_end is_margin (without_front is_margin part)
 
 abbrev pub keyword : List ℕ
 keyword = codes "tflint-ignore:"
 
 -- what a comment says after its mark and blanks
 abbrev pub comment_words : List ℕ → List ℕ
-comment_words text = without_front is_blank (unmarked text)
+comment_words text = without_front is_blank (without_mark text)
 
 -- the parts between commas of what follows the keyword, up to a `#`
 abbrev pub parts : List ℕ → List (List ℕ)
@@ -39,7 +39,7 @@ names rule part = bytes_eq part (codes "all") || bytes_eq part (rule_name rule)
 
 -- THE RULES that the comment of this text silences
 abbrev pub silences : List ℕ → Rule → Bool
-silences text rule = list_any (λ part. names rule (trimmed part)) (parts (comment_words text))
+silences text rule = list_any (λ part. names rule (trim_blanks part)) (parts (comment_words text))
 
 abbrev pub silenced_rules : List ℕ → List Rule
 silenced_rules text = filter (silences text) all_rules

@@ -79,7 +79,7 @@ pub fn word_at<'s>(accepted: &Accepted<'_, 's>, number: usize) -> &'s str
 }
 
 /// What no attribute says.
-fn nothing() -> Body
+fn no_body() -> Body
     ensures { result ≡ body_of [] }
 {
     Body {
@@ -109,10 +109,10 @@ fn body_of_item(accepted: &Accepted<'_, '_>, item: Item) -> Body
         end,
     } = item
     else {
-        return nothing();
+        return no_body();
     };
     if level != 1 {
-        return nothing();
+        return no_body();
     }
     let word = word_at(accepted, name);
     Body {
@@ -141,7 +141,7 @@ pub fn body(accepted: &Accepted<'_, '_>, items: &Outline, from: usize) -> Body
     ensures { result ≡ body_of (attributes_in (numbered accepted.now.tokens)
         (drop from items.now)) }
 {
-    let mut body = nothing();
+    let mut body = no_body();
     for number in from..items.len() {
         let item = items.get(number);
         if !is_inside(item) {

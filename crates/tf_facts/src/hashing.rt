@@ -13,14 +13,14 @@ pub struct Hashing {
 
 impl Hashing {
     /// By a seed that all runs share: for texts that nobody makes collide.
-    pub fn shared() -> Hashing {
+    pub fn with_shared_seed() -> Hashing {
         Hashing {
             initial: DefaultHasher::new(),
         }
     }
 
     /// By the seed of this run, which nobody who writes a file knows.
-    pub fn seeded(seed: RandomState) -> Hashing
+    pub fn with_seed(seed: RandomState) -> Hashing
         ensures { ⟦<Hashing as BuildHasher>⟧.build_hasher result
             ≡ ⟦<RandomState as BuildHasher>⟧.build_hasher seed }
     {

@@ -38,5 +38,5 @@ pub use hashing::Hashing;
 pub use module_source::ModuleSource;
 pub use names::Names;
 pub use owners::add_references_of;
-pub use silencing::{comment_words, silencing_list, trimmed};
+pub use silencing::{comment_words, silencing_list, trim_blanks};
 pub use text_set::TextSet;

@@ -4,7 +4,7 @@ ghost use Rattle.std.specs.Prelude.{◌≡◌, ◌==◌, ◌||◌, [], MatchOpti
 ghost use Rattle.std.specs.List.{list_any, slice_split};
 ghost use Rattle.rule_set.specs.RuleSets.{holds};
 ghost use Rattle.hcl_tokens.specs.Spelling.{is_blank};
-ghost use Rattle.tf_facts.specs.Silencing.{has_slashes, is_margin, names, parts, comment_words, silences, trimmed, unmarked};
+ghost use Rattle.tf_facts.specs.Silencing.{has_slashes, is_margin, names, parts, comment_words, silences, trim_blanks, without_mark};
 ghost use Rattle.tf_facts.specs.Texts.{without_end, without_front};
 
 use crate::texts::{after, begins, cut, equals};
@@ -33,8 +33,8 @@ pub fn has_slashes(text: &[u8]) -> bool
 }
 
 /// A comment without its mark.
-fn unmarked(text: &[u8]) -> &[u8]
-    ensures { result.now ≡ unmarked text.now }
+fn without_mark(text: &[u8]) -> &[u8]
+    ensures { result.now ≡ without_mark text.now }
 {
     if has_slashes(text) {
         return after(text, 2);
@@ -81,8 +81,8 @@ fn without_end(text: &[u8]) -> &[u8]
 }
 
 /// A text without the white space at both ends.
-pub fn trimmed(part: &[u8]) -> &[u8]
-    ensures { result.now ≡ trimmed part.now }
+pub fn trim_blanks(part: &[u8]) -> &[u8]
+    ensures { result.now ≡ trim_blanks part.now }
 {
     without_end(without_front(part))
 }
@@ -103,11 +103,11 @@ fn with_named(set: RuleSet, part: &[u8]) -> RuleSet
 /// The rules that a list of names between commas has.
 fn all_named(list: &[u8]) -> RuleSet
     ensures { (rule : Rule) → holds result rule
-        ≡ list_any (λ part. names rule (trimmed part)) (slice_split (λ b. b == 44) list.now) }
+        ≡ list_any (λ part. names rule (trim_blanks part)) (slice_split (λ b. b == 44) list.now) }
 {
     let mut set = RuleSet::none();
     for part in list.split(|byte| *byte == b',') {
-        set = with_named(set, trimmed(part));
+        set = with_named(set, trim_blanks(part));
     }
     set
 }
@@ -116,7 +116,7 @@ fn all_named(list: &[u8]) -> RuleSet
 pub fn comment_words(text: &[u8]) -> &[u8]
     ensures { result.now ≡ comment_words text.now }
 {
-    without_blanks(unmarked(text))
+    without_blanks(without_mark(text))
 }
 
 /// The names that the comment of this text lists, with commas between them: none where it isn't meant to silence a rule.

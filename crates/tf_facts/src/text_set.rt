@@ -31,7 +31,7 @@ impl TextSet {
     pub fn new(alloc: Global) -> TextSet
         ensures { result ≡ [] }
     {
-        TextSet::with_hashing(alloc, Hashing::shared())
+        TextSet::with_hashing(alloc, Hashing::with_shared_seed())
     }
 
     /// No text.

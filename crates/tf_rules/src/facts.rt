@@ -104,7 +104,7 @@ impl Facts {
     pub fn new(alloc: Global) -> Result<Facts, AllocError>
         ensures { IfOk result (λ facts. facts ≡ nothing) }
     {
-        Facts::with_hashing(alloc, Hashing::shared())
+        Facts::with_hashing(alloc, Hashing::with_shared_seed())
     }
 
     /// The facts of no file.

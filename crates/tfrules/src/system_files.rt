@@ -103,8 +103,8 @@ impl ModuleFiles for SystemFiles {
 
     fn hashing(&self) -> Hashing {
         match self.seed {
-            Some(seed) => Hashing::seeded(seed),
-            None => Hashing::shared(),
+            Some(seed) => Hashing::with_seed(seed),
+            None => Hashing::with_shared_seed(),
         }
     }
 }

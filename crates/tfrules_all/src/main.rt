@@ -50,7 +50,7 @@ fn lint<O: ByteSink, E: ByteSink>(
     let Ok(seed) = RandomState::new(rt) else {
         return NO_WORDS;
     };
-    let mut files = ModuleTree::new(SystemTree::new(own), Hashing::seeded(seed));
+    let mut files = ModuleTree::new(SystemTree::new(own), Hashing::with_seed(seed));
     let mut input = FromRead::new(rt.stdin());
     let terminals = Terminals {
         out: rt.stdout().is_terminal(),

@@ -53,6 +53,6 @@ pub trait ModuleFiles {
     /// How names in these files are hashed. If others write the files, that should use a seed that they don't know. No
     /// answer depends on it.
     fn hashing(&self) -> Hashing {
-        Hashing::shared()
+        Hashing::with_shared_seed()
     }
 }

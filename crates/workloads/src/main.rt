@@ -45,8 +45,8 @@ fn task_of(words: &[String]) -> Option<Task<'_>> {
 fn digest_of(rt: &HostRuntime, task: Task<'_>) -> Result<Option<Digest>, AllocError> {
     let alloc = rt.alloc();
     let hashing = match RandomState::new(rt) {
-        Ok(seed) => Hashing::seeded(seed),
-        Err(_) => Hashing::shared(),
+        Ok(seed) => Hashing::with_seed(seed),
+        Err(_) => Hashing::with_shared_seed(),
     };
     let mut maker = Maker::new(task.seed);
     let mut digest = Digest::new();

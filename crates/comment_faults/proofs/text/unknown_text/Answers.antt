@@ -4,7 +4,7 @@ use Rattle.std.specs.List.{slice_split}
 use Rattle.std.proofs.lemmas.List.{length_push, map-append, take_all, take_more}
 use Rattle.std.proofs.lemmas.Iterator.Consumers.{YieldsList-at, YieldsList-end, YieldsList-turn}
 use Rattle.std.proofs.lemmas.Iterator.Splits.{YieldsList-from_slice_split}
-use Rattle.tf_facts.specs.Silencing.{trimmed}
+use Rattle.tf_facts.specs.Silencing.{trim_blanks}
 use Rattle.comment_faults.specs.CommentTexts.{is_known, unknown_text}
 use Rattle.comment_faults.specs.Inner.Growth.{with_unknown}
 use Rattle.comment_faults.proofs.NameLemmas.{unknown_more}
@@ -18,12 +18,12 @@ loop-part-preserved c =
     (YieldsList-from_slice_split _ (λ b. b == 44) c.args.list.now c.split-part-items.ensures.rest c.split-part-items.ensures.done c.split-part-items.ensures.closure (λ x b q k. search (rules, tests))))
     c.loop-part.yielded _ c.loop-part.yielded_by _ _ c.in-Some.part c.in-Some.is c.next.ensures.steps in
     c.in_ok-push_unknown.ensures
-    ∙ ap (with_unknown c.loop-part.text.items) c.trimmed.ensures
-    ∙ ap (λ l. with_unknown l (trimmed c.in-Some.part.now)) c.loop-part.invariant
-    ∙ sym (unknown_more (map trimmed (take n parts)) (trimmed c.in-Some.part.now))
+    ∙ ap (with_unknown c.loop-part.text.items) c.trim_blanks.ensures
+    ∙ ap (λ l. with_unknown l (trim_blanks c.in-Some.part.now)) c.loop-part.invariant
+    ∙ sym (unknown_more (map trim_blanks (take n parts)) (trim_blanks c.in-Some.part.now))
     ∙ ap (λ l. unknown_text (filter (λ name. not (is_known name)) l))
-    (ap (λ p. map trimmed (take n parts) ++ trimmed p ∷ []) t.1 ∙ sym (map-append trimmed (take n parts) (_ ∷ [])) ∙ ap (map trimmed) (sym (take_more parts n c.in-Some.part.now t.0)))
-    ∙ ap (λ k. unknown_text (filter (λ name. not (is_known name)) (map trimmed (take k parts)))) (sym (length_push c.loop-part.yielded c.in-Some.part))
+    (ap (λ p. map trim_blanks (take n parts) ++ trim_blanks p ∷ []) t.1 ∙ sym (map-append trim_blanks (take n parts) (_ ∷ [])) ∙ ap (map trim_blanks) (sym (take_more parts n c.in-Some.part.now t.0)))
+    ∙ ap (λ k. unknown_text (filter (λ name. not (is_known name)) (map trim_blanks (take k parts)))) (sym (length_push c.loop-part.yielded c.in-Some.part))
 
 pub returns : goal.returns
 returns c =
@@ -32,4 +32,4 @@ returns c =
     (YieldsList-from_slice_split _ (λ b. b == 44) c.args.list.now c.split-part-items.ensures.rest c.split-part-items.ensures.done c.split-part-items.ensures.closure (λ x b q k. search (rules, tests))))
     c.loop-part.yielded _ c.loop-part.yielded_by _ _ c.in-None.is c.next.ensures.steps in
     c.loop-part.invariant
-    ∙ ap (λ l. unknown_text (filter (λ name. not (is_known name)) (map trimmed l))) (take_all (length c.loop-part.yielded) parts (omega (arith, t.1)))
+    ∙ ap (λ l. unknown_text (filter (λ name. not (is_known name)) (map trim_blanks l))) (take_all (length c.loop-part.yielded) parts (omega (arith, t.1)))

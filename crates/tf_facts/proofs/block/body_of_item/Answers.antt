@@ -20,7 +20,7 @@ word_at-word-requires c =
 
 pub returns-then-level-ne1 : goal.returns-then-level-ne1
 returns-then-level-ne1 c =
-    c.nothing-then-level-ne1.ensures
+    c.no_body-then-level-ne1.ensures
     ∙ says_nothing (numbered c.args.accepted.now.tokens) c.in-Attribute.level c.in-Attribute.name c.in-Attribute.first c.in-Attribute.end c.args.item c.in-Attribute.is (ne_eqb c.in-Attribute.level 1 c.if-level-ne1.true)
 
 pub returns : goal.returns

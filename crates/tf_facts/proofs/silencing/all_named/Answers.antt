@@ -5,7 +5,7 @@ use Rattle.std.proofs.lemmas.List.{length_push, take_all}
 use Rattle.std.proofs.lemmas.Iterator.Consumers.{YieldsList-at, YieldsList-end, YieldsList-turn}
 use Rattle.std.proofs.lemmas.Iterator.Splits.{YieldsList-from_slice_split}
 use Rattle.rule_set.specs.RuleSets.{holds}
-use Rattle.tf_facts.specs.Silencing.{names, trimmed}
+use Rattle.tf_facts.specs.Silencing.{names, trim_blanks}
 use Rattle.tf_facts.proofs.CutLemmas.{any_more}
 use Rattle.tf_facts.proofs.silencing.all_named.Goals as goal
 
@@ -16,10 +16,10 @@ loop-part-preserved c =
     c.loop-part.yielded _ c.loop-part.yielded_by _ _ c.in-Some.part c.in-Some.is c.next.ensures.steps in
     λ rule.
     c.with_named-set.ensures rule
-    ∙ ap (λ text. holds c.loop-part.set rule || names rule text) c.trimmed.ensures
-    ∙ ap (λ b. b || names rule (trimmed c.in-Some.part.now)) (c.loop-part.invariant rule)
-    ∙ sym (any_more (λ part. names rule (trimmed part)) (slice_split (λ b. b == 44) c.args.list.now) (length c.loop-part.yielded) c.in-Some.part.now t.0 t.1)
-    ∙ ap (λ n. list_any (λ part. names rule (trimmed part)) (take n (slice_split (λ b. b == 44) c.args.list.now))) (sym (length_push c.loop-part.yielded c.in-Some.part))
+    ∙ ap (λ text. holds c.loop-part.set rule || names rule text) c.trim_blanks.ensures
+    ∙ ap (λ b. b || names rule (trim_blanks c.in-Some.part.now)) (c.loop-part.invariant rule)
+    ∙ sym (any_more (λ part. names rule (trim_blanks part)) (slice_split (λ b. b == 44) c.args.list.now) (length c.loop-part.yielded) c.in-Some.part.now t.0 t.1)
+    ∙ ap (λ n. list_any (λ part. names rule (trim_blanks part)) (take n (slice_split (λ b. b == 44) c.args.list.now))) (sym (length_push c.loop-part.yielded c.in-Some.part))
 
 pub returns : goal.returns
 returns c =
@@ -28,4 +28,4 @@ returns c =
     c.loop-part.yielded _ c.loop-part.yielded_by _ _ c.in-None.is c.next.ensures.steps in
     λ rule.
     c.loop-part.invariant rule
-    ∙ ap (list_any (λ part. names rule (trimmed part))) (take_all (length c.loop-part.yielded) (slice_split (λ b. b == 44) c.args.list.now) (omega (arith, t.1)))
+    ∙ ap (list_any (λ part. names rule (trim_blanks part))) (take_all (length c.loop-part.yielded) (slice_split (λ b. b == 44) c.args.list.now) (omega (arith, t.1)))
