@@ -78,13 +78,13 @@ module _ {P Q : Type 0} (f : P → Q) where
       ∙ flat_map_same (λ d. finding naming used rule (declaration_at f d)) (λ d. map (finding_at f) (finding naming used rule d)) (finding-at naming used rule) ds
       ∙ sym (map-flat_map (finding_at f) (finding naming used rule) ds)
 
-  slashed-at : (c : Comment P) → slash_findings (comment_at f c) ≡ map (finding_at f) (slash_findings c)
-  slashed-at c = says_if-at _ c.at _
+  slash_comment_finding-at : (c : Comment P) → slash_findings (comment_at f c) ≡ map (finding_at f) (slash_findings c)
+  slash_comment_finding-at c = says_if-at _ c.at _
 
   over_comments : (cs : List (Comment P)) → flat_map slash_findings (map (comment_at f) cs) ≡ map (finding_at f) (flat_map slash_findings cs)
   over_comments cs =
       flat_map-map slash_findings (comment_at f) cs
-      ∙ flat_map_same (λ c. slash_findings (comment_at f c)) (λ c. map (finding_at f) (slash_findings c)) slashed-at cs
+      ∙ flat_map_same (λ c. slash_findings (comment_at f c)) (λ c. map (finding_at f) (slash_findings c)) slash_comment_finding-at cs
       ∙ sym (map-flat_map (finding_at f) slash_findings cs)
 
   over_places : (message : List ℕ) (xs : List P) → map (says_of message) (map f xs) ≡ map (finding_at f) (map (says_of message) xs)

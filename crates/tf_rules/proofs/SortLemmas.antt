@@ -214,8 +214,8 @@ module _ {X : Type 0} where
 -- THE LAW: sorted entries of issues whose keys are apart, without the silenced, are the ordered list
 pub is_report : (asked : Asked) (files : List File) (p : Issue → Bool) (found : List Issue) (entries sorted : List Entry) → issues asked files ≡ filter p found → Ascends Differ found
     → IsPermutation found (issues_of entries) → IsPermutation entries sorted → IsSorted entry_cmp sorted → IsReport asked files (filter p (issues_of sorted))
-is_report asked files p found entries sorted is apart listed permutation order =
-    let moved : IsPermutation found (issues_of sorted) = IsPermutation-trans found (issues_of entries) (issues_of sorted) listed (IsPermutation-map issue_of entries sorted permutation) in
+is_report asked files p found entries sorted is apart listed_issue_of permutation order =
+    let moved : IsPermutation found (issues_of sorted) = IsPermutation-trans found (issues_of entries) (issues_of sorted) listed_issue_of (IsPermutation-map issue_of entries sorted permutation) in
     let P : List Issue → Type 0 = λ is. SameMembers is (filter p (issues_of sorted)) in
     record {
       members = subst P (sym is) (filter_members p found (issues_of sorted) (permuted_members found (issues_of sorted) moved));

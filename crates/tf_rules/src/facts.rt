@@ -15,7 +15,7 @@ ghost use Rattle.tf_rules.specs.Inner.Entries.{declared_rules, issues_by, issues
 ghost use Rattle.tf_rules.specs.Inner.KeptFacts.{kept_facts, with_found};
 
 use crate::entry::Entry;
-use crate::findings::{put_comments, put_declarations, put_places};
+use crate::findings::{push_comments, push_declarations, push_places};
 use crate::issue::Issue;
 use crate::issue_list::IssueList;
 use crate::kept::{KeptComment, KeptDeclaration, TokenPlace};
@@ -174,7 +174,7 @@ impl Facts {
     }
 
     /// Puts what is said of comments after these entries, where it is asked for.
-    fn put_slashed<'f>(
+    fn push_slash_comments<'f>(
         &'f self,
         settings: &Settings,
         entries: &mut Vec<Entry<'f>>,
@@ -185,11 +185,11 @@ impl Facts {
         if !settings.rules.holds(Rule::CommentSyntax) {
             return Ok(());
         }
-        put_comments(&self.comments, entries)
+        push_comments(&self.comments, entries)
     }
 
     /// Puts what is said of dots before numbers after these entries, where it is asked for.
-    fn put_indexes<'f>(
+    fn push_indexes<'f>(
         &'f self,
         settings: &Settings,
         entries: &mut Vec<Entry<'f>>,
@@ -200,7 +200,7 @@ impl Facts {
         if !settings.rules.holds(Rule::DeprecatedIndex) {
             return Ok(());
         }
-        put_places(
+        push_places(
             Rule::DeprecatedIndex,
             "list items should be accessed using square brackets",
             &self.indexes,
@@ -209,7 +209,7 @@ impl Facts {
     }
 
     /// Puts what is said of interpolations alone after these entries, where it is asked for.
-    fn put_interpolations<'f>(
+    fn push_interpolations<'f>(
         &'f self,
         settings: &Settings,
         entries: &mut Vec<Entry<'f>>,
@@ -220,7 +220,7 @@ impl Facts {
         if !settings.rules.holds(Rule::DeprecatedInterpolation) {
             return Ok(());
         }
-        put_places(
+        push_places(
             Rule::DeprecatedInterpolation,
             "interpolation-only expressions are deprecated",
             &self.interpolations,
@@ -229,7 +229,7 @@ impl Facts {
     }
 
     /// Puts what is said of declarations after these entries, as far as it is asked for.
-    fn put_declared<'f>(
+    fn push_declared<'f>(
         &'f self,
         settings: &Settings,
         entries: &mut Vec<Entry<'f>>,
@@ -241,7 +241,7 @@ impl Facts {
         if !asks_of_declarations(settings.rules) {
             return Ok(());
         }
-        put_declarations(
+        push_declarations(
             self.alloc,
             settings,
             &self.references,
@@ -252,16 +252,16 @@ impl Facts {
 
     /// All that those rules report that are asked for, silenced or not: first by rules, then by declarations. A sort
     /// follows, so any order will do, and this one is nearly sorted.
-    fn reported<'f>(&'f self, settings: &Settings) -> Result<Vec<Entry<'f>>, AllocError>
+    fn reported_entries<'f>(&'f self, settings: &Settings) -> Result<Vec<Entry<'f>>, AllocError>
         ensures { IfOk result (λ entries. IsPermutation (flat_map (λ rule. map (issue_at rule)
             (findings settings.now.naming self.now.references self.now.facts rule))
             (rules_of settings.now.rules)) (issues_of entries.items)) }
     {
         let mut entries: Vec<Entry<'f>> = Vec::new(self.alloc);
-        self.put_slashed(settings, &mut entries)?;
-        self.put_indexes(settings, &mut entries)?;
-        self.put_interpolations(settings, &mut entries)?;
-        self.put_declared(settings, &mut entries)?;
+        self.push_slash_comments(settings, &mut entries)?;
+        self.push_indexes(settings, &mut entries)?;
+        self.push_interpolations(settings, &mut entries)?;
+        self.push_declared(settings, &mut entries)?;
         Ok(entries)
     }
 
@@ -271,7 +271,7 @@ impl Facts {
         ensures { (files : List File) → self.now ≡ kept_of files → Rising files
             → IfOk result (λ issues. AreIssues (asked_of settings.now) files issues) }
     {
-        let entries = self.reported(settings)?;
+        let entries = self.reported_entries(settings)?;
         let lines = silenced_lines(self.alloc, &self.comments)?;
         let sorted = in_order(entries)?;
         let shown = shown_entries(self.alloc, sorted, &lines)?;

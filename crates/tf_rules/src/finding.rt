@@ -52,7 +52,7 @@ fn put<'f>(
 /// Puts that a declaration lacks what it should have, where it does. The rest of the text begins with the quote after its
 /// name.
 #[inline(always)]
-fn put_lacking<'f>(
+fn push_lacking<'f>(
     entries: &mut Vec<Entry<'f>>,
     rule: Rule,
     is_lacking: bool,
@@ -77,7 +77,7 @@ fn put_lacking<'f>(
 }
 
 /// Puts that a module's source is not pinned, where it isn't.
-fn put_unpinned_by<'f>(
+fn push_unpinned_by<'f>(
     entries: &mut Vec<Entry<'f>>,
     rule: Rule,
     declaration: &'f KeptDeclaration,
@@ -107,7 +107,7 @@ fn put_unpinned_by<'f>(
 }
 
 #[inline(always)]
-fn put_unpinned<'f>(
+fn push_unpinned<'f>(
     entries: &mut Vec<Entry<'f>>,
     rule: Rule,
     declaration: &'f KeptDeclaration,
@@ -118,7 +118,7 @@ fn put_unpinned<'f>(
         (option_map kept_source declaration.now.source))) }
 {
     match declaration.source {
-        Some(found) => put_unpinned_by(entries, rule, declaration, found),
+        Some(found) => push_unpinned_by(entries, rule, declaration, found),
         None => Ok(()),
     }
 }
@@ -135,7 +135,7 @@ fn from_registry(found: Option<KeptSource>) -> bool
 
 /// Puts that a name doesn't have the naming, where it doesn't.
 #[inline(always)]
-fn put_misnamed<'f>(
+fn push_misnamed<'f>(
     entries: &mut Vec<Entry<'f>>,
     naming: Naming,
     rule: Rule,
@@ -225,7 +225,7 @@ fn is_unused(
 
 /// Puts that nothing refers to a declaration, where nothing does.
 #[inline(always)]
-fn put_unused<'f>(
+fn push_unused<'f>(
     entries: &mut Vec<Entry<'f>>,
     used: &TextSet,
     rule: Rule,
@@ -246,7 +246,7 @@ fn put_unused<'f>(
 /// Puts what a rule reports of a declaration last, where all files have these references. A reference to it is put together
 /// in the room of another text. Most rules report nothing of most declarations, so nothing is handed out here.
 #[inline(always)]
-fn put_finding<'f>(
+fn push_finding<'f>(
     naming: Naming,
     used: &TextSet,
     rule: Rule,
@@ -259,37 +259,37 @@ fn put_finding<'f>(
         (finding naming used.now rule (kept_declaration declaration.now))) }
 {
     match rule {
-        Rule::DocumentedOutputs => put_lacking(
+        Rule::DocumentedOutputs => push_lacking(
             entries,
             rule,
             is_output(declaration.kind) && !declaration.is_described,
             declaration,
             "\" has no description",
         ),
-        Rule::DocumentedVariables => put_lacking(
+        Rule::DocumentedVariables => push_lacking(
             entries,
             rule,
             is_variable(declaration.kind) && !declaration.is_described,
             declaration,
             "\" has no description",
         ),
-        Rule::ModulePinnedSource => put_unpinned(entries, rule, declaration),
-        Rule::ModuleVersion => put_lacking(
+        Rule::ModulePinnedSource => push_unpinned(entries, rule, declaration),
+        Rule::ModuleVersion => push_lacking(
             entries,
             rule,
             from_registry(declaration.source) && !declaration.is_versioned,
             declaration,
             "\" has no version",
         ),
-        Rule::NamingConvention => put_misnamed(entries, naming, rule, declaration),
-        Rule::TypedVariables => put_lacking(
+        Rule::NamingConvention => push_misnamed(entries, naming, rule, declaration),
+        Rule::TypedVariables => push_lacking(
             entries,
             rule,
             is_variable(declaration.kind) && !declaration.is_typed,
             declaration,
             "\" has no type",
         ),
-        Rule::UnusedDeclarations => put_unused(entries, used, rule, declaration, text),
+        Rule::UnusedDeclarations => push_unused(entries, used, rule, declaration, text),
         Rule::CommentSyntax => Ok(()),
         Rule::DeprecatedIndex => Ok(()),
         Rule::DeprecatedInterpolation => Ok(()),
@@ -305,7 +305,7 @@ pub struct Inputs<'a> {
 
 /// Puts what a rule reports of a declaration last, where it is asked for.
 #[inline(always)]
-fn put_asked<'f>(
+fn push_if_requested<'f>(
     inputs: &Inputs<'_>,
     rule: Rule,
     declaration: &'f KeptDeclaration,
@@ -320,7 +320,7 @@ fn put_asked<'f>(
     if !settings.rules.holds(rule) {
         return Ok(());
     }
-    put_finding(
+    push_finding(
         settings.naming,
         inputs.used,
         rule,
@@ -334,7 +334,7 @@ fn put_asked<'f>(
 /// where its test is made. The source of a module stands after all else that is reported, so its rule comes last: the
 /// entries of declarations in order are then sorted.
 #[inline(always)]
-pub fn put_findings<'f>(
+pub fn push_findings<'f>(
     inputs: &Inputs<'_>,
     declaration: &'f KeptDeclaration,
     text: &mut String,
@@ -344,17 +344,17 @@ pub fn put_findings<'f>(
         ++ issues_declared inputs.now.settings.now inputs.now.used.now
         (kept_declaration declaration.now)) }
 {
-    put_asked(inputs, Rule::DocumentedOutputs, declaration, text, entries)?;
-    put_asked(
+    push_if_requested(inputs, Rule::DocumentedOutputs, declaration, text, entries)?;
+    push_if_requested(
         inputs,
         Rule::DocumentedVariables,
         declaration,
         text,
         entries,
     )?;
-    put_asked(inputs, Rule::ModuleVersion, declaration, text, entries)?;
-    put_asked(inputs, Rule::NamingConvention, declaration, text, entries)?;
-    put_asked(inputs, Rule::TypedVariables, declaration, text, entries)?;
-    put_asked(inputs, Rule::UnusedDeclarations, declaration, text, entries)?;
-    put_asked(inputs, Rule::ModulePinnedSource, declaration, text, entries)
+    push_if_requested(inputs, Rule::ModuleVersion, declaration, text, entries)?;
+    push_if_requested(inputs, Rule::NamingConvention, declaration, text, entries)?;
+    push_if_requested(inputs, Rule::TypedVariables, declaration, text, entries)?;
+    push_if_requested(inputs, Rule::UnusedDeclarations, declaration, text, entries)?;
+    push_if_requested(inputs, Rule::ModulePinnedSource, declaration, text, entries)
 }

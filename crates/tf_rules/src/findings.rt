@@ -8,7 +8,7 @@ ghost use Rattle.tf_rules.specs.Inner.Entries.{issues_of, finding_listed, issues
 ghost use Rattle.tf_rules.specs.Inner.KeptViews.{kept_comment, kept_declaration, place_of};
 
 use crate::entry::{Entry, Finding, Said};
-use crate::finding::{Inputs, put_findings};
+use crate::finding::{Inputs, push_findings};
 use crate::kept::{KeptComment, KeptDeclaration, TokenPlace};
 use crate::settings::Settings;
 use rule_set::Rule;
@@ -36,7 +36,7 @@ fn put<'f>(
 }
 
 /// What is said of a comment that begins with `//`.
-fn slashed(comment: KeptComment) -> Option<Finding<'static>>
+fn slash_comment_finding(comment: KeptComment) -> Option<Finding<'static>>
     ensures { finding_listed result ≡ slash_findings (kept_comment comment) }
 {
     if !comment.has_slashes {
@@ -49,7 +49,7 @@ fn slashed(comment: KeptComment) -> Option<Finding<'static>>
 }
 
 /// Puts what is said of comments last.
-pub fn put_comments(
+pub fn push_comments(
     comments: &[KeptComment],
     entries: &mut Vec<Entry<'_>>,
 ) -> Result<(), AllocError>
@@ -58,14 +58,14 @@ pub fn put_comments(
         (flat_map slash_findings (map kept_comment comments.now))) }
 {
     for comment in comments {
-        let found = slashed(*comment);
+        let found = slash_comment_finding(*comment);
         put(entries, Rule::CommentSyntax, found)?;
     }
     Ok(())
 }
 
 /// Puts an issue for each of these places last, with this text.
-pub fn put_places(
+pub fn push_places(
     rule: Rule,
     text: &'static str,
     places: &[TokenPlace],
@@ -87,7 +87,7 @@ pub fn put_places(
 
 /// Puts what the rules that are asked for report of declarations last, declaration by declaration, where all files have
 /// these references. So each declaration is read once, and not once for each rule.
-pub fn put_declarations<'f>(
+pub fn push_declarations<'f>(
     alloc: Global,
     settings: &Settings,
     used: &TextSet,
@@ -101,7 +101,7 @@ pub fn put_declarations<'f>(
     let inputs = Inputs { settings, used };
     let mut text = String::new(alloc);
     for declaration in declarations {
-        put_findings(&inputs, declaration, &mut text, entries)?;
+        push_findings(&inputs, declaration, &mut text, entries)?;
     }
     Ok(())
 }

@@ -19,7 +19,7 @@ fn entry_at<'f>(entries: &[Entry<'f>], i: usize) -> Entry<'f>
 
 /// An entry as it is given.
 #[inline(always)]
-fn listed<'f>(entry: Entry<'f>) -> ListedIssue<'f>
+fn listed_issue_of<'f>(entry: Entry<'f>) -> ListedIssue<'f>
     ensures { listed_issue result ≡ shown_of entry.entry }
 {
     ListedIssue {
@@ -74,6 +74,6 @@ impl<'f> IssueList<'f> {
         requires { i < length self.now }
         ensures { slice_get self.now i ≡ Some (listed_issue result) }
     {
-        listed(entry_at(&self.entries, i))
+        listed_issue_of(entry_at(&self.entries, i))
     }
 }

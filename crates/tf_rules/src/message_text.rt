@@ -30,7 +30,7 @@ fn joined(alloc: Global, texts: &[&str]) -> Result<String, AllocError>
 }
 
 /// Three texts one after another.
-fn joined_three<'p>(
+fn join_three<'p>(
     alloc: Global,
     front: &'p str,
     name: &'p str,
@@ -42,7 +42,7 @@ fn joined_three<'p>(
 }
 
 /// Five texts one after another.
-fn joined_five<'p>(
+fn join_five<'p>(
     alloc: Global,
     front: &'p str,
     name: &'p str,
@@ -62,9 +62,9 @@ pub fn message_text(alloc: Global, pieces: Pieces<'_>) -> Result<String, AllocEr
 {
     match pieces {
         Pieces::Whole(text) => String::from_str(alloc, text),
-        Pieces::Named(front, name, rest) => joined_three(alloc, front, name, rest),
+        Pieces::Named(front, name, rest) => join_three(alloc, front, name, rest),
         Pieces::NamedTwice(front, name, between, other, rest) => {
-            joined_five(alloc, front, name, between, other, rest)
+            join_five(alloc, front, name, between, other, rest)
         }
     }
 }

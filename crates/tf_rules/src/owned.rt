@@ -9,14 +9,14 @@ use crate::listed_issue::ListedIssue;
 use crate::message_text::message_text;
 use std::alloc::{AllocError, Global};
 
-fn owned_issue(alloc: Global, listed: ListedIssue<'_>) -> Result<Issue, AllocError>
-    ensures { IfOk result (λ issue. issue ≡ listed_issue listed.entry) }
+fn owned_issue(alloc: Global, listed_issue_of: ListedIssue<'_>) -> Result<Issue, AllocError>
+    ensures { IfOk result (λ issue. issue ≡ listed_issue listed_issue_of.entry) }
 {
-    let text = message_text(alloc, listed.message)?;
+    let text = message_text(alloc, listed_issue_of.message)?;
     Ok(Issue {
-        file: listed.file,
-        at: listed.at,
-        rule: listed.rule,
+        file: listed_issue_of.file,
+        at: listed_issue_of.at,
+        rule: listed_issue_of.rule,
         message: Message::new(text),
     })
 }

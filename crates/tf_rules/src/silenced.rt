@@ -84,7 +84,7 @@ fn is_silenced(lines: &SilencedLines, entry: &Entry<'_>) -> bool
 }
 
 /// Puts an entry last, where it isn't silenced.
-fn put_unsilenced<'f>(
+fn push_unsilenced<'f>(
     entry: Entry<'f>,
     lines: &SilencedLines,
     shown: &mut Vec<Entry<'f>>,
@@ -113,7 +113,7 @@ fn without_silenced<'f>(
 {
     let mut shown = Vec::with_capacity(alloc, entries.len())?;
     for entry in entries {
-        put_unsilenced(*entry, lines, &mut shown)?;
+        push_unsilenced(*entry, lines, &mut shown)?;
     }
     Ok(shown)
 }

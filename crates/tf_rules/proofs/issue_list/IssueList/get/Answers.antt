@@ -19,4 +19,4 @@ returns c =
     ap (λ (is : List Issue). slice_get is c.args.i) (sym c.self.view_is)
     ∙ slice_get-map shown_of c.self.inside.entries.items c.args.i
     ∙ ap (option_map shown_of) (ap (λ (es : List Entry). slice_get es c.args.i) (sym c.deref.ensures.value) ∙ c.entry_at.ensures)
-    ∙ ap Some (sym c.listed.ensures)
+    ∙ ap Some (sym c.listed_issue_of.ensures)

@@ -5,7 +5,7 @@ use Rattle.tf_rules.specs.Kept.{issue_at}
 use Rattle.tf_rules.specs.Inner.Entries.{issues_of}
 use Rattle.tf_rules.specs.Inner.KeptViews.{kept_comment}
 use Rattle.rule_set.specs.declared.rule.Rule.TheVariants.{CommentSyntax}
-use Rattle.tf_rules.proofs.findings.put_comments.Given as goal
+use Rattle.tf_rules.proofs.findings.push_comments.Given as goal
 
 abbrev pub invariant-loop-comment : goal.invariant-loop-comment
 invariant-loop-comment l = issues_of l.entries.items ≡ issues_of l.fn.entries.items ++ flat_map (λ x. map (issue_at CommentSyntax) (slash_findings (kept_comment x))) (take l.comment-index l.comments)

@@ -5,7 +5,7 @@ use Rattle.tf_rules.specs.Inner.Entries.{issues_of}
 use Rattle.tf_rules.specs.Inner.KeptViews.{place_of}
 use Rattle.tf_rules.proofs.EntryLemmas.{put_all, put_each}
 use Rattle.tf_rules.proofs.FindingLemmas.{map-map}
-use Rattle.tf_rules.proofs.findings.put_places.Goals as goal
+use Rattle.tf_rules.proofs.findings.push_places.Goals as goal
 
 pub returns : goal.returns
 returns c =

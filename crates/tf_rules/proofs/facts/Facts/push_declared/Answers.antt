@@ -5,7 +5,7 @@ use Rattle.rule_set.specs.RuleSets.{holds}
 use Rattle.tf_rules.specs.Inner.Entries.{declared_rules, issues_of}
 use Rattle.tf_rules.specs.Issues.{Issue}
 use Rattle.tf_rules.proofs.ExchangeLemmas.{nothing_declared}
-use Rattle.tf_rules.proofs.facts.Facts.put_declared.Goals as goal
+use Rattle.tf_rules.proofs.facts.Facts.push_declared.Goals as goal
 
 pub returns-then-not-asks_of_declarations : goal.returns-then-not-asks_of_declarations
 returns-then-not-asks_of_declarations c =

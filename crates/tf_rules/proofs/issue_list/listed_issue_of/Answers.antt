@@ -1,5 +1,5 @@
 use Rattle.tf_rules.proofs.SaidLemmas.{listed_is}
-use Rattle.tf_rules.proofs.issue_list.listed.Goals as goal
+use Rattle.tf_rules.proofs.issue_list.listed_issue_of.Goals as goal
 
 pub returns : goal.returns
 returns c = listed_is c.args.entry c.pieces.result c.pieces.ensures

@@ -5,7 +5,7 @@ use Rattle.tf_rules.specs.Inner.Entries.{issues_of}
 use Rattle.tf_rules.specs.Inner.KeptViews.{kept_comment}
 use Rattle.rule_set.specs.declared.rule.Rule.TheVariants.{CommentSyntax}
 use Rattle.tf_rules.proofs.EntryLemmas.{put_all, put_map}
-use Rattle.tf_rules.proofs.findings.put_comments.Goals as goal
+use Rattle.tf_rules.proofs.findings.push_comments.Goals as goal
 
 pub returns : goal.returns
 returns c =

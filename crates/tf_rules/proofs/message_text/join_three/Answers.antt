@@ -2,7 +2,7 @@ use Rattle.std.proofs.Common.{◌≡◌, ◌∙◌, ◌++◌, [], ap}
 use Rattle.std.proofs.lemmas.List.{append-nil}
 use Rattle.std.proofs.lemmas.Result.{IfOk-weaker}
 use Rattle.std.specs.String.{string_bytes}
-use Rattle.tf_rules.proofs.message_text.joined_three.Goals as goal
+use Rattle.tf_rules.proofs.message_text.join_three.Goals as goal
 
 pub returns : goal.returns
 returns c =
