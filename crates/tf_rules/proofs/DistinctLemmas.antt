@@ -16,7 +16,7 @@ use Rattle.tf_facts.specs.Patterns.{legacy_indexes, wrapped_interpolations}
 use Rattle.rule_set.specs.Rules.{all_rules, rank}
 use Rattle.rule_set.specs.RuleSets.{holds, rules_of}
 use Rattle.tf_facts.specs.Sources.{Source, Other, NotPinned, DefaultBranch, Registry}
-use Rattle.tf_rules.specs.Inner.Placing.{numbers_of, quotes}
+use Rattle.tf_rules.specs.Inner.Locating.{numbers_of, quotes}
 use Rattle.tf_rules.specs.declared.naming.Naming.{Naming}
 use Rattle.rule_set.specs.declared.rule.Rule.{Rule}
 use Rattle.rule_set.specs.declared.rule.Rule.TheVariants.{CommentSyntax, DeprecatedIndex, DeprecatedInterpolation, DocumentedOutputs, DocumentedVariables, ModulePinnedSource, ModuleVersion, NamingConvention, TypedVariables, UnusedDeclarations}

@@ -22,7 +22,7 @@ use Rattle.tf_facts.specs.Declarations.{Attribute, Declaration, Declarer, attrib
 use Rattle.tf_facts.specs.declared.declaration_kind.DeclarationKind.TheVariants as declares
 use Rattle.tf_facts.specs.Patterns.{legacy_indexes, numbers_where, wrapped_interpolations, is_index, is_wrapped}
 use Rattle.tf_facts.specs.Silencing.{has_slashes, silenced_rules}
-use Rattle.tf_rules.specs.Inner.Placing.{Forward, numbers_of, quotes}
+use Rattle.tf_rules.specs.Inner.Locating.{Forward, numbers_of, quotes}
 use Rattle.tf_rules.proofs.StartLemmas.{starts_rise}
 
 -- numbers in order, from one on to before another

@@ -7,7 +7,7 @@ use Rattle.hcl_tokens.specs.Lexemes.{Lexeme}
 use Rattle.hcl_grammar.proofs.NumberedLemmas.{drop_at}
 use Rattle.hcl_grammar.specs.Verdict.{start_of}
 use Rattle.tf_rules.specs.Issues.{File}
-use Rattle.tf_rules.specs.Inner.Placing.{Placing, CanGo, Forward, IsKeeping, reached_after, gone}
+use Rattle.tf_rules.specs.Inner.Locating.{Locating, CanAdvance, Forward, IsKeeping, reached_after, advanced}
 
 forward_first : (ts : List Lexeme) (r : ℕ) (ns ms : List ℕ) → Forward ts r (ns ++ ms) → Forward ts r ns
 forward_first ts r [] ms h = tt
@@ -21,7 +21,7 @@ single : (ns : List ℕ) → flat_map (λ n. n ∷ []) ns ≡ ns
 single [] = refl
 single (n ∷ ns) = ap (λ r. n ∷ r) (single ns)
 
-pub begins_single : {K V : Type 0} (view : K → V) (whole : ℕ → V) (p : Placing) (ns : List ℕ) (kept : List K) → kept ≡ [] → CanGo p ns → IsKeeping view whole (λ n. n ∷ []) p.file ns kept 0 p
+pub begins_single : {K V : Type 0} (view : K → V) (whole : ℕ → V) (p : Locating) (ns : List ℕ) (kept : List K) → kept ≡ [] → CanAdvance p ns → IsKeeping view whole (λ n. n ∷ []) p.file ns kept 0 p
 begins_single view whole p ns kept none go = record {
   so_far = ap (λ ks. map view ks ++ map whole ns) none;
   same = refl;
@@ -29,10 +29,10 @@ begins_single view whole p ns kept none go = record {
 }
 
 module _ {X K V : Type 0} (view : K → V) (whole : File → X → V) (numbers : X → List ℕ) (file : File) (all : List X) where
-  pub begins : (p : Placing) → p.file ≡ file → Forward file.source.tokens p.reached (flat_map numbers all) → IsKeeping view (whole file) numbers file all [] 0 p
+  pub begins : (p : Locating) → p.file ≡ file → Forward file.source.tokens p.reached (flat_map numbers all) → IsKeeping view (whole file) numbers file all [] 0 p
   begins p same ahead = record { so_far = refl; same = same; ahead = ahead }
 
-  module _ (kept : List K) (n : ℕ) (p : Placing) (h : IsKeeping view (whole file) numbers file all kept n p) where
+  module _ (kept : List K) (n : ℕ) (p : Locating) (h : IsKeeping view (whole file) numbers file all kept n p) where
     pub ends : length all ≤ n → map view kept ≡ map (whole file) all
     ends past = sym (append-nil (map view kept)) ∙ ap (λ xs. map view kept ++ map (whole file) xs) (sym (drop_all n all past)) ∙ h.so_far
 
@@ -40,10 +40,10 @@ module _ {X K V : Type 0} (view : K → V) (whole : File → X → V) (numbers :
       split : Forward file.source.tokens p.reached (numbers x ++ flat_map numbers (drop (n + 1) all))
       split = subst (λ xs. Forward file.source.tokens p.reached (flat_map numbers xs)) (drop_at all n x e) h.ahead
 
-      pub can_go : CanGo p (numbers x)
+      pub can_go : CanAdvance p (numbers x)
       can_go = subst (λ (f : File). Forward f.source.tokens p.reached (numbers x)) (sym h.same) (forward_first file.source.tokens p.reached (numbers x) (flat_map numbers (drop (n + 1) all)) split)
 
-      pub keeps : (next : List K) (k : K) (q : Placing) → next ≡ kept ++ k ∷ [] → view k ≡ whole p.file x → q ≡ gone p (numbers x) → IsKeeping view (whole file) numbers file all next (n + 1) q
+      pub keeps : (next : List K) (k : K) (q : Locating) → next ≡ kept ++ k ∷ [] → view k ≡ whole p.file x → q ≡ advanced p (numbers x) → IsKeeping view (whole file) numbers file all next (n + 1) q
       keeps next k q pushed is went = record {
         so_far = ap (λ ks. map view ks ++ map (whole file) (drop (n + 1) all)) pushed
             ∙ ap (λ vs. vs ++ map (whole file) (drop (n + 1) all)) (map-append view kept (k ∷ []))
@@ -51,7 +51,7 @@ module _ {X K V : Type 0} (view : K → V) (whole : File → X → V) (numbers :
             ∙ ap (λ v. map view kept ++ v ∷ map (whole file) (drop (n + 1) all)) (is ∙ ap (λ f. whole f x) h.same)
             ∙ ap (λ xs. map view kept ++ map (whole file) xs) (sym (drop_at all n x e))
             ∙ h.so_far;
-        same = ap (λ (r : Placing). r.file) went ∙ h.same;
-        ahead = subst (λ (r : ℕ). Forward file.source.tokens r (flat_map numbers (drop (n + 1) all))) (sym (ap (λ (r : Placing). r.reached) went ∙ ap (λ (f : File). reached_after f.source.tokens p.reached (numbers x)) h.same))
+        same = ap (λ (r : Locating). r.file) went ∙ h.same;
+        ahead = subst (λ (r : ℕ). Forward file.source.tokens r (flat_map numbers (drop (n + 1) all))) (sym (ap (λ (r : Locating). r.reached) went ∙ ap (λ (f : File). reached_after f.source.tokens p.reached (numbers x)) h.same))
             (forward_rest file.source.tokens p.reached (numbers x) (flat_map numbers (drop (n + 1) all)) split);
       }

@@ -11,7 +11,7 @@ use Rattle.tf_rules.specs.Kept.{declaration_at, facts_at}
 use Rattle.tf_facts.specs.Found.{facts, comment, declaration}
 use Rattle.tf_rules.specs.Inner.KeptFacts.{kept_facts}
 use Rattle.tf_rules.specs.Inner.KeptViews.{kept_comment, kept_declaration, place_of}
-use Rattle.tf_rules.specs.Inner.Placing.{Placing, CanGo, Forward, numbers_of}
+use Rattle.tf_rules.specs.Inner.Locating.{Locating, CanAdvance, Forward, numbers_of}
 use Rattle.tf_facts.specs.declared.file_facts.FileFacts.{FileFacts}
 use Rattle.tf_facts.specs.declared.found.Declared.{Declared}
 use Rattle.tf_facts.specs.declared.found.FoundComment.{FoundComment}
@@ -19,31 +19,31 @@ use Rattle.tf_rules.specs.declared.kept_file.KeptFile.{KeptFile}
 use Rattle.tf_rules.proofs.FindingLemmas.{map-map}
 use Rattle.tf_rules.proofs.ForwardLemmas.{comments_forward, declarations_forward, indexes_forward, interpolations_forward}
 
-abbrev pub at_start : File → Placing
+abbrev pub at_start : File → Locating
 at_start file = record { file = file; reached = 0 }
 
 -- the same by the file itself and what was found
-pub there : {X V : Type 0} (whole : File → X → V) (vs : List V) (p : Placing) (file : File) (xs ys : List X) → p ≡ at_start file → xs ≡ ys → vs ≡ map (whole p.file) xs → vs ≡ map (whole file) ys
-there whole vs p file xs ys start same is = is ∙ ap (λ (q : Placing). map (whole q.file) xs) start ∙ ap (map (whole file)) same
+pub there : {X V : Type 0} (whole : File → X → V) (vs : List V) (p : Locating) (file : File) (xs ys : List X) → p ≡ at_start file → xs ≡ ys → vs ≡ map (whole p.file) xs → vs ≡ map (whole file) ys
+there whole vs p file xs ys start same is = is ∙ ap (λ (q : Locating). map (whole q.file) xs) start ∙ ap (map (whole file)) same
 
 module _ (file : File) (found : FileFacts) (is : facts found ≡ facts_of (tokens_of file)) where
-  module _ (scanned : Scans file.source.text file.source.tokens) (p : Placing) (start : p ≡ at_start file) where
-    go : (ns ms : List ℕ) → ns ≡ ms → Forward file.source.tokens 0 ms → CanGo p ns
-    go ns ms same f = subst (λ (q : Placing). CanGo q ns) (sym start) (subst (λ (ks : List ℕ). Forward file.source.tokens 0 ks) (sym same) f)
+  module _ (scanned : Scans file.source.text file.source.tokens) (p : Locating) (start : p ≡ at_start file) where
+    go : (ns ms : List ℕ) → ns ≡ ms → Forward file.source.tokens 0 ms → CanAdvance p ns
+    go ns ms same f = subst (λ (q : Locating). CanAdvance q ns) (sym start) (subst (λ (ks : List ℕ). Forward file.source.tokens 0 ks) (sym same) f)
 
-    pub comments_go : (xs : List FoundComment) → xs ≡ found.comments.items → CanGo p (map (λ (c : FoundComment). c.at) xs)
+    pub comments_go : (xs : List FoundComment) → xs ≡ found.comments.items → CanAdvance p (map (λ (c : FoundComment). c.at) xs)
     comments_go xs same =
         go (map (λ (c : FoundComment). c.at) xs) (map (λ (c : Comment ℕ). c.at) ((facts_of (tokens_of file)).comments))
         (ap (map (λ (c : FoundComment). c.at)) same ∙ sym (map-map (λ (c : Comment ℕ). c.at) comment found.comments.items) ∙ ap (λ (f : Facts ℕ). map (λ (c : Comment ℕ). c.at) f.comments) is)
         (comments_forward file.source.tokens file.source.text scanned)
 
-    pub indexes_go : (xs : List ℕ) → xs ≡ found.indexes.items → CanGo p xs
+    pub indexes_go : (xs : List ℕ) → xs ≡ found.indexes.items → CanAdvance p xs
     indexes_go xs same = go xs ((facts_of (tokens_of file)).indexes) (same ∙ ap (λ (f : Facts ℕ). f.indexes) is) (indexes_forward file.source.tokens file.source.text scanned)
 
-    pub interpolations_go : (xs : List ℕ) → xs ≡ found.interpolations.items → CanGo p xs
+    pub interpolations_go : (xs : List ℕ) → xs ≡ found.interpolations.items → CanAdvance p xs
     interpolations_go xs same = go xs ((facts_of (tokens_of file)).interpolations) (same ∙ ap (λ (f : Facts ℕ). f.interpolations) is) (interpolations_forward file.source.tokens file.source.text scanned)
 
-    pub declarations_go : (xs : List Declared) → xs ≡ found.declarations.items → CanGo p (flat_map (λ (d : Declared). numbers_of (declaration d)) xs)
+    pub declarations_go : (xs : List Declared) → xs ≡ found.declarations.items → CanAdvance p (flat_map (λ (d : Declared). numbers_of (declaration d)) xs)
     declarations_go xs same =
         go (flat_map (λ (d : Declared). numbers_of (declaration d)) xs) (flat_map numbers_of ((facts_of (tokens_of file)).declarations))
         (ap (flat_map (λ (d : Declared). numbers_of (declaration d))) same ∙ sym (flat_map-map numbers_of declaration found.declarations.items) ∙ ap (λ (f : Facts ℕ). flat_map numbers_of f.declarations) is)

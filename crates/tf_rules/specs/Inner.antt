@@ -2,7 +2,7 @@
 pub mod Entries
 pub mod KeptFacts
 pub mod KeptViews
-pub mod Placing
+pub mod Locating
 pub mod SilencedLines
 pub mod Walked
 pub mod Walks

@@ -8,10 +8,10 @@ ghost use Rattle.tf_rules.specs.Kept.{declaration_at, source_at};
 ghost use Rattle.tf_facts.specs.Found.{declaration, texts_of};
 ghost use Rattle.tf_facts.specs.Found as found;
 ghost use Rattle.tf_rules.specs.Inner.KeptViews.{kept_comment, kept_declaration, kept_names, kept_source, place_of};
-ghost use Rattle.tf_rules.specs.Inner.Placing.{CanGo, gone, numbers_of, quotes};
+ghost use Rattle.tf_rules.specs.Inner.Locating.{CanAdvance, advanced, numbers_of, quotes};
 
 use crate::kept::{KeptComment, KeptDeclaration, KeptName, KeptNames, KeptSource, TokenPlace};
-use crate::placer::Placer;
+use crate::locator::Locator;
 use std::alloc::{AllocError, Global};
 use tf_facts::{Declared, FoundComment, FoundSource, Names};
 
@@ -19,27 +19,27 @@ use tf_facts::{Declared, FoundComment, FoundSource, Names};
 pub fn places(
     alloc: Global,
     numbers: &[usize],
-    mut placer: Placer<'_, '_>,
+    mut locator: Locator<'_, '_>,
 ) -> Result<Vec<TokenPlace>, AllocError>
-    requires { CanGo placer numbers.now }
+    requires { CanAdvance locator numbers.now }
     ensures { IfOk result (λ kept. map place_of kept.items
-        ≡ map (place_in placer.entry.file) numbers.now) }
+        ≡ map (place_in locator.entry.file) numbers.now) }
 {
     let mut kept = Vec::with_capacity(alloc, numbers.len())?;
     for number in numbers {
-        kept.push(placer.place(*number))?;
+        kept.push(locator.place(*number))?;
     }
     Ok(kept)
 }
 
-fn kept_comment(comment: FoundComment, placer: &mut Placer<'_, '_>) -> KeptComment
-    requires { CanGo placer.old (comment.at ∷ []) }
+fn kept_comment(comment: FoundComment, locator: &mut Locator<'_, '_>) -> KeptComment
+    requires { CanAdvance locator.old (comment.at ∷ []) }
     ensures kept { kept_comment result
-        ≡ comment_at (place_in placer.old.file) (found.comment comment) }
-    ensures moved { placer.new ≡ gone placer.old (comment.at ∷ []) }
+        ≡ comment_at (place_in locator.old.file) (found.comment comment) }
+    ensures moved { locator.new ≡ advanced locator.old (comment.at ∷ []) }
 {
     KeptComment {
-        at: placer.place(comment.at),
+        at: locator.place(comment.at),
         has_slashes: comment.has_slashes,
         silences: comment.silences,
     }
@@ -49,15 +49,15 @@ fn kept_comment(comment: FoundComment, placer: &mut Placer<'_, '_>) -> KeptComme
 pub fn kept_comments(
     alloc: Global,
     comments: &[FoundComment],
-    mut placer: Placer<'_, '_>,
+    mut locator: Locator<'_, '_>,
 ) -> Result<Vec<KeptComment>, AllocError>
-    requires { CanGo placer (map (λ c. c.at) comments.now) }
+    requires { CanAdvance locator (map (λ c. c.at) comments.now) }
     ensures { IfOk result (λ kept. map kept_comment kept.items
-        ≡ map (λ c. comment_at (place_in placer.entry.file) (found.comment c)) comments.now) }
+        ≡ map (λ c. comment_at (place_in locator.entry.file) (found.comment c)) comments.now) }
 {
     let mut kept = Vec::with_capacity(alloc, comments.len())?;
     for comment in comments {
-        kept.push(kept_comment(*comment, &mut placer))?;
+        kept.push(kept_comment(*comment, &mut locator))?;
     }
     Ok(kept)
 }
@@ -78,35 +78,35 @@ fn kept_names(alloc: Global, names: Names<'_>) -> Result<KeptNames, AllocError>
     }
 }
 
-fn kept_source(source: Option<FoundSource>, placer: &mut Placer<'_, '_>) -> Option<KeptSource>
-    requires { CanGo placer.old (quotes (option_map found.found_source source)) }
+fn kept_source(source: Option<FoundSource>, locator: &mut Locator<'_, '_>) -> Option<KeptSource>
+    requires { CanAdvance locator.old (quotes (option_map found.found_source source)) }
     ensures kept { option_map kept_source result
-        ≡ source_at (place_in placer.old.file) (option_map found.found_source source) }
-    ensures moved { placer.new ≡ gone placer.old (quotes (option_map found.found_source source)) }
+        ≡ source_at (place_in locator.old.file) (option_map found.found_source source) }
+    ensures moved { locator.new ≡ advanced locator.old (quotes (option_map found.found_source source)) }
 {
     let Some(source) = source else {
         return None;
     };
     Some(KeptSource {
         source: source.source,
-        at: placer.place(source.at),
+        at: locator.place(source.at),
     })
 }
 
 fn kept_declaration(
     alloc: Global,
     declared: Declared<'_>,
-    placer: &mut Placer<'_, '_>,
+    locator: &mut Locator<'_, '_>,
 ) -> Result<KeptDeclaration, AllocError>
-    requires { CanGo placer.old (numbers_of (declaration declared)) }
+    requires { CanAdvance locator.old (numbers_of (declaration declared)) }
     ensures kept { IfOk result (λ kept. kept_declaration kept
-        ≡ declaration_at (place_in placer.old.file) (declaration declared.entry)) }
-    ensures moved { OnOk result (placer.new
-        ≡ gone placer.old (numbers_of (declaration declared.entry))) }
+        ≡ declaration_at (place_in locator.old.file) (declaration declared.entry)) }
+    ensures moved { OnOk result (locator.new
+        ≡ advanced locator.old (numbers_of (declaration declared.entry))) }
 {
     let names = kept_names(alloc, declared.names)?;
-    let at = placer.place(declared.at);
-    let source = kept_source(declared.source, placer);
+    let at = locator.place(declared.at);
+    let source = kept_source(declared.source, locator);
     Ok(KeptDeclaration {
         kind: declared.kind,
         names,
@@ -122,15 +122,15 @@ fn kept_declaration(
 pub fn kept_declarations(
     alloc: Global,
     declarations: &[Declared<'_>],
-    mut placer: Placer<'_, '_>,
+    mut locator: Locator<'_, '_>,
 ) -> Result<Vec<KeptDeclaration>, AllocError>
-    requires { CanGo placer (flat_map (λ d. numbers_of (declaration d)) declarations.now) }
+    requires { CanAdvance locator (flat_map (λ d. numbers_of (declaration d)) declarations.now) }
     ensures { IfOk result (λ kept. map kept_declaration kept.items
-        ≡ map (λ d. declaration_at (place_in placer.entry.file) (declaration d)) declarations.now) }
+        ≡ map (λ d. declaration_at (place_in locator.entry.file) (declaration d)) declarations.now) }
 {
     let mut kept = Vec::with_capacity(alloc, declarations.len())?;
     for declared in declarations {
-        kept.push(kept_declaration(alloc, *declared, &mut placer)?)?;
+        kept.push(kept_declaration(alloc, *declared, &mut locator)?)?;
     }
     Ok(kept)
 }

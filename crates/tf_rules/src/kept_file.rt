@@ -9,7 +9,7 @@ ghost use Rattle.tf_rules.specs.Inner.KeptFacts.{kept_facts};
 
 use crate::keeping::{kept_comments, kept_declarations, places};
 use crate::kept::{KeptComment, KeptDeclaration, TokenPlace};
-use crate::placer::Placer;
+use crate::locator::Locator;
 use hcl_syntax::{Accepted, Outline};
 use std::alloc::{AllocError, Global};
 use tf_facts::facts_of;
@@ -37,10 +37,10 @@ pub fn kept_file(
 {
     let tokens = accepted.tokens();
     let found = facts_of(alloc, accepted, items)?;
-    let comments = kept_comments(alloc, &found.comments, Placer::new(number, tokens))?;
-    let indexes = places(alloc, &found.indexes, Placer::new(number, tokens))?;
-    let interpolations = places(alloc, &found.interpolations, Placer::new(number, tokens))?;
-    let declarations = kept_declarations(alloc, &found.declarations, Placer::new(number, tokens))?;
+    let comments = kept_comments(alloc, &found.comments, Locator::new(number, tokens))?;
+    let indexes = places(alloc, &found.indexes, Locator::new(number, tokens))?;
+    let interpolations = places(alloc, &found.interpolations, Locator::new(number, tokens))?;
+    let declarations = kept_declarations(alloc, &found.declarations, Locator::new(number, tokens))?;
     Ok(KeptFile {
         comments,
         indexes,

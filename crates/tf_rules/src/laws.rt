@@ -20,13 +20,13 @@ pub fn kept_of_more()
 {}
 
 /// Of one file more no more entries are kept, of all kinds together, than it has tokens.
-pub fn little_is_kept()
+pub fn stored_entries_bounded()
     ensures { (kept : Kept) (file : File)
         → entries (with_file kept file) ≤ entries kept + length file.source.tokens }
 {}
 
 /// Of one file more, scanned and accepted, the texts that are kept have no more bytes than the file.
-pub fn short_names_are_kept()
+pub fn stored_names_bounded()
     ensures { (kept : Kept) (file : File) → Scans file.source.text file.source.tokens
         → IsAccepted file.source.tokens
         → name_bytes (with_file kept file) ≤ name_bytes kept + length file.source.text }

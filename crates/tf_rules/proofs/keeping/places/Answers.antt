@@ -4,4 +4,4 @@ use Rattle.tf_rules.proofs.KeepingLemmas.{begins_single}
 use Rattle.tf_rules.proofs.keeping.places.Goals as goal
 
 pub loop-number-init : goal.loop-number-init
-loop-number-init c = begins_single place_of (place_in c.args.placer.file) c.args.placer c.args.numbers.now c.in_ok-kept.kept.items c.in_ok-kept.ensures.items c.requires
+loop-number-init c = begins_single place_of (place_in c.args.locator.file) c.args.locator c.args.numbers.now c.in_ok-kept.kept.items c.in_ok-kept.ensures.items c.requires

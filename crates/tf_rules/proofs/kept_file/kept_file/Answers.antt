@@ -5,7 +5,7 @@ use Rattle.tf_rules.specs.Issues.{File, comment_at, place_in}
 use Rattle.tf_rules.specs.Kept.{declaration_at}
 use Rattle.tf_facts.specs.Found.{comment, declaration}
 use Rattle.tf_rules.specs.Inner.KeptViews.{kept_comment, kept_declaration, place_of}
-use Rattle.tf_rules.specs.Inner.Placing.{Placing}
+use Rattle.tf_rules.specs.Inner.Locating.{Locating}
 use Rattle.tf_facts.specs.declared.found.Declared.{Declared}
 use Rattle.tf_facts.specs.declared.found.FoundComment.{FoundComment}
 use Rattle.tf_rules.proofs.KeptFileLemmas.{all_kept, at_start, comments_go, declarations_go, indexes_go, interpolations_go, there}
@@ -14,7 +14,7 @@ use Rattle.tf_rules.proofs.kept_file.kept_file.Goals as goal
 abbrev file_of : ℕ → Scanned → File
 file_of n s = record { number = n; source = s }
 
-started : (n : ℕ) (s t : Scanned) (p : Placing) → s ≡ t → p ≡ at_start (file_of n s) → p ≡ at_start (file_of n t)
+started : (n : ℕ) (s t : Scanned) (p : Locating) → s ≡ t → p ≡ at_start (file_of n s) → p ≡ at_start (file_of n t)
 started n s t p same start = start ∙ ap (λ (u : Scanned). at_start (file_of n u)) same
 
 scanned : (s t : Scanned) → s ≡ t → Scans s.text s.tokens → Scans t.text t.tokens

@@ -7,7 +7,7 @@ use Rattle.tf_facts.specs.Declarations.{Declaration, SourceAt}
 use Rattle.tf_rules.specs.Issues.{File}
 
 -- a file, and the offset of the last token whose place was asked for
-pub record Placing : Type 0 where
+pub record Locating : Type 0 where
   pub file : File
   pub reached : ℕ
 
@@ -21,12 +21,12 @@ abbrev pub reached_after : List Lexeme → ℕ → List ℕ → ℕ
 reached_after tokens reached [] = reached
 reached_after tokens reached (n ∷ ns) = reached_after tokens (start_of tokens n) ns
 
-abbrev pub gone : Placing → List ℕ → Placing
-gone p numbers = record { file = p.file; reached = reached_after p.file.source.tokens p.reached numbers }
+abbrev pub advanced : Locating → List ℕ → Locating
+advanced p numbers = record { file = p.file; reached = reached_after p.file.source.tokens p.reached numbers }
 
 -- the walk can go to these tokens
-abbrev pub CanGo : Placing → List ℕ → Type 0
-CanGo p numbers = Forward p.file.source.tokens p.reached numbers
+abbrev pub CanAdvance : Locating → List ℕ → Type 0
+CanAdvance p numbers = Forward p.file.source.tokens p.reached numbers
 
 -- ---- the tokens that what is found names, in order
 
@@ -40,7 +40,7 @@ numbers_of d = d.at ∷ quotes d.source
 -- ---- a loop over what was found
 
 -- what was kept of the first, with what is still to be kept, is all, and the walk can go on
-pub record IsKeeping {X K V : Type 0} (view : K → V) (whole : X → V) (numbers : X → List ℕ) (file : File) (all : List X) (kept : List K) (n : ℕ) (p : Placing) : Type 0 where
+pub record IsKeeping {X K V : Type 0} (view : K → V) (whole : X → V) (numbers : X → List ℕ) (file : File) (all : List X) (kept : List K) (n : ℕ) (p : Locating) : Type 0 where
   pub so_far : map view kept ++ map whole (drop n all) ≡ map whole all
   pub same : p.file ≡ file
   pub ahead : Forward file.source.tokens p.reached (flat_map numbers (drop n all))

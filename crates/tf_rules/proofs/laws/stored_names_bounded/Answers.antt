@@ -1,5 +1,5 @@
 use Rattle.tf_rules.proofs.NameGrowthLemmas as lemma
-use Rattle.tf_rules.proofs.laws.short_names_are_kept.Goals as goal
+use Rattle.tf_rules.proofs.laws.stored_names_bounded.Goals as goal
 
 pub returns : goal.returns
 returns c = lemma.names_grow

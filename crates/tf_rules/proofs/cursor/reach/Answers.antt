@@ -2,7 +2,7 @@ use Rattle.std.proofs.Common.{◌∙◌, ◌-◌, ap, sym, true, length, take, d
 use Rattle.hcl_source.specs.Simple.{is_simple}
 use Rattle.unicode_segmentation.specs.Grapheme.{graphemes}
 use Rattle.tf_rules.proofs.PlaceLemmas.{column_by}
-use Rattle.tf_rules.proofs.walker.reach.Goals as goal
+use Rattle.tf_rules.proofs.cursor.reach.Goals as goal
 
 pub reach_by_bytes-requires-clause-simple : goal.reach_by_bytes-requires-clause-simple
 reach_by_bytes-requires-clause-simple c =

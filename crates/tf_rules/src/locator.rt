@@ -4,60 +4,60 @@ ghost use Rattle.std.specs.Prelude.{◌≡◌, [], ◌∷◌};
 ghost use Rattle.hcl_tokens.specs.Scans.{Scans};
 ghost use Rattle.tf_rules.specs.Issues.{place_in};
 ghost use Rattle.tf_rules.specs.Inner.KeptViews.{place_of};
-ghost use Rattle.tf_rules.specs.Inner.Placing.{CanGo, gone};
+ghost use Rattle.tf_rules.specs.Inner.Locating.{CanAdvance, advanced};
 
 use crate::kept::TokenPlace;
-use crate::walker::Walker;
+use crate::cursor::PositionCursor;
 use hcl_tokens::Tokens;
 use std::marker::Model;
 
 /// A walk through the tokens of a file.
 #[derive(Drop)]
-pub struct Placer<'t, 's> {
+pub struct Locator<'t, 's> {
     file: u32,
     tokens: &'t Tokens<'s>,
-    walker: Walker<'s>,
+    cursor: PositionCursor<'s>,
 }
 
-impl<'t, 's> Model for Placer<'t, 's> {
+impl<'t, 's> Model for Locator<'t, 's> {
     ghost use Rattle.std.specs.Prelude.{◌≡◌};
-    ghost use Rattle.tf_rules.specs.Inner.Placing.{Placing};
+    ghost use Rattle.tf_rules.specs.Inner.Locating.{Locating};
 
-    ghost Value = { Placing };
+    ghost Value = { Locating };
 
     ghost view = { λ p. record {
       file = record { number = p.file; source = p.tokens.now };
-      reached = p.walker.reached;
+      reached = p.cursor.reached;
     } };
 
-    ghost invariant = { λ p. p.walker.text ≡ p.tokens.now.text };
+    ghost invariant = { λ p. p.cursor.text ≡ p.tokens.now.text };
 }
 
-impl<'t, 's> Placer<'t, 's> {
+impl<'t, 's> Locator<'t, 's> {
     /// At the start of the file of this number.
-    pub fn new(file: u32, tokens: &'t Tokens<'s>) -> Placer<'t, 's>
+    pub fn new(file: u32, tokens: &'t Tokens<'s>) -> Locator<'t, 's>
         ensures start { result ≡ record
             { file = record { number = file; source = tokens.now }; reached = 0 } }
         ensures scanned { Scans tokens.now.text tokens.now.tokens }
     {
         let text = tokens.source().text();
-        Placer {
+        Locator {
             file,
             tokens,
-            walker: Walker::new(text),
+            cursor: PositionCursor::new(text),
         }
     }
 
     /// The place of the token of this number, where none after it was asked for.
     pub fn place(&mut self, number: usize) -> TokenPlace
-        requires { CanGo self.old (number ∷ []) }
+        requires { CanAdvance self.old (number ∷ []) }
         ensures place { place_of result ≡ place_in self.old.file number }
-        ensures moved { self.new ≡ gone self.old (number ∷ []) }
+        ensures moved { self.new ≡ advanced self.old (number ∷ []) }
     {
         TokenPlace {
             file: self.file,
             token: number,
-            at: self.walker.position_of(self.tokens, number),
+            at: self.cursor.position_of(self.tokens, number),
         }
     }
 }
