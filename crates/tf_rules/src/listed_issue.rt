@@ -1,6 +1,6 @@
 //! An issue, as a list of issues gives it.
 
-use crate::pieces::Pieces;
+use crate::message_parts::MessageParts;
 use hcl_tokens::Position;
 use rule_set::Rule;
 
@@ -10,5 +10,5 @@ pub struct ListedIssue<'f> {
     pub file: u32,
     pub at: Position,
     pub rule: Rule,
-    pub message: Pieces<'f>,
+    pub message: MessageParts<'f>,
 }

@@ -3,9 +3,9 @@
 ghost use Rattle.std.specs.Prelude.{◌≡◌, ◌++◌, map, IfOk};
 ghost use Rattle.std.specs.List.{concat};
 ghost use Rattle.std.specs.String.{string_bytes};
-ghost use Rattle.tf_rules.specs.Answers.{text_of_pieces};
+ghost use Rattle.tf_rules.specs.Answers.{text_of_parts};
 
-use crate::pieces::Pieces;
+use crate::message_parts::MessageParts;
 use std::alloc::{AllocError, Global};
 
 /// How many bytes the texts have together.
@@ -57,13 +57,13 @@ fn join_five<'p>(
 }
 
 /// The text of these pieces.
-pub fn message_text(alloc: Global, pieces: Pieces<'_>) -> Result<String, AllocError>
-    ensures { IfOk result (λ text. string_bytes text ≡ text_of_pieces pieces.entry) }
+pub fn message_text(alloc: Global, message_parts: MessageParts<'_>) -> Result<String, AllocError>
+    ensures { IfOk result (λ text. string_bytes text ≡ text_of_parts message_parts.entry) }
 {
-    match pieces {
-        Pieces::Whole(text) => String::from_str(alloc, text),
-        Pieces::Named(front, name, rest) => join_three(alloc, front, name, rest),
-        Pieces::NamedTwice(front, name, between, other, rest) => {
+    match message_parts {
+        MessageParts::Whole(text) => String::from_str(alloc, text),
+        MessageParts::Named(front, name, rest) => join_three(alloc, front, name, rest),
+        MessageParts::NamedTwice(front, name, between, other, rest) => {
             join_five(alloc, front, name, between, other, rest)
         }
     }

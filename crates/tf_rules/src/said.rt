@@ -2,7 +2,7 @@
 
 ghost use Rattle.std.specs.Prelude.{◌≡◌, ◌++◌, codes};
 ghost use Rattle.tf_facts.specs.References.{last_of};
-ghost use Rattle.tf_rules.specs.Answers.{text_of_pieces};
+ghost use Rattle.tf_rules.specs.Answers.{text_of_parts};
 ghost use Rattle.tf_rules.specs.Findings.{about, both_quoted, kind_text, quoting};
 ghost use Rattle.tf_rules.specs.Naming.{naming_text};
 ghost use Rattle.tf_rules.specs.Inner.Entries.{opened, text_of};
@@ -11,7 +11,7 @@ ghost use Rattle.tf_rules.specs.Inner.KeptViews.{kept_declaration, kept_names};
 use crate::entry::Said;
 use crate::kept::{KeptDeclaration, KeptNames};
 use crate::naming::Naming;
-use crate::pieces::Pieces;
+use crate::message_parts::MessageParts;
 use tf_facts::DeclarationKind;
 
 /// The word for what is declared.
@@ -79,30 +79,30 @@ pub fn last(names: &KeptNames) -> &str
 }
 
 /// `KIND "NAME` of a declaration, and what follows from the closing quote on.
-fn about<'f>(declaration: &'f KeptDeclaration, rest: &'static str) -> Pieces<'f>
-    ensures { text_of_pieces result
+fn about<'f>(declaration: &'f KeptDeclaration, rest: &'static str) -> MessageParts<'f>
+    ensures { text_of_parts result
         ≡ kind_text declaration.now.kind
         ++ opened (last_of (kept_names declaration.now.names)) rest.now }
 {
     let front = before_name(declaration.kind);
     let name = last(&declaration.names);
-    Pieces::Named(front, name, rest)
+    MessageParts::Named(front, name, rest)
 }
 
 /// That the source of a module uses a default branch.
-fn about_branch<'f>(declaration: &'f KeptDeclaration, branch: &'static str) -> Pieces<'f>
-    ensures { text_of_pieces result
+fn about_branch<'f>(declaration: &'f KeptDeclaration, branch: &'static str) -> MessageParts<'f>
+    ensures { text_of_parts result
         ≡ about (kept_declaration declaration.now)
         (codes " source uses a default branch: " ++ branch.now) }
 {
     let front = before_name(declaration.kind);
     let name = last(&declaration.names);
-    Pieces::NamedTwice(front, name, "\" source uses a default branch: ", branch, "")
+    MessageParts::NamedTwice(front, name, "\" source uses a default branch: ", branch, "")
 }
 
 /// That a name must have a naming.
-fn about_naming<'f>(declaration: &'f KeptDeclaration, naming: Naming) -> Pieces<'f>
-    ensures { text_of_pieces result
+fn about_naming<'f>(declaration: &'f KeptDeclaration, naming: Naming) -> MessageParts<'f>
+    ensures { text_of_parts result
         ≡ kind_text declaration.now.kind
         ++ (codes " name" ++ quoting (last_of (kept_names declaration.now.names))
         (codes " must match " ++ naming_text naming)) }
@@ -110,39 +110,39 @@ fn about_naming<'f>(declaration: &'f KeptDeclaration, naming: Naming) -> Pieces<
     let front = before_misnamed(declaration.kind);
     let name = last(&declaration.names);
     let rest = after_misnamed(naming);
-    Pieces::Named(front, name, rest)
+    MessageParts::Named(front, name, rest)
 }
 
 /// That nothing refers to what has this name.
-fn unused_by_name<'f>(kind: DeclarationKind, name: &'f str) -> Pieces<'f>
-    ensures { text_of_pieces result
+fn unused_by_name<'f>(kind: DeclarationKind, name: &'f str) -> MessageParts<'f>
+    ensures { text_of_parts result
         ≡ kind_text kind ++ quoting name.now (codes " is declared but not used") }
 {
     let front = before_name(kind);
-    Pieces::Named(front, name, "\" is declared but not used")
+    MessageParts::Named(front, name, "\" is declared but not used")
 }
 
 /// That nothing refers to what has these two labels.
-fn unused_by_both<'f>(kind: DeclarationKind, first: &'f str, second: &'f str) -> Pieces<'f>
-    ensures { text_of_pieces result
+fn unused_by_both<'f>(kind: DeclarationKind, first: &'f str, second: &'f str) -> MessageParts<'f>
+    ensures { text_of_parts result
         ≡ kind_text kind ++ quoting first.now
         (quoting second.now (codes " is declared but not used")) }
 {
     let front = before_name(kind);
-    Pieces::NamedTwice(front, first, "\" \"", second, "\" is declared but not used")
+    MessageParts::NamedTwice(front, first, "\" \"", second, "\" is declared but not used")
 }
 
 /// That nothing refers to what has no name.
-fn unused_by_none(kind: DeclarationKind) -> Pieces<'static>
-    ensures { text_of_pieces result ≡ kind_text kind ++ codes " is declared but not used" }
+fn unused_by_none(kind: DeclarationKind) -> MessageParts<'static>
+    ensures { text_of_parts result ≡ kind_text kind ++ codes " is declared but not used" }
 {
     let front = kind_text(kind);
-    Pieces::Named(front, "", " is declared but not used")
+    MessageParts::Named(front, "", " is declared but not used")
 }
 
 /// That nothing refers to a declaration.
-fn about_unused<'f>(declaration: &'f KeptDeclaration) -> Pieces<'f>
-    ensures { text_of_pieces result
+fn about_unused<'f>(declaration: &'f KeptDeclaration) -> MessageParts<'f>
+    ensures { text_of_parts result
         ≡ kind_text declaration.now.kind
         ++ both_quoted (kept_names declaration.now.names) (codes " is declared but not used") }
 {
@@ -157,11 +157,11 @@ fn about_unused<'f>(declaration: &'f KeptDeclaration) -> Pieces<'f>
 
 /// What is said, piece by piece. Whoever asks for it matches on the pieces at once, so they aren't put together.
 #[inline(always)]
-pub fn pieces<'f>(said: Said<'f>) -> Pieces<'f>
-    ensures { text_of_pieces result ≡ text_of said.entry }
+pub fn message_parts<'f>(said: Said<'f>) -> MessageParts<'f>
+    ensures { text_of_parts result ≡ text_of said.entry }
 {
     match said {
-        Said::Fixed(text) => Pieces::Whole(text),
+        Said::Fixed(text) => MessageParts::Whole(text),
         Said::About(declaration, rest) => about(declaration, rest),
         Said::DefaultBranch(declaration, branch) => about_branch(declaration, branch),
         Said::Misnamed(declaration, naming) => about_naming(declaration, naming),

@@ -111,16 +111,16 @@ text_written before now after first page text true f is none g t = absurd (cc)
 
 -- ---- a message in pieces
 
-pub named_tail : (front name rest closing : List ℕ) → front ++ (name ++ (rest ++ (closing ++ []))) ≡ (front ++ (name ++ rest)) ++ closing
-named_tail front name rest closing =
-    ap (λ l. front ++ (name ++ (rest ++ l))) (append-nil closing) ∙ ap (λ l. front ++ l) (sym (append_assoc name rest closing)) ∙ sym (append_assoc front (name ++ rest) closing)
+pub named_tail : (front name rest after_message : List ℕ) → front ++ (name ++ (rest ++ (after_message ++ []))) ≡ (front ++ (name ++ rest)) ++ after_message
+named_tail front name rest after_message =
+    ap (λ l. front ++ (name ++ (rest ++ l))) (append-nil after_message) ∙ ap (λ l. front ++ l) (sym (append_assoc name rest after_message)) ∙ sym (append_assoc front (name ++ rest) after_message)
 
-pub twice_tail : (front name between other rest closing : List ℕ) → front ++ (name ++ (between ++ (other ++ (rest ++ (closing ++ []))))) ≡ (front ++ (name ++ (between ++ (other ++ rest)))) ++ closing
-twice_tail front name between other rest closing =
-    ap (λ l. front ++ (name ++ l)) (named_tail between other rest closing)
-    ∙ ap (λ l. front ++ l) (sym (append_assoc name (between ++ (other ++ rest)) closing))
-    ∙ sym (append_assoc front (name ++ (between ++ (other ++ rest))) closing)
+pub twice_tail : (front name between other rest after_message : List ℕ) → front ++ (name ++ (between ++ (other ++ (rest ++ (after_message ++ []))))) ≡ (front ++ (name ++ (between ++ (other ++ rest)))) ++ after_message
+twice_tail front name between other rest after_message =
+    ap (λ l. front ++ (name ++ l)) (named_tail between other rest after_message)
+    ∙ ap (λ l. front ++ l) (sym (append_assoc name (between ++ (other ++ rest)) after_message))
+    ∙ sym (append_assoc front (name ++ (between ++ (other ++ rest))) after_message)
 
 -- the text before the message on its line
-pub in_frame : (name place opening tail other : List ℕ) → tail ≡ other → name ++ (place ++ (opening ++ tail)) ≡ name ++ (place ++ (opening ++ other))
-in_frame name place opening tail other same = ap (λ l. name ++ (place ++ (opening ++ l))) same
+pub in_frame : (name place before_message tail other : List ℕ) → tail ≡ other → name ++ (place ++ (before_message ++ tail)) ≡ name ++ (place ++ (before_message ++ other))
+in_frame name place before_message tail other same = ap (λ l. name ++ (place ++ (before_message ++ l))) same

@@ -2,5 +2,5 @@
 pub mod Named
 pub mod Outcomes
 pub mod Pages
-pub mod Pieces
+pub mod MessageParts
 pub mod Steps

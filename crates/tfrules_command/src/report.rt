@@ -5,16 +5,16 @@ ghost use Rattle.std.specs.List.{concat, flat_map, list_any};
 ghost use Rattle.std.specs.Io.KnownBytes.{Appends};
 ghost use Rattle.hcl_source.specs.Devices.{one_more};
 ghost use Rattle.command_line.specs.Rows.{Took, writer};
-ghost use Rattle.tf_rules.specs.Answers.{listed_issue, text_of_pieces};
+ghost use Rattle.tf_rules.specs.Answers.{listed_issue, text_of_parts};
 ghost use Rattle.tfrules_command.specs.Report.{issue_count, issue_line, report, weighs, weight};
 ghost use Rattle.tfrules_command.specs.Inner.Pages.{GoesOut, Holds};
-ghost use Rattle.tfrules_command.specs.Inner.Pieces.{closing_words, framed, lines_of_report, opening_words, place_words};
+ghost use Rattle.tfrules_command.specs.Inner.MessageParts.{closing_words, with_line_parts, lines_of_report, opening_words, place_words};
 
 use crate::shown_names::ShownNames;
 use arrayvec::ArrayVec;
 use hcl_scan::{ByteSink, Position, WriteFault, write_fully};
 use itoa::{Buffer, write_digits};
-use tf_rules::{IssueList, ListedIssue, Pieces, Rule, Severity};
+use tf_rules::{IssueList, ListedIssue, MessageParts, Rule, Severity};
 
 /// How many bytes wait at most before they are written. From 2,048 bytes on the C library clears a page by a string
 /// instruction, which counts once for each byte.
@@ -29,11 +29,11 @@ const PLACE: usize = 22;
 /// The text around the message on the line of an issue: the name of its file, its place, and the texts before and after
 /// the message.
 #[derive(Clone, Copy)]
-struct Frame<'p> {
+struct LineParts<'p> {
     name: &'p [u8],
     place: &'p [u8],
-    opening: &'p str,
-    closing: &'p str,
+    before_message: &'p str,
+    after_message: &'p str,
 }
 
 /// The weight of a severity.
@@ -67,7 +67,7 @@ pub fn has_severe(minimum: Severity, issues: &IssueList<'_>) -> bool
 }
 
 /// The text between the place of an issue and its message.
-fn opening(severity: Severity) -> &'static str
+fn before_message(severity: Severity) -> &'static str
     ensures { result.now ≡ opening_words severity }
 {
     match severity {
@@ -78,7 +78,7 @@ fn opening(severity: Severity) -> &'static str
 }
 
 /// The text after the message of an issue, to the end of the line.
-fn closing(rule: Rule) -> &'static str
+fn after_message(rule: Rule) -> &'static str
     ensures { result.now ≡ closing_words rule }
 {
     match rule {
@@ -184,60 +184,60 @@ fn write_pieces<O: ByteSink>(
 fn write_line<'p, O: ByteSink>(
     out: &mut O,
     page: &mut Page,
-    frame: Frame<'p>,
-    message: Pieces<'p>,
+    frame: LineParts<'p>,
+    message: MessageParts<'p>,
 ) -> Result<(), WriteFault>
     requires { O.failed out.old ≡ false }
     ensures goes { GoesOut (O.failed out.new) (O.taken out.old)
         (O.taken out.new) page.old.items page.new.items
-        (framed frame.entry (text_of_pieces message.entry)) }
+        (with_line_parts frame.entry (text_of_parts message.entry)) }
     ensures failed { O.failed out.new ≡ is_err result }
     ensures flushes { O.flushes out.new ≡ O.flushes out.old }
 {
-    let Frame {
+    let LineParts {
         name,
         place,
-        opening,
-        closing,
+        before_message,
+        after_message,
     } = frame;
     match message {
-        Pieces::Whole(text) => write_pieces(
+        MessageParts::Whole(text) => write_pieces(
             out,
             page,
             &[
                 name,
                 place,
-                opening.as_bytes(),
+                before_message.as_bytes(),
                 text.as_bytes(),
-                closing.as_bytes(),
+                after_message.as_bytes(),
             ],
         ),
-        Pieces::Named(front, named, rest) => write_pieces(
+        MessageParts::Named(front, named, rest) => write_pieces(
             out,
             page,
             &[
                 name,
                 place,
-                opening.as_bytes(),
+                before_message.as_bytes(),
                 front.as_bytes(),
                 named.as_bytes(),
                 rest.as_bytes(),
-                closing.as_bytes(),
+                after_message.as_bytes(),
             ],
         ),
-        Pieces::NamedTwice(front, named, between, other, rest) => write_pieces(
+        MessageParts::NamedTwice(front, named, between, other, rest) => write_pieces(
             out,
             page,
             &[
                 name,
                 place,
-                opening.as_bytes(),
+                before_message.as_bytes(),
                 front.as_bytes(),
                 named.as_bytes(),
                 between.as_bytes(),
                 other.as_bytes(),
                 rest.as_bytes(),
-                closing.as_bytes(),
+                after_message.as_bytes(),
             ],
         ),
     }
@@ -261,13 +261,13 @@ fn write_issue<O: ByteSink, N: ShownNames>(
     let mut room = [0; PLACE];
     let begin = write_place(issue.at, &mut room);
     let (_, place) = room.split_at(begin);
-    let opening = opening(issue.rule.severity());
-    let closing = closing(issue.rule);
-    let frame = Frame {
+    let before_message = before_message(issue.rule.severity());
+    let after_message = after_message(issue.rule);
+    let frame = LineParts {
         name,
         place,
-        opening,
-        closing,
+        before_message,
+        after_message,
     };
     write_line(out, page, frame, issue.message)
 }

@@ -2,4 +2,4 @@ use Rattle.tf_rules.proofs.SaidLemmas.{listed_is}
 use Rattle.tf_rules.proofs.issue_list.listed_issue_of.Goals as goal
 
 pub returns : goal.returns
-returns c = listed_is c.args.entry c.pieces.result c.pieces.ensures
+returns c = listed_is c.args.entry c.message_parts.result c.message_parts.ensures

@@ -8,7 +8,7 @@ use Rattle.rule_set.specs.declared.rule.Rule.{Rule}
 use Rattle.rule_set.specs.declared.rule.Severity.{Severity}
 use Rattle.tf_rules.specs.declared.issue.Issue.{Issue}
 use Rattle.tfrules_command.specs.Report.{issue_count, issue_line}
-use Rattle.tfrules_command.specs.declared.report.Frame.{Frame}
+use Rattle.tfrules_command.specs.declared.report.LineParts.{LineParts}
 
 -- `: Severity - `
 abbrev pub opening_words : Severity → List ℕ
@@ -23,8 +23,8 @@ abbrev pub place_words : Position → List ℕ
 place_words at = codes ":" ++ (decimal at.line ++ (codes ":" ++ decimal at.column))
 
 -- the line of a message in a frame
-abbrev pub framed : Frame → List ℕ → List ℕ
-framed f message = f.name.now ++ (f.place.now ++ (f.opening.now ++ (message ++ f.closing.now)))
+abbrev pub with_line_parts : LineParts → List ℕ → List ℕ
+with_line_parts f message = f.name.now ++ (f.place.now ++ (f.before_message.now ++ (message ++ f.after_message.now)))
 
 abbrev pub lines_of_report : List (List ℕ) → List Issue → List ℕ
 lines_of_report names issues = issue_count (length issues) ++ flat_map (issue_line names) issues

@@ -3,7 +3,7 @@
 /// The pieces of a message, one after another. Each stands where it was kept, so that whoever writes the message puts no
 /// text together.
 #[derive(Clone, Copy)]
-pub enum Pieces<'f> {
+pub enum MessageParts<'f> {
     /// A text of the rule's own.
     Whole(&'f str),
     /// What stands before a name, the name, and what follows.
