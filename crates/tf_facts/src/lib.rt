@@ -16,7 +16,6 @@ mod hashing;
 pub mod laws;
 mod module_source;
 mod names;
-mod variable_block;
 mod owners;
 mod part;
 mod pattern;
@@ -29,6 +28,7 @@ mod source;
 mod text_set;
 mod texts;
 mod value;
+mod variable_block;
 
 pub use comment::is_any;
 pub use declaration_kind::DeclarationKind;

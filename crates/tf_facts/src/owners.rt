@@ -13,9 +13,9 @@ ghost use Rattle.tf_facts.specs.Inner.Labelled.{AreNames};
 
 use crate::block::{names, word_at};
 use crate::names::Names;
-use crate::variable_block::VariableBlock;
 use crate::references::add_references;
 use crate::text_set::TextSet;
+use crate::variable_block::VariableBlock;
 use hcl_grammar::{Accepted, Item, Outline};
 use std::alloc::{AllocError, Global};
 

@@ -10,10 +10,10 @@ ghost use Rattle.tf_facts.specs.Inner.Seen.{AreNoIdents, IsIdentAt, seen_from, n
 ghost use Rattle.tf_facts.specs.Inner.Spelled.{spelled};
 ghost use Rattle.tf_facts.specs.VariableBlocks.{block_view, Apart, ArePassed, Extends, IsAhead};
 
-use crate::variable_block::VariableBlock;
 use crate::reference::{Reference, is_ident, may_be_named, reference_at};
 use crate::seen::{Seen, is_after_dot};
 use crate::text_set::TextSet;
+use crate::variable_block::VariableBlock;
 use hcl_tokens::Tokens;
 use std::alloc::{AllocError, Global};
 
@@ -79,12 +79,18 @@ fn passed(blocks: &[VariableBlock<'_>], from: usize, number: usize) -> usize
 
 /// Whether a reference at a token stands in the block of the variable that it names. Blocks before `next` end at or
 /// before the token, and the blocks follow one another, so no other block is asked.
-fn is_self_reference(blocks: &[VariableBlock<'_>], next: usize, number: usize, reference: Reference<'_>) -> bool
+fn is_self_reference(
+    blocks: &[VariableBlock<'_>],
+    next: usize,
+    number: usize,
+    reference: Reference<'_>,
+) -> bool
     requires apart { Apart 0 (map block_view blocks.now) }
     requires passed { ArePassed (map block_view blocks.now) next number }
     requires within { next ≤ length blocks.now }
     requires ahead { IsAhead blocks.now next number }
-    ensures { result ≡ is_self_reference (map block_view blocks.now) number (spelled reference.entry) }
+    ensures { result ≡ is_self_reference (map block_view blocks.now) number
+        (spelled reference.entry) }
 {
     let Reference::Variable(name) = reference else {
         return false;

@@ -82,7 +82,8 @@ fn kept_source(source: Option<FoundSource>, locator: &mut Locator<'_, '_>) -> Op
     requires { CanAdvance locator.old (quotes (option_map found.found_source source)) }
     ensures kept { option_map kept_source result
         ≡ source_at (place_in locator.old.file) (option_map found.found_source source) }
-    ensures moved { locator.new ≡ advanced locator.old (quotes (option_map found.found_source source)) }
+    ensures moved { locator.new
+        ≡ advanced locator.old (quotes (option_map found.found_source source)) }
 {
     let Some(source) = source else {
         return None;
@@ -126,7 +127,8 @@ pub fn kept_declarations(
 ) -> Result<Vec<KeptDeclaration>, AllocError>
     requires { CanAdvance locator (flat_map (λ d. numbers_of (declaration d)) declarations.now) }
     ensures { IfOk result (λ kept. map kept_declaration kept.items
-        ≡ map (λ d. declaration_at (place_in locator.entry.file) (declaration d)) declarations.now) }
+        ≡ map (λ d. declaration_at (place_in locator.entry.file) (declaration d))
+        declarations.now) }
 {
     let mut kept = Vec::with_capacity(alloc, declarations.len())?;
     for declared in declarations {

@@ -4,6 +4,7 @@
 //! report is defined in `specs`, with laws in the module [`laws`]. The rules and their sets are re-exported.
 #![tactic(auto)]
 
+mod cursor;
 mod entry;
 mod facts;
 mod finding;
@@ -16,25 +17,24 @@ mod kept_file;
 mod kept_name;
 pub mod laws;
 mod listed_issue;
+mod locator;
+mod message_parts;
 mod message_text;
 mod naming;
 mod order;
 mod owned;
-mod message_parts;
-mod locator;
 mod said;
 mod settings;
 mod silenced;
-mod cursor;
 
+pub use cursor::PositionCursor;
 pub use facts::Facts;
 pub use issue::{Issue, Message};
 pub use issue_list::IssueList;
 pub use listed_issue::ListedIssue;
+pub use message_parts::MessageParts;
 pub use naming::Naming;
 pub use owned::owned_issues;
-pub use message_parts::MessageParts;
 pub use rule_set::{Rule, RuleSet, Severity};
 pub use settings::Settings;
 pub use tf_facts::Hashing;
-pub use cursor::PositionCursor;

@@ -6,8 +6,8 @@ ghost use Rattle.tf_rules.specs.Issues.{place_in};
 ghost use Rattle.tf_rules.specs.Inner.KeptViews.{place_of};
 ghost use Rattle.tf_rules.specs.Inner.Locating.{CanAdvance, advanced};
 
-use crate::kept::TokenPlace;
 use crate::cursor::PositionCursor;
+use crate::kept::TokenPlace;
 use hcl_tokens::Tokens;
 use std::marker::Model;
 

@@ -10,8 +10,8 @@ ghost use Rattle.tf_rules.specs.Inner.KeptViews.{kept_declaration, kept_names};
 
 use crate::entry::Said;
 use crate::kept::{KeptDeclaration, KeptNames};
-use crate::naming::Naming;
 use crate::message_parts::MessageParts;
+use crate::naming::Naming;
 use tf_facts::DeclarationKind;
 
 /// The word for what is declared.

@@ -11,7 +11,7 @@ use Rattle.hcl_grammar.proofs.NumberedLemmas.{drop_at}
 use Rattle.rule_set.specs.Rules.{severity, severity_text}
 use Rattle.tf_rules.specs.declared.issue.Issue.{Issue}
 use Rattle.tfrules_command.specs.Report.{issue_line, report}
-use Rattle.tfrules_command.specs.Inner.MessageParts.{closing_words, lines_of_report, opening_words, place_words}
+use Rattle.tfrules_command.specs.Inner.Parts.{closing_words, lines_of_report, opening_words, place_words}
 
 -- another piece waits
 pub piece_more : (xs : List (Bor (List ℕ))) (i : ℕ) (d : Bor (List ℕ)) (text base old new : List ℕ) → i < length xs → text ≡ (get_or xs i d).now → new ≡ old ++ text → old ≡ base ++ concat (map (λ piece. piece.now) (take i xs))

@@ -2,5 +2,5 @@
 pub mod Named
 pub mod Outcomes
 pub mod Pages
-pub mod MessageParts
+pub mod Parts
 pub mod Steps

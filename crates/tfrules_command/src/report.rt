@@ -8,7 +8,7 @@ ghost use Rattle.command_line.specs.Rows.{Took, writer};
 ghost use Rattle.tf_rules.specs.Answers.{listed_issue, text_of_parts};
 ghost use Rattle.tfrules_command.specs.Report.{issue_count, issue_line, report, weighs, weight};
 ghost use Rattle.tfrules_command.specs.Inner.Pages.{GoesOut, Holds};
-ghost use Rattle.tfrules_command.specs.Inner.MessageParts.{closing_words, with_line_parts, lines_of_report, opening_words, place_words};
+ghost use Rattle.tfrules_command.specs.Inner.Parts.{closing_words, with_line_parts, lines_of_report, opening_words, place_words};
 
 use crate::shown_names::ShownNames;
 use arrayvec::ArrayVec;
