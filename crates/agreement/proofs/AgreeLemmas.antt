@@ -30,7 +30,7 @@ use Rattle.tf_rules.proofs.ReportLemmas.{reports_agree}
 use Rattle.tf_rules.specs.declared.issue.Issue.{Issue}
 use Rattle.tf_rules.specs.Answers.{shown_issue}
 use Rattle.tfrules_command.specs.Answer.{IsReported}
-use Rattle.tfrules_command.specs.Line.{Asking}
+use Rattle.tfrules_command.specs.Line.{Request}
 use Rattle.tfrules_command.proofs.StatusLemmas.{same_status as status_again}
 use Rattle.command_line.specs.Rows.{Row}
 use Rattle.tfrules_command.specs.Files.{NamedFile, AreAccepted, IsAcceptedAs, max_module, numbered_files, size_of}
@@ -135,11 +135,11 @@ accepted_again files formatted sources are z small fit =
     let p = prints_accepted files formatted sources are.each z small in
     (p.0, record { each = p.1; fit = fit })
 
-pub agree : (asking : Asking) (files formatted : List NamedFile) (row other : Row) → AllZip IsFormatted files formatted → (first : IsReported asking files row) → (again : IsReported asking formatted other)
+pub agree : (request : Request) (files formatted : List NamedFile) (row other : Row) → AllZip IsFormatted files formatted → (first : IsReported request files row) → (again : IsReported request formatted other)
     → without_columns first.issues ≡ without_columns again.issues
-agree asking files formatted row other z first again =
+agree request files formatted row other z first again =
     let e : rules.told_all first.found.report ≡ rules.told_all again.found.report =
-    reports_again asking.asked files formatted first.sources again.sources first.found.report again.found.report z first.accepted.each again.accepted.each first.found.is again.found.is in
+    reports_again request.asked files formatted first.sources again.sources first.found.report again.found.report z first.accepted.each again.accepted.each first.found.is again.found.is in
     ap without_columns (sym first.found.same) ∙ without_tokens first.found.report ∙ ap (map without_token) e ∙ sym (without_tokens again.found.report) ∙ ap without_columns again.found.same
 
 -- the status depends on the rules of the issues
@@ -147,7 +147,7 @@ rules_of : (issues : List Issue) → map (λ i. i.rule) issues ≡ map (λ w. w.
 rules_of [] = refl
 rules_of (i ∷ is) = ap (λ l. i.rule ∷ l) (rules_of is)
 
-pub same_status : (asking : Asking) (files formatted : List NamedFile) (row other : Row) → AllZip IsFormatted files formatted → IsReported asking files row → IsReported asking formatted other → row.status ≡ other.status
-same_status asking files formatted row other z first again =
-    let same = ap (map (λ (w : WithoutColumn). w.rule)) (agree asking files formatted row other z first again) in
-    ap (λ (r : Row). r.status) first.is ∙ status_again asking first.issues again.issues (rules_of first.issues ∙ same ∙ sym (rules_of again.issues)) ∙ sym (ap (λ (r : Row). r.status) again.is)
+pub same_status : (request : Request) (files formatted : List NamedFile) (row other : Row) → AllZip IsFormatted files formatted → IsReported request files row → IsReported request formatted other → row.status ≡ other.status
+same_status request files formatted row other z first again =
+    let same = ap (map (λ (w : WithoutColumn). w.rule)) (agree request files formatted row other z first again) in
+    ap (λ (r : Row). r.status) first.is ∙ status_again request first.issues again.issues (rules_of first.issues ∙ same ∙ sym (rules_of again.issues)) ∙ sym (ap (λ (r : Row). r.status) again.is)

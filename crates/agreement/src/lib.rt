@@ -13,7 +13,7 @@ ghost use Rattle.tf_rules.specs.Agreement.{told_all};
 ghost use Rattle.tf_rules.specs.Issues as issues;
 ghost use Rattle.tfrules_command.specs.Answer.{IsReported};
 ghost use Rattle.tfrules_command.specs.Files.{NamedFile, AreAccepted, IsAcceptedAs, max_module, numbered_files, size_of};
-ghost use Rattle.tfrules_command.specs.Line.{Asking};
+ghost use Rattle.tfrules_command.specs.Line.{Request};
 ghost use Rattle.agreement.specs.Formatted.{IsFormatted, without_columns};
 
 /// If all files of a module are accepted, whatever its size, so are the formatted files, unless one of them is too
@@ -40,12 +40,12 @@ pub fn agree()
         → AreAccepted files sources → AllZip IsFormatted files formatted
         → All (λ f. length f.bytes ≤ max_source) formatted → size_of formatted ≤ max_module
         → (others : List Scanned) × AreAccepted formatted others }
-    ensures issues { (asking : Asking) (files formatted : List NamedFile) (row other : Row)
+    ensures issues { (request : Request) (files formatted : List NamedFile) (row other : Row)
         → AllZip IsFormatted files formatted
-        → (first : IsReported asking files row) → (again : IsReported asking formatted other)
+        → (first : IsReported request files row) → (again : IsReported request formatted other)
         → without_columns first.issues ≡ without_columns again.issues }
-    ensures status { (asking : Asking) (files formatted : List NamedFile) (row other : Row)
+    ensures status { (request : Request) (files formatted : List NamedFile) (row other : Row)
         → AllZip IsFormatted files formatted
-        → IsReported asking files row → IsReported asking formatted other
+        → IsReported request files row → IsReported request formatted other
         → row.status ≡ other.status }
 {}

@@ -17,7 +17,7 @@ use Rattle.hcl_grammar.specs.declared.refusal.Refusal.TheVariants.{UnexpectedTok
 use Rattle.hcl_grammar.specs.Classes.{drops}
 use Rattle.hcl_grammar.specs.Grammar.{Symbol, ends, the, file, rest, labels, label_literal, start, body, eol, expr, after_ident, path, after, step, index, tuple, tuple_next, tuple_item, tuple_if, names, object, separator, object_next, object_item, group, object_if, args, arg_next, parts, directive, inside, section_directive, Marked, ◌at◌, Action, none, nothing, reads, opens, closes, ◌then◌, row, shared_row, row_of, fits}
 use Rattle.hcl_grammar.specs.Predictor.{max_directives, on, stop, effect, row_effect, ending}
-use Rattle.hcl_grammar.proofs.OwedLemmas.{owes, owes_all, HaveNumbers, RowMoves}
+use Rattle.hcl_grammar.proofs.OwedLemmas.{must_be_closed, owes_all, HaveNumbers, RowMoves}
 use Rattle.hcl_grammar.proofs.RowLemmas.{moves-row}
 
 abbrev pub owing : List Opener → Bool
@@ -27,7 +27,7 @@ owing (o ∷ os) = true
 -- a closer is still to come from these, or from those below them
 abbrev pub owed : Bool → List Marked → Bool
 owed e [] = e
-owed e (s at m ∷ ss) = owing (owes s) || owed e ss
+owed e (s at m ∷ ss) = owing (must_be_closed s) || owed e ss
 
 abbrev pub Gate : Newlines → Bool → Type 0
 Gate Seen e = Unit {0}
@@ -46,7 +46,7 @@ IsInner parts m e = e ≡ true
 IsInner (directive n) m e = e ≡ true
 IsInner (inside s) m e = e ≡ true
 IsInner (section_directive s n) m e = e ≡ true
-IsInner s m e = Gate m (owing (owes s) || e)
+IsInner s m e = Gate m (owing (must_be_closed s) || e)
 
 abbrev pub AreInner : Bool → List Marked → Type 0
 AreInner e [] = Unit {0}
@@ -65,7 +65,7 @@ open_gate Dropped = refl
 
 owed_both : (e : Bool) (xs ys : List Marked) → owed e (xs ++ ys) ≡ owed (owed e ys) xs
 owed_both e [] ys = refl
-owed_both e (s at m ∷ xs) ys = ap (λ b. owing (owes s) || b) (owed_both e xs ys)
+owed_both e (s at m ∷ xs) ys = ap (λ b. owing (must_be_closed s) || b) (owed_both e xs ys)
 
 pub inner_both : (e : Bool) (xs ys : List Marked) → AreInner (owed e ys) xs → AreInner e ys → AreInner e (xs ++ ys)
 inner_both e [] ys h k = k
@@ -187,7 +187,7 @@ put : (count : ℕ) (ys xs ds : List Marked) (t : Lookahead) (later : ℕ) (us :
     → (more : List Marked) × (us ≡ more ++ ds) × AreInner false more
 put count ys xs ds t later us now h k e = (ys ++ xs, landed now later (ys ++ (xs ++ ds)) us e ∙ sym (append_assoc ys xs ds), inner_both false ys xs h k)
 
-pass_row : (count : ℕ) (s : Symbol) (m : Newlines) (xs ds : List Marked) (t : Lookahead) (later : ℕ) (us : List Marked) (r : Action) → r ≡ row s m t → ([] ≡ owes s ⊎ (r ≡ nothing → ⊥)) → RowInner (owed false xs) r → AreInner false xs
+pass_row : (count : ℕ) (s : Symbol) (m : Newlines) (xs ds : List Marked) (t : Lookahead) (later : ℕ) (us : List Marked) (r : Action) → r ≡ row s m t → ([] ≡ must_be_closed s ⊎ (r ≡ nothing → ⊥)) → RowInner (owed false xs) r → AreInner false xs
     → (effect count (xs ++ ds) t ≡ on later us → Passes count xs ds t later us) → row_effect count r (xs ++ ds) (effect count (xs ++ ds) t) t ≡ on later us → Passes count (s at m ∷ xs) ds t later us
 pass_row count s m xs ds t later us none is flat h k more e = absurd (stopped (UnexpectedToken t.number) later us e)
 pass_row count s m xs ds t later us nothing is (inr goes) h k more e = absurd (goes refl)
@@ -204,10 +204,10 @@ pass_row count s m xs ds t later us (opens n ys) is flat h k more e = by (nat_lt
     by false e = absurd (stopped (TooDeep n) later us e)
 pass_row count s m xs ds t later us (closes ys) is flat h k more e = inl (put count ys xs ds t later us (count - 1) h k e)
 
-flat_row : (s : Symbol) (m : Newlines) (n : ℕ) (c : Class) → RowMoves (λ i. Unit {0}) (row_of s m n c) (owes s) c → ([] ≡ owes s ⊎ (row_of s m n c ≡ nothing → ⊥))
+flat_row : (s : Symbol) (m : Newlines) (n : ℕ) (c : Class) → RowMoves (λ i. Unit {0}) (row_of s m n c) (must_be_closed s) c → ([] ≡ must_be_closed s ⊎ (row_of s m n c ≡ nothing → ⊥))
 flat_row s m n c h = by (row_of s m n c) h
   where
-    by : (r : Action) → RowMoves (λ i. Unit {0}) r (owes s) c → ([] ≡ owes s ⊎ (r ≡ nothing → ⊥))
+    by : (r : Action) → RowMoves (λ i. Unit {0}) r (must_be_closed s) c → ([] ≡ must_be_closed s ⊎ (r ≡ nothing → ⊥))
     by none h = inr (λ e. cc)
     by nothing h = inl h
     by (reads xs) h = inr (λ e. cc)
@@ -233,7 +233,7 @@ inner_passes count (s at m ∷ xs) ds t later us h e = by (drops m t.class) e (�
 -- ---- a newline with no closer to come
 
 -- then such a symbol has no row, or goes away
-newline_row : (s : Symbol) (n : ℕ) → owes s ≡ [] → IsInner s Seen false → (row_of s Seen n Newline ≡ nothing) ⊎ (row_of s Seen n Newline ≡ none)
+newline_row : (s : Symbol) (n : ℕ) → must_be_closed s ≡ [] → IsInner s Seen false → (row_of s Seen n Newline ≡ nothing) ⊎ (row_of s Seen n Newline ≡ none)
 newline_row (the t) n e h = inr (by t)
   where
     by : (t : Terminal) → cond (fits t Newline) (reads []) none ≡ none
@@ -259,8 +259,8 @@ newline_row names n e h = inr refl
 newline_row separator n e h = inr refl
 newline_row s n e h = absurd (omega (arith, ap length e))
 
-nothing_owed : (s : Symbol) (m : Newlines) (xs : List Marked) → owes_all (s at m ∷ xs) ≡ [] → (owes s ≡ []) × (owes_all xs ≡ [])
-nothing_owed s m xs e = by (owes s) e
+nothing_owed : (s : Symbol) (m : Newlines) (xs : List Marked) → owes_all (s at m ∷ xs) ≡ [] → (must_be_closed s ≡ []) × (owes_all xs ≡ [])
+nothing_owed s m xs e = by (must_be_closed s) e
   where
     by : (os : List Opener) → os ++ owes_all xs ≡ [] → (os ≡ []) × (owes_all xs ≡ [])
     by [] h = (refl, h)
@@ -270,11 +270,11 @@ none_owed : (xs : List Marked) → owes_all xs ≡ [] → owed false xs ≡ fals
 none_owed [] e = refl
 none_owed (s at m ∷ xs) e = let h = nothing_owed s m xs e in ap (λ os. owing os || owed false xs) h.0 ∙ none_owed xs h.1
 
-seen_there : (s : Symbol) (m : Newlines) → owes s ≡ [] → IsInner s m false → m ≡ Seen
+seen_there : (s : Symbol) (m : Newlines) → must_be_closed s ≡ [] → IsInner s m false → m ≡ Seen
 seen_there s Seen e h = refl
 seen_there s Dropped e h = absurd (by s e h)
   where
-    by : (s : Symbol) → owes s ≡ [] → IsInner s Dropped false → ⊥
+    by : (s : Symbol) → must_be_closed s ≡ [] → IsInner s Dropped false → ⊥
     by file e h = h
     by rest e h = h
     by labels e h = h
@@ -305,7 +305,7 @@ newline_passes count n (s at m ∷ xs) ds later us h flat e =
     t : Lookahead
     t = record { class = Newline; number = n }
 
-    here : (owes s ≡ []) × (owes_all xs ≡ [])
+    here : (must_be_closed s ≡ []) × (owes_all xs ≡ [])
     here = nothing_owed s m xs flat
 
     inner : IsInner s m false
@@ -323,7 +323,7 @@ pub inner_ends : (xs ds : List Marked) → AreInner false xs → ending (xs ++ d
 inner_ends [] ds h e = (e, refl)
 inner_ends (s at m ∷ xs) ds h e = by (ends s) refl e (λ k. inner_ends xs ds h.1 k)
   where
-    owed_none : (s : Symbol) → ends s ≡ true → owes s ≡ []
+    owed_none : (s : Symbol) → ends s ≡ true → must_be_closed s ≡ []
     owed_none file e = refl
     owed_none eol e = refl
     owed_none after_ident e = refl

@@ -20,8 +20,8 @@ lines_here line all i a lt is = ap (flat_map line) (from_here all i a lt is)
 pub one_unlinted : (n : ℕ) → n ≡ 1 → codes "1 module not linted: its options aren't known\n" ≡ unlinted_line n
 one_unlinted n e = sym (ap unlinted_line e)
 
-pub fault_told : (name shown : Name) (o : Option TreeFault) (fault : TreeFault) (text : List ℕ) → o ≡ Some fault → shown ≡ name → text ≡ tree_fault_text fault → refusal_line (refusal_of shown text) ≡ fault_line name o
-fault_told name shown o fault text e s t = ap (λ n. refusal_line (refusal_of n text)) s ∙ ap (λ x. refusal_line (refusal_of name x)) t ∙ sym (ap (fault_line name) e)
+pub told_fault_is : (name shown : Name) (o : Option TreeFault) (fault : TreeFault) (text : List ℕ) → o ≡ Some fault → shown ≡ name → text ≡ tree_fault_text fault → refusal_line (refusal_of shown text) ≡ fault_line name o
+told_fault_is name shown o fault text e s t = ap (λ n. refusal_line (refusal_of n text)) s ∙ ap (λ x. refusal_line (refusal_of name x)) t ∙ sym (ap (fault_line name) e)
 
 pub refused_told : (start : Start) (file : ConfigFile) (path shown : Name) (fault : Fault) (text : List ℕ) → path ≡ file.name.items → shown ≡ shown_from start path → file.text ≡ Refused fault → text ≡ fault_text fault.kind
     → refusal_line (record { name = shown; at = Some fault.at; text = text; snippet = [] }) ≡ config_lines start file

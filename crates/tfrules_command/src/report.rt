@@ -156,7 +156,7 @@ fn send<O: ByteSink>(out: &mut O, page: &mut Page) -> Result<(), WriteFault>
 
 /// Writes the pieces after the waiting bytes, or lets them wait too. Pieces that no page can hold are written one by
 /// one.
-fn write_pieces<O: ByteSink>(
+fn write_parts<O: ByteSink>(
     out: &mut O,
     page: &mut Page,
     pieces: &[&[u8]],
@@ -201,7 +201,7 @@ fn write_line<'p, O: ByteSink>(
         after_message,
     } = frame;
     match message {
-        MessageParts::Whole(text) => write_pieces(
+        MessageParts::Whole(text) => write_parts(
             out,
             page,
             &[
@@ -212,7 +212,7 @@ fn write_line<'p, O: ByteSink>(
                 after_message.as_bytes(),
             ],
         ),
-        MessageParts::Named(front, named, rest) => write_pieces(
+        MessageParts::Named(front, named, rest) => write_parts(
             out,
             page,
             &[
@@ -225,7 +225,7 @@ fn write_line<'p, O: ByteSink>(
                 after_message.as_bytes(),
             ],
         ),
-        MessageParts::NamedTwice(front, named, between, other, rest) => write_pieces(
+        MessageParts::NamedTwice(front, named, between, other, rest) => write_parts(
             out,
             page,
             &[
@@ -281,7 +281,7 @@ fn write_count<O: ByteSink>(out: &mut O, page: &mut Page, count: usize) -> Resul
     ensures flushes { O.flushes out.new ≡ O.flushes out.old }
 {
     let mut digits = Buffer::new();
-    write_pieces(
+    write_parts(
         out,
         page,
         &[digits.format(count).as_bytes(), b" issue(s) found:\n\n"],

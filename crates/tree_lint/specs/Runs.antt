@@ -14,7 +14,7 @@ use Rattle.module_find.specs.declared.module.Module.{Module}
 use Rattle.source_snippet.specs.Snippets.{snippet, snippet_if}
 use Rattle.tf_rules.specs.Issues.{asked_of}
 use Rattle.tf_rules.specs.declared.issue.Issue.{Issue}
-use Rattle.tfrules_command.specs.Line.{Asking}
+use Rattle.tfrules_command.specs.Line.{Request}
 use Rattle.tfrules_command.specs.Report.{issue_line, report, report_by, status}
 use Rattle.tree_lint.specs.KeptRefusals.{HoldsAll}
 use Rattle.tree_lint.specs.Numbers.{counts_of}
@@ -89,7 +89,7 @@ refusals_of (Ok linted) = []
 refusals_of (Err refusals) = refusals
 
 -- by what an issue fails the run
-abbrev pub failing_under : Policy → Asking
+abbrev pub failing_under : Policy → Request
 failing_under policy = record { asked = asked_of policy.settings; minimum = policy.minimum; force = policy.force; files = [] }
 
 -- that of `tfrules`; a comment that silences nothing fails the run, whatever the severity from which on an issue does

@@ -10,7 +10,7 @@ use crate::texts::{Maker, Shape};
 use command_line::Streams;
 use file_tree::fault::TreeFault;
 use file_tree::kind::{Identity, Kind};
-use file_tree::path::joined;
+use file_tree::path::join;
 use file_tree::tree::{Replaced, Tree, WritableTree, Writing};
 use std::alloc::{AllocError, Global};
 use tfrules_command::Hashing;
@@ -210,7 +210,7 @@ impl Tree for MadeTree {
 
     #[tactic(auto, using(file_tree::proofs::FileLemmas::silent_noted))]
     fn full_path(&mut self, folder: &[u8]) -> Result<Vec<u8>, TreeFault> {
-        match joined(self.alloc, b"/made/", folder) {
+        match join(self.alloc, b"/made/", folder) {
             Ok(path) => Ok(path),
             Err(_) => Err(TreeFault::OutOfMemory),
         }

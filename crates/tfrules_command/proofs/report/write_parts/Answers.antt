@@ -1,7 +1,7 @@
 use Rattle.std.proofs.Common.{◌∙◌}
 use Rattle.tfrules_command.proofs.PageLemmas.{goes_after, goes_past, goes_waiting, goes_wrong_before, held, not_held}
 use Rattle.command_line.proofs.WriterLemmas.{all_taken}
-use Rattle.tfrules_command.proofs.report.write_pieces.Goals as goal
+use Rattle.tfrules_command.proofs.report.write_parts.Goals as goal
 
 pub returns-then-hold-clause-goes : goal.returns-then-hold-clause-goes
 returns-then-hold-clause-goes g c = goes_waiting _ _ _ _ _ c.requires (held c.hold.result _ _ _ c.if-hold.true c.hold.ensures)
