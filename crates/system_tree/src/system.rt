@@ -11,7 +11,7 @@ use crate::patient;
 use crate::shared::SharedFiles;
 use file_tree::fault::TreeFault;
 use file_tree::kind::{Identity, Kind};
-use file_tree::path::{joined, tidy};
+use file_tree::path::{join, tidy};
 use file_tree::tree::{Replaced, Tree, WritableTree, Writing};
 use hcl_source::{ByteSource, Failed};
 use std::alloc::Global;
@@ -151,7 +151,7 @@ fn text_of(name: &[u8]) -> Result<&str, TreeFault> {
 /// A full path as that of a folder, with a `/` at its end.
 fn folder_at(alloc: Global, path: &str) -> Result<Vec<u8>, TreeFault> {
     let end = if path.ends_with('/') { "" } else { "/" };
-    match joined(alloc, path.as_bytes(), end.as_bytes()) {
+    match join(alloc, path.as_bytes(), end.as_bytes()) {
         Ok(folder) => Ok(folder),
         Err(_) => Err(TreeFault::OutOfMemory),
     }
