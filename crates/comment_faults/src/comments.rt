@@ -11,7 +11,7 @@ use crate::fault::CommentFault;
 use crate::text::fault_text;
 use hcl_tokens::{Kind, Tokens};
 use std::alloc::{AllocError, Global};
-use tf_rules::Walker;
+use tf_rules::PositionCursor;
 
 fn is_line_comment(kind: Kind) -> bool
     ensures { result ≡ is LineComment kind }
@@ -25,7 +25,7 @@ fn add_of_comment(
     file: u32,
     tokens: &Tokens<'_>,
     number: usize,
-    walker: &mut Walker<'_>,
+    walker: &mut PositionCursor<'_>,
     faults: &mut Vec<CommentFault>,
 ) -> Result<(), AllocError>
     requires within { number < length tokens.now.tokens }
@@ -54,7 +54,7 @@ fn add_of_token(
     file: u32,
     tokens: &Tokens<'_>,
     number: usize,
-    walker: &mut Walker<'_>,
+    walker: &mut PositionCursor<'_>,
     faults: &mut Vec<CommentFault>,
 ) -> Result<(), AllocError>
     requires within { number < length tokens.now.tokens }
@@ -80,7 +80,7 @@ pub fn add_comment_faults(
     ensures { OnOk result (map fault_view faults.new.items ≡ map fault_view faults.old.items
         ++ faults_in (record { number = file; source = tokens.now })) }
 {
-    let mut walker = Walker::new(tokens.source().text());
+    let mut walker = PositionCursor::new(tokens.source().text());
     for number in 0..tokens.len() {
         add_of_token(alloc, file, tokens, number, &mut walker, faults)?;
     }

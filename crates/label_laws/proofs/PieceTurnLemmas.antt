@@ -8,7 +8,7 @@ use Rattle.std.proofs.lemmas.List.Elements.{filter-append}
 use Rattle.hcl_tokens.specs.Kinds.{is}
 use Rattle.hcl_tokens.specs.declared.token.Kind.{Kind}
 use Rattle.hcl_tokens.specs.declared.token.Kind.TheVariants as kind
-use Rattle.hcl_grammar.specs.Items.{after_brace, block, block_end, body, closing_quote, deepen, is_closed, item_of, items, label_at, labels, onto, pieces}
+use Rattle.hcl_grammar.specs.Items.{after_brace, block, block_end, body, closing_quote, deepen, is_closed, item_of, items, label_at, labels, onto, segments}
 use Rattle.hcl_grammar.specs.Labels.{first_literal, label_text, text_of}
 use Rattle.label_laws.specs.AsWritten.{IsAsWritten, between_quotes}
 use Rattle.hcl_grammar.specs.Numbered.{Numbered, end_of}
@@ -80,9 +80,9 @@ module _ (all : List Numbered) where
   put_front k p q t ts (x ∷ xs) turned ok here next h = ((h.0.0, (q, turned, ok, here, next x xs refl, h.0.1), h.0.2), h.1)
 
   -- the first piece begins like the tokens
-  first_begins : (n d : ℕ) (ts x : List Numbered) (xs : List (List Numbered)) → Begins n ts → pieces d ts ≡ x ∷ xs → Begins n x
+  first_begins : (n d : ℕ) (ts x : List Numbered) (xs : List (List Numbered)) → Begins n ts → segments d ts ≡ x ∷ xs → Begins n x
   first_begins n d [] x xs h e = let f : [] ≡ x = cc in subst (λ r. Begins n r) f tt
-  first_begins n d (t ∷ ts) x xs h e = by (is kind.Newline t.kind && is_closed d) (pieces (deepen d t.kind) ts) e
+  first_begins n d (t ∷ ts) x xs h e = by (is kind.Newline t.kind && is_closed d) (segments (deepen d t.kind) ts) e
     where
       by : (b : Bool) (ps : List (List Numbered)) → cond b ([] ∷ ps) (onto t ps) ≡ x ∷ xs → Begins n x
       by true ps e = let f : [] ≡ x = cc in subst (λ r. Begins n r) f tt
@@ -96,7 +96,7 @@ module _ (all : List Numbered) where
       zero_of zero e = refl
       zero_of (suc n) e = absurd (true≢false (sym e))
 
-  pub cut : (k : ℕ) (p : Place) (ts : List Numbered) (end : Place) → k ≤ level p → Leads all (Within k) p ts end → Stops k end → Pieces k p (pieces (depth p - k) ts)
+  pub cut : (k : ℕ) (p : Place) (ts : List Numbered) (end : Place) → k ≤ level p → Leads all (Within k) p ts end → Stops k end → Pieces k p (segments (depth p - k) ts)
   cut k p [] end low leads stops = ((end, leads, stops), tt)
   cut k p (t ∷ ts) end low leads stops =
       by (is kind.Newline t.kind && is_closed (depth p - k)) refl (turns p t.kind q leads.1) (cut k q ts end leads.2 leads.5 stops)
@@ -105,7 +105,7 @@ module _ (all : List Numbered) where
       q = leads.0
 
       P : List (List Numbered)
-      P = pieces (deepen (depth p - k) t.kind) ts
+      P = segments (deepen (depth p - k) t.kind) ts
 
       newline : (b c : Bool) → (b && c) ≡ true → (b ≡ true) × (c ≡ true)
       newline true c e = (refl, e)
@@ -119,10 +119,10 @@ module _ (all : List Numbered) where
       zero_of zero e = refl
       zero_of (suc n) e = absurd (true≢false (sym e))
 
-      broken : q ≡ line k → Pieces k q (pieces (depth q - k) ts) → deepen (depth p - k) t.kind ≡ 0 → may_end p ≡ true → depth p ≤ k → Pieces k p ([] ∷ P)
+      broken : q ≡ line k → Pieces k q (segments (depth q - k) ts) → deepen (depth p - k) t.kind ≡ 0 → may_end p ≡ true → depth p ≤ k → Pieces k p ([] ∷ P)
       broken is rest flat ends low =
           let d : depth q - k ≡ 0 = ap (λ x. depth x - k) is ∙ (let z : (k + 0) - k ≡ 0 = omega arith in z) in
-          let more : Pieces k (line k) P = subst (λ x. Pieces k x P) is (subst (λ (n : ℕ). Pieces k q (pieces n ts)) (d ∙ sym flat) rest) in
+          let more : Pieces k (line k) P = subst (λ x. Pieces k x P) is (subst (λ (n : ℕ). Pieces k q (segments n ts)) (d ∙ sym flat) rest) in
           ((p, refl, (stops_there p ends, low)), lines P more)
         where
           stops_there : (p : Place) → may_end p ≡ true → may_stop p ≡ true
@@ -136,7 +136,7 @@ module _ (all : List Numbered) where
           lines [] h = tt
           lines (x ∷ xs) h = h
 
-      by : (b : Bool) → (is kind.Newline t.kind && is_closed (depth p - k)) ≡ b → Turns p t.kind q → Pieces k q (pieces (depth q - k) ts) → Pieces k p (cond b ([] ∷ P) (onto t P))
+      by : (b : Bool) → (is kind.Newline t.kind && is_closed (depth p - k)) ≡ b → Turns p t.kind q → Pieces k q (segments (depth q - k) ts) → Pieces k p (cond b ([] ∷ P) (onto t P))
       by true this (breaks nl flat ends to) rest =
           let n = newline (is kind.Newline t.kind) (is_closed (depth p - k)) this in
           let f = flat_all k p low n.1 in
@@ -149,7 +149,7 @@ module _ (all : List Numbered) where
           let high : k < level p = above (cases k) in
           let d : depth q - k ≡ deepen (depth p - k) t.kind = ap (λ x. depth x - k) to ∙ (let z : (level p + 0) - k ≡ depth p - k = omega (arith, flat) in z) ∙ sym (level_newline t.kind nl (depth p - k)) in
           put_front k p q t ts P leads.1 (leads.2, (λ i. subst (λ x. k < level x) (sym to) high)) leads.3 (λ x xs e i. first_begins (t.number + 1) (deepen (depth p - k) t.kind) ts x xs (leads.4 i) e)
-          (subst (λ (n : ℕ). Pieces k q (pieces n ts)) d rest)
+          (subst (λ (n : ℕ). Pieces k q (segments n ts)) d rest)
         where
           cases : (n : ℕ) → (k < level p) ⊎ (level p ≤ k)
           cases n = cases_lt k (level p)
@@ -162,7 +162,7 @@ module _ (all : List Numbered) where
       by false is (moves still g) rest =
           let d : depth q - k ≡ deepen (depth p - k) t.kind = ap (λ (n : ℕ). n - k) g.deep ∙ less t.kind g in
           put_front k p q t ts P leads.1 (leads.2, (λ i. absurd (true≢false (sym i ∙ g.no_line)))) leads.3 (λ x xs e i. first_begins (t.number + 1) (deepen (depth p - k) t.kind) ts x xs (leads.4 i) e)
-          (subst (λ (n : ℕ). Pieces k q (pieces n ts)) d rest)
+          (subst (λ (n : ℕ). Pieces k q (segments n ts)) d rest)
         where
           less : (x : Kind) → Goes p t.kind q → deepen (depth p) t.kind - k ≡ deepen (depth p - k) t.kind
           less x g = omega (arith, g.deep, low, leads.2)
@@ -443,7 +443,7 @@ module _ (all : List Numbered) where
   Begin k p = (p ≡ line k) ⊎ ((j : ℕ) × (k ≡ suc j) × (p ≡ started j))
 
   abbrev pub InnerGood : (List Numbered → List Item) → Type 0
-  InnerGood inner = (k : ℕ) (p : Place) (from to : ℕ) (ts : List Numbered) → Begin k p → Rises from ts to → Pieces k p (pieces 0 ts) → AllGood (inner ts)
+  InnerGood inner = (k : ℕ) (p : Place) (from to : ℕ) (ts : List Numbered) → Begin k p → Rises from ts to → Pieces k p (segments 0 ts) → AllGood (inner ts)
 
   module _ (inner : List Numbered → List Item) (good : InnerGood inner) (lev : ℕ) where
     nothing_good : AllGood (inner [])
@@ -461,7 +461,7 @@ module _ (all : List Numbered) where
             let b = bodied k (started k) (after_brace ts) end (omega arith) more stops in
             let is = body_is from to ts b.inner b.close rises b.is b.brace in
             let z : depth (started k) - suc k ≡ 0 = omega arith in
-            let ps : Pieces (suc k) (started k) (pieces 0 b.inner) = subst (λ (n : ℕ). Pieces (suc k) (started k) (pieces n b.inner)) z (cut (suc k) (started k) b.inner b.end (omega arith) b.leads b.stops) in
+            let ps : Pieces (suc k) (started k) (segments 0 b.inner) = subst (λ (n : ℕ). Pieces (suc k) (started k) (segments n b.inner)) z (cut (suc k) (started k) b.inner b.end (omega arith) b.leads b.stops) in
             subst (λ r. AllGood (inner r)) (sym is.0) (good (suc k) (started k) is.1.0 to b.inner (inr (k, refl, refl)) (rises_front is.1.0 to b.inner b.close is.1.1) ps)
 
     -- the tokens after the first of a piece
@@ -533,4 +533,4 @@ module _ (all : List Numbered) where
   pub items_good : (n lev : ℕ) → InnerGood (items n lev)
   items_good zero lev k p from to ts begin rises h = tt
   items_good (suc n) lev k p from to ts begin rises h =
-      all_good (items n (lev + 1)) (items_good n (lev + 1)) lev k p from to (pieces 0 ts) begin (pieces_rise 0 from to ts rises) h
+      all_good (items n (lev + 1)) (items_good n (lev + 1)) lev k p from to (segments 0 ts) begin (pieces_rise 0 from to ts rises) h

@@ -4,7 +4,7 @@ use Rattle.std.proofs.Common.{◌≡◌, ℕ, zero, suc, ◌+◌, ◌-◌, ◌<�
 use Rattle.std.specs.Prelude.{Some, None, slice_get, not}
 use Rattle.hcl_tokens.specs.Lexemes.{Lexeme}
 use Rattle.hcl_tokens.specs.Scans.{Scans}
-use Rattle.hcl_grammar.specs.Items.{outline, pieces}
+use Rattle.hcl_grammar.specs.Items.{outline, segments}
 use Rattle.hcl_grammar.specs.Labels.{label_text}
 use Rattle.label_laws.specs.AsWritten.{IsAsWritten, between_quotes}
 use Rattle.hcl_grammar.specs.Numbered.{Numbered, is_comment, numbered, without_comments}
@@ -27,7 +27,7 @@ file_good text tokens scans accepted =
     let all = numbered tokens in
     let led = whole_file text tokens scans accepted in
     let z : depth (line 0) - 0 ≡ 0 = omega arith in
-    let ps : Pieces all 0 (line 0) (pieces 0 (without_comments all)) = subst (λ (n : ℕ). Pieces all 0 (line 0) (pieces n (without_comments all))) z (cut all 0 (line 0) (without_comments all) led.0 (omega arith) led.1 led.2) in
+    let ps : Pieces all 0 (line 0) (segments 0 (without_comments all)) = subst (λ (n : ℕ). Pieces all 0 (line 0) (segments n (without_comments all))) z (cut all 0 (line 0) (without_comments all) led.0 (omega arith) led.1 led.2) in
     let rises : Rises 0 (without_comments all) (0 + length tokens) = rises_filter (λ t. not (is_comment t.kind)) 0 (0 + length tokens) all (rises_numbered 0 tokens) in
     items_good all (length all) 0 0 (line 0) 0 (0 + length tokens) (without_comments all) (inl refl) rises ps
 

@@ -12,7 +12,7 @@ use Rattle.hcl_tokens.proofs.BooleanLemmas.{or_true}
 use Rattle.hcl_scan.proofs.OtherStepLemmas.{touching}
 use Rattle.hcl_scan.proofs.GapLemmas.{template_touches}
 use Rattle.hcl_tokens.specs.Kinds.{is}
-use Rattle.hcl_spacing.specs.Spacing.{stands_before, has_blank}
+use Rattle.hcl_spacing.specs.Spacing.{follows_kind, has_blank}
 use Rattle.hcl_layout.specs.Gaps.{blanks}
 use Rattle.hcl_spacing.proofs.SpacingLemmas as rows
 use Rattle.hcl_spacing.proofs.SpacingLemmas.{row_one}
@@ -22,7 +22,7 @@ use Rattle.layout_laws.proofs.PrintGapLemmas.{is_cell, GapFor}
 -- ---- one gap, the two tokens before it on the line, and the state of the scan there
 abbrev pub Coherent : Option Lexeme → Option Lexeme → Bool → Kind → Type 0
 Coherent before None dot k = k ≡ kind.Newline
-Coherent before (Some u) dot k = (k ≡ u.kind) × (dot ≡ false → stands_before (is kind.Dot) before ≡ false)
+Coherent before (Some u) dot k = (k ≡ u.kind) × (dot ≡ false → follows_kind (is kind.Dot) before ≡ false)
 
 no_blank : (before : Option Lexeme) (u t : Lexeme) → has_blank before u t ≡ false → blanks before u t ≡ 0
 no_blank before u t h = ap (λ v. if v then 1 else 0) h

@@ -14,7 +14,7 @@ use Rattle.hcl_tokens.proofs.BooleanLemmas.{and_true, or_cases}
 use Rattle.hcl_scan.proofs.CommentTextLemmas.{starts_split}
 use Rattle.hcl_scan.proofs.ContextLemmas.{not_both}
 use Rattle.hcl_scan.proofs.NumeralLemmas.{digit_head}
-use Rattle.hcl_scan.proofs.LeadLemmas.{some}
+use Rattle.hcl_scan.proofs.PrefixLemmas.{some}
 use Rattle.hcl_scan.proofs.KindPlaceLemmas.{Side, expression, template, side}
 use Rattle.hcl_scan.proofs.TemplateLemmas.{Way, lit, interp, control, quote}
 use Rattle.hcl_scan.proofs.WordLemmas.{begins_word, ident_word}

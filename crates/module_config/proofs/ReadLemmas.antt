@@ -9,7 +9,7 @@ use Rattle.hcl_source.specs.declared.fault.LoadError.{LoadError}
 use Rattle.hcl_source.specs.declared.fault.LoadError.TheVariants as error
 use Rattle.module_find.specs.declared.module.Module.{Module}
 use Rattle.tfrules_command.proofs.GatherLemmas.{fault_of_whole, tells_all}
-use Rattle.tree_lint.specs.Verdicts.{told_in}
+use Rattle.tree_lint.specs.Verdicts.{bytes_of_name}
 use Rattle.module_config.specs.Configs.{AreRead, IsRead}
 use Rattle.module_config.specs.Governors.{ArePlaced, IsPlaced, wants}
 use Rattle.module_config.specs.Inner.Reading.{AddsFile, AddsPlaced, IsTextOf}
@@ -20,7 +20,7 @@ use Rattle.module_config.specs.declared.governor.Placed.{Placed}
 use Rattle.module_config.specs.declared.start.Start.{Start}
 
 pub text_read : (files : Files) (name : Name) (left left' : Option (List ℕ)) (bytes : List ℕ) (was is : Faults) (failed : Bool) (loaded : Result (List ℕ) LoadError) → is ≡ with_fault was (fault_of_reader failed) → failed ≡ is_failed_load loaded
-    → left ≡ told_in files name → Consumes left left' bytes → Loads bytes left' loaded → (text : ConfigText) → IsTextOf loaded text → IsRead files name was is text
+    → left ≡ bytes_of_name files name → Consumes left left' bytes → Loads bytes left' loaded → (text : ConfigText) → IsTextOf loaded text → IsRead files name was is text
 text_read files name left left' bytes was is failed loaded e f here taken loads = by loaded (e ∙ ap (λ v. with_fault was (fault_of_reader v)) f) loads
   where
     by : (l : Result (List ℕ) LoadError) → is ≡ with_fault was (fault_of_reader (is_failed_load l)) → Loads bytes left' l → (text : ConfigText) → IsTextOf l text → IsRead files name was is text
@@ -29,7 +29,7 @@ text_read files name left left' bytes was is failed loaded e f here taken loads 
     by (Ok source) e l (Unread fault) t = absurd t
     by (Err (error.Fault fault)) e l (Says config) t = absurd t
     by (Err (error.Fault fault)) e l (Refused refused) t =
-        (e, subst (λ x. (all : List ℕ) × Tells (told_in files name) all × IsLoadFault all x) (sym t) (subst (λ told. (all : List ℕ) × Tells told all × IsLoadFault all fault) here (fault_of_whole left left' bytes fault taken l.1 l.0)))
+        (e, subst (λ x. (all : List ℕ) × Tells (bytes_of_name files name) all × IsLoadFault all x) (sym t) (subst (λ told. (all : List ℕ) × Tells told all × IsLoadFault all fault) here (fault_of_whole left left' bytes fault taken l.1 l.0)))
     by (Err (error.Fault fault)) e l (Unread why) t = absurd t
     by (Err error.ReadFailed) e l (Says config) t = absurd t
     by (Err error.ReadFailed) e l (Refused fault) t = absurd t

@@ -10,7 +10,7 @@ use Rattle.lint_config.specs.Configs.{read_of}
 use Rattle.lint_config.specs.Lines.{Options}
 use Rattle.lint_config.specs.Reads.{read_text}
 use Rattle.module_find.specs.declared.module.Module.{Module}
-use Rattle.tree_lint.specs.Verdicts.{told_in}
+use Rattle.tree_lint.specs.Verdicts.{bytes_of_name}
 use Rattle.module_config.specs.Governors.{ArePlaced, IsStart, wants}
 use Rattle.module_config.specs.Settled.{governed_in, paired}
 use Rattle.module_config.specs.declared.config_file.ConfigFile.{ConfigFile}
@@ -23,8 +23,8 @@ use Rattle.module_config.specs.declared.governor.Placed.{Placed}
 
 -- the contents of a file, which are these bytes if the device tells them
 abbrev pub IsRead : Files → Name → Faults → Faults → ConfigText → Type 0
-IsRead files name was is (Says config) = (is ≡ was) × ((text : List ℕ) × Tells (told_in files name) text × IsText text × (read_of config ≡ read_text text))
-IsRead files name was is (Refused fault) = (is ≡ was) × ((bytes : List ℕ) × Tells (told_in files name) bytes × IsLoadFault bytes fault)
+IsRead files name was is (Says config) = (is ≡ was) × ((text : List ℕ) × Tells (bytes_of_name files name) text × IsText text × (read_of config ≡ read_text text))
+IsRead files name was is (Refused fault) = (is ≡ was) × ((bytes : List ℕ) × Tells (bytes_of_name files name) bytes × IsLoadFault bytes fault)
 IsRead files name was is (Unread fault) = is ≡ with_fault was (Some fault)
 
 abbrev pub AreRead : Files → List Found → List ConfigFile → Faults → Faults → Type 0

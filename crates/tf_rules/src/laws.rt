@@ -11,7 +11,7 @@ ghost use Rattle.tf_rules.specs.Growth.{entries, name_bytes};
 ghost use Rattle.tf_rules.specs.Kept.{Kept, kept_of, with_file};
 ghost use Rattle.tf_rules.specs.KeptIssues.{issues_of_kept};
 
-pub use tf_facts::laws::own_apart;
+pub use tf_facts::laws::variable_blocks_apart;
 
 /// What is kept of files and one more is a function of what is kept of the files, and of that one.
 pub fn kept_of_more()

@@ -16,7 +16,7 @@ use crate::mode::Mode;
 use crate::outcome::Outcome;
 use crate::printed::Printed;
 use file_tree::fault::TreeFault;
-use file_tree::path::joined;
+use file_tree::path::join;
 use file_tree::quote::shown_head;
 use file_tree::tree::{Replaced, Tree, WritableTree, Writing};
 use hcl_layout::{emit, fits, is_formatted};
@@ -75,7 +75,7 @@ fn write_print<T: WritableTree>(
 fn head_of(alloc: Global, folder: &[u8], name: &[u8]) -> Result<Vec<u8>, AllocError>
     ensures { IfOk result (λ head. head.items ≡ shown_head (folder.now ++ name.now)) }
 {
-    let path = joined(alloc, folder, name)?;
+    let path = join(alloc, folder, name)?;
     shown_head(alloc, path.as_slice())
 }
 

@@ -1,6 +1,6 @@
 -- Which files and folders a call names. Our own choice.
 use Rattle.std.specs.Prelude.{ℕ, ◌-◌, ◌==◌, List, [], ◌∷◌, codes, length, take, if◌then◌else◌}
-use Rattle.file_tree.specs.Below.{listed}
+use Rattle.file_tree.specs.Below.{names_in_listing}
 use Rattle.file_tree.specs.Files.{Name}
 use Rattle.file_tree.specs.Names.{ends}
 
@@ -13,7 +13,7 @@ abbrev pub without_last_nul : List ℕ → List ℕ
 without_last_nul bytes = if ends (0 ∷ []) bytes then take (length bytes - 1) bytes else bytes
 
 abbrev pub between_nuls : List ℕ → List Name
-between_nuls bytes = if length bytes == 0 then [] else listed bytes
+between_nuls bytes = if length bytes == 0 then [] else names_in_listing bytes
 
 -- those of standard input, each ended by NUL, but for the last, which needs none
 abbrev pub paths_of_input : List ℕ → List Name

@@ -12,12 +12,12 @@ use Rattle.hcl_layout.specs.Levels.{levels, net_of}
 use Rattle.hcl_layout.specs.Cells.{assign_cell, running_comment, trailing_comment}
 use Rattle.hcl_layout.specs.Gaps.{aligned_gaps, indent, zip_with}
 use Rattle.hcl_layout.specs.Print.{printed_text}
-use Rattle.hcl_spacing.specs.Spacing.{begins_with_equals, closes_group, ends_operand, is_in, is_opening, opens_sequence, stands_before}
+use Rattle.hcl_spacing.specs.Spacing.{begins_with_equals, closes_group, ends_operand, is_in, is_opening, opens_sequence, follows_kind}
 
 abbrev pub would_have_joined : Option Lexeme → Lexeme → Lexeme → Bool
 would_have_joined before subject after =
     (is kind.Dot subject.kind && (is kind.Dot after.kind || is kind.Ellipsis after.kind))
-    || (is kind.Number subject.kind && not (stands_before (is kind.Dot) before) && is kind.Dot after.kind)
+    || (is kind.Number subject.kind && not (follows_kind (is kind.Dot) before) && is kind.Dot after.kind)
     || (is kind.Not subject.kind && begins_with_equals after.text)
     || (opens_sequence subject.kind && is kind.SeqClose after.kind && bytes_eq after.text (codes "~}"))
 
