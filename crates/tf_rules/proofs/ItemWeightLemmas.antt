@@ -4,7 +4,7 @@ use Rattle.std.specs.Prelude.{◌&&◌, filter, nat_lt}
 use Rattle.std.specs.List.{flat_map}
 use Rattle.hcl_tokens.specs.Kinds.{is}
 use Rattle.hcl_tokens.specs.declared.token.Kind.TheVariants.{Assign, BraceOpen, Newline}
-use Rattle.hcl_grammar.specs.Items.{after_brace, block, block_end, body, deepen, is_closed, item_of, items, labels, label_at, onto, message_parts}
+use Rattle.hcl_grammar.specs.Items.{after_brace, block, block_end, body, deepen, is_closed, item_of, items, labels, label_at, onto, segments}
 use Rattle.hcl_grammar.specs.Numbered.{Numbered, end_of}
 use Rattle.hcl_grammar.specs.declared.item.Item.{Item}
 use Rattle.hcl_grammar.specs.declared.item.Item.TheVariants as item
@@ -51,14 +51,14 @@ module _ (cost : List Item → ℕ) (weigh : Numbered → ℕ) (counted : IsCoun
   onto_weighs t [] = omega arith
   onto_weighs t (p ∷ ps) = omega arith
 
-  pieces_weigh : (depth : ℕ) (ts : List Numbered) → all_weigh (message_parts depth ts) ≤ weight weigh ts
+  pieces_weigh : (depth : ℕ) (ts : List Numbered) → all_weigh (segments depth ts) ≤ weight weigh ts
   pieces_weigh depth [] = omega arith
   pieces_weigh depth (t ∷ ts) = by (is Newline t.kind && is_closed depth) (pieces_weigh (deepen depth t.kind) ts)
     where
-      by : (b : Bool) → all_weigh (message_parts (deepen depth t.kind) ts) ≤ weight weigh ts
-          → all_weigh (cond b ([] ∷ message_parts (deepen depth t.kind) ts) (onto t (message_parts (deepen depth t.kind) ts))) ≤ weigh t + weight weigh ts
+      by : (b : Bool) → all_weigh (segments (deepen depth t.kind) ts) ≤ weight weigh ts
+          → all_weigh (cond b ([] ∷ segments (deepen depth t.kind) ts) (onto t (segments (deepen depth t.kind) ts))) ≤ weigh t + weight weigh ts
       by true h = omega (arith, h)
-      by false h = omega (arith, h, onto_weighs t (message_parts (deepen depth t.kind) ts))
+      by false h = omega (arith, h, onto_weighs t (segments (deepen depth t.kind) ts))
 
   abbrev Costs : (List Numbered → List Item) → Type 0
   Costs inner = (ts : List Numbered) → cost (inner ts) ≤ weight weigh ts
@@ -92,4 +92,4 @@ module _ (cost : List Item → ℕ) (weigh : Numbered → ℕ) (counted : IsCoun
 
   pub items_weigh : (n level : ℕ) → Costs (items n level)
   items_weigh zero level ts = omega (arith, counted.none)
-  items_weigh (suc n) level ts = omega (arith, all_cost (items n (level + 1)) (items_weigh n (level + 1)) level (message_parts 0 ts), pieces_weigh 0 ts)
+  items_weigh (suc n) level ts = omega (arith, all_cost (items n (level + 1)) (items_weigh n (level + 1)) level (segments 0 ts), pieces_weigh 0 ts)
