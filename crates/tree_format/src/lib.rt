@@ -2,7 +2,6 @@
 #![tactic(auto)]
 
 pub mod laws;
-pub mod look;
 pub mod mode;
 pub mod outcome;
 mod printed;
@@ -10,3 +9,4 @@ pub mod progress;
 pub mod report;
 pub mod run;
 pub mod tally;
+pub mod visit;

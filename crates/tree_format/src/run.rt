@@ -6,12 +6,12 @@ ghost use Rattle.tree_format.specs.Runs.{MayBecome, Sees, Settled, is_failed};
 ghost use Rattle.tree_format.specs.States.{state_of};
 ghost use Rattle.tree_format.specs.Tally.{Tallies};
 
-use crate::look::visit;
 use crate::mode::Mode;
 use crate::outcome::Outcome;
 use crate::progress::Progress;
 use crate::report::{report, status_of, worse_status};
 use crate::tally::Tally;
+use crate::visit::visit;
 use command_line::Streams;
 use file_tree::tree::WritableTree;
 use file_tree::walk::Found;
@@ -20,7 +20,7 @@ use std::alloc::Global;
 
 /// Looks at one name.
 #[tactic(auto, using(crate::proofs::KeptFormatLemmas::kept_same, crate::proofs::KeptFormatLemmas::visit_kept, crate::proofs::KeptFormatLemmas::visit_real, crate::proofs::KeptFormatLemmas::visit_elsewhere))]
-fn look<T: WritableTree>(
+fn look_at<T: WritableTree>(
     alloc: Global,
     shows: bool,
     mode: Mode,
@@ -86,7 +86,7 @@ pub fn run_over<T: WritableTree, P: Progress, O: ByteSink, E: ByteSink>(
     let mut status = 0;
     let mut tally = Tally::new();
     for found in all {
-        let outcome = look(alloc, shows, mode, found, tree);
+        let outcome = look_at(alloc, shows, mode, found, tree);
         progress.looked(&outcome);
         tally = tally.add(&outcome);
         if report(mode, found.name.as_slice(), &outcome, streams).is_err() {

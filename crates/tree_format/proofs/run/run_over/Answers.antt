@@ -16,31 +16,31 @@ loop-found-init g c = (c.requires.out, c.requires.err, λ name. kept_same _ _ _ 
 
 pub loop-found-preserved : goal.loop-found-preserved
 loop-found-preserved g c =
-    let first = g.T.Tree.files c.args.tree.now in let old = g.T.Tree.files c.loop-found.tree in let new = g.T.Tree.files c.look-outcome.new.tree in
+    let first = g.T.Tree.files c.args.tree.now in let old = g.T.Tree.files c.loop-found.tree in let new = g.T.Tree.files c.look_at-outcome.new.tree in
     let good : g.O.ByteSink.failed c.report.new.streams.out ≡ false = left_good _ _ _ (g.E.ByteSink.failed c.report.new.streams.err) c.report.ensures.failed c.is_err.ensures.value c.if-is_err.false in
     let good' : g.E.ByteSink.failed c.report.new.streams.err ≡ false = right_good _ _ (g.O.ByteSink.failed c.report.new.streams.out) _ c.report.ensures.failed c.is_err.ensures.value c.if-is_err.false in
     let name = c.found-item.result.name.items in (
       good,
       good',
-      λ name. kept_trans _ _ _ _ (c.loop-found.invariant.2 name) (c.look-outcome.ensures.kept name),
-      λ name. c.look-outcome.ensures.real name ∙ c.loop-found.invariant.3 name,
-      λ ne. all_settled c.args.mode (λ f. first.real f.name.items) first.told old.told new.told c.look-outcome.ensures.kept c.args.all.now c.loop-found.found-index c.found-item.result c.loop-found-test.true
+      λ name. kept_trans _ _ _ _ (c.loop-found.invariant.2 name) (c.look_at-outcome.ensures.kept name),
+      λ name. c.look_at-outcome.ensures.real name ∙ c.loop-found.invariant.3 name,
+      λ ne. all_settled c.args.mode (λ f. first.real f.name.items) first.told old.told new.told c.look_at-outcome.ensures.kept c.args.all.now c.loop-found.found-index c.found-item.result c.loop-found-test.true
           (c.loop-found.invariant.4 (first_good _ _ (λ e. ne (c.worse_status-status.ensures ∙ e))))
           (subst (λ (f : Found). Settled c.args.mode (first.told (first.real f.name.items)) (new.told (first.real f.name.items)))
           c.found-item.is
           (settled_after _ _ _ _ (c.loop-found.invariant.2 _)
-          (subst (λ n. Settled c.args.mode (old.told n) (new.told n)) (c.loop-found.invariant.3 c.found-item.result.name.items) (c.look-outcome.ensures.settled (good_answer c.args.mode name c.look-outcome.result (λ e. second_good _ _ (λ e. ne (c.worse_status-status.ensures ∙ e)) (c.status_of.ensures name ∙ e))))))),
-      λ name other. c.look-outcome.ensures.elsewhere name
+          (subst (λ n. Settled c.args.mode (old.told n) (new.told n)) (c.loop-found.invariant.3 c.found-item.result.name.items) (c.look_at-outcome.ensures.settled (good_answer c.args.mode name c.look_at-outcome.result (λ e. second_good _ _ (λ e. ne (c.worse_status-status.ensures ∙ e)) (c.status_of.ensures name ∙ e))))))),
+      λ name other. c.look_at-outcome.ensures.elsewhere name
           (subst (λ n. name ≢ n) (sym (c.loop-found.invariant.3 c.found-item.result.name.items)) (subst (λ (f : Found). name ≢ first.real f.name.items) (sym c.found-item.is) (All-get_or (λ (f : Found). name ≢ first.real f.name.items) c.args.all.now c.loop-found.found-index c.found-item.result c.loop-found-test.true other)))
           ∙ c.loop-found.invariant.5 name other,
-      so_far_more _ c.args.mode (take c.loop-found.found-index c.args.all.now) _ c.found-item.result c.look-outcome.result _ _ _ _ _ _ _ _ _ _ _ _ _ _ _ (take_one c.args.all.now c.loop-found.found-index c.found-item.result c.loop-found-test.true c.found-item.is)
-          c.loop-found.invariant.6 c.add-tally.ensures c.look-outcome.ensures.sees good (subst (λ n. TookBy (g.O.ByteSink.failed c.report.new.streams.out) (g.O.ByteSink.taken c.loop-found.streams.out) (g.O.ByteSink.taken c.report.new.streams.out) (report_of c.args.mode n c.look-outcome.result).out) c.as_slice.ensures.value c.report.ensures.out)
-          good' (subst (λ n. TookBy (g.E.ByteSink.failed c.report.new.streams.err) (g.E.ByteSink.taken c.loop-found.streams.err) (g.E.ByteSink.taken c.report.new.streams.err) (report_of c.args.mode n c.look-outcome.result).err) c.as_slice.ensures.value c.report.ensures.err)
+      so_far_more _ c.args.mode (take c.loop-found.found-index c.args.all.now) _ c.found-item.result c.look_at-outcome.result _ _ _ _ _ _ _ _ _ _ _ _ _ _ _ (take_one c.args.all.now c.loop-found.found-index c.found-item.result c.loop-found-test.true c.found-item.is)
+          c.loop-found.invariant.6 c.add-tally.ensures c.look_at-outcome.ensures.sees good (subst (λ n. TookBy (g.O.ByteSink.failed c.report.new.streams.out) (g.O.ByteSink.taken c.loop-found.streams.out) (g.O.ByteSink.taken c.report.new.streams.out) (report_of c.args.mode n c.look_at-outcome.result).out) c.as_slice.ensures.value c.report.ensures.out)
+          good' (subst (λ n. TookBy (g.E.ByteSink.failed c.report.new.streams.err) (g.E.ByteSink.taken c.loop-found.streams.err) (g.E.ByteSink.taken c.report.new.streams.err) (report_of c.args.mode n c.look_at-outcome.result).err) c.as_slice.ensures.value c.report.ensures.err)
           (c.worse_status-status.ensures ∙ ap (worse_status c.loop-found.status) (c.status_of.ensures name)),
     )
 
 pub returns-then-is_err-clause-kept : goal.returns-then-is_err-clause-kept
-returns-then-is_err-clause-kept g c name = kept_trans _ _ _ _ (c.loop-found.invariant.2 name) (c.look-outcome.ensures.kept name)
+returns-then-is_err-clause-kept g c name = kept_trans _ _ _ _ (c.loop-found.invariant.2 name) (c.look_at-outcome.ensures.kept name)
 
 pub returns-clause-done : goal.returns-clause-done
 returns-clause-done g c ne =
@@ -51,11 +51,11 @@ returns-clause-done g c ne =
 pub returns-then-is_err-clause-ran : goal.returns-then-is_err-clause-ran
 returns-then-is_err-clause-ran g c =
     tallies_as _ _ _ _ _ _ _ _ c.shows_lines-shows.ensures
-    (run_cut _ c.args.mode c.args.all.now (take c.loop-found.found-index c.args.all.now) (drop (c.loop-found.found-index + 1) c.args.all.now) c.found-item.result c.look-outcome.result _ _ _ _ _ _ _ _ _ _
+    (run_cut _ c.args.mode c.args.all.now (take c.loop-found.found-index c.args.all.now) (drop (c.loop-found.found-index + 1) c.args.all.now) c.found-item.result c.look_at-outcome.result _ _ _ _ _ _ _ _ _ _
     (split_here c.args.all.now c.loop-found.found-index c.found-item.result c.loop-found-test.true c.found-item.is)
-    c.loop-found.invariant.6 c.add-tally.ensures c.look-outcome.ensures.sees (one_bad _ _ (g.O.ByteSink.failed c.report.new.streams.out) (g.E.ByteSink.failed c.report.new.streams.err) c.report.ensures.failed c.is_err.ensures.value c.if-is_err.true)
-    (subst (λ n. TookBy (g.O.ByteSink.failed c.report.new.streams.out) (g.O.ByteSink.taken c.loop-found.streams.out) (g.O.ByteSink.taken c.report.new.streams.out) (report_of c.args.mode n c.look-outcome.result).out) c.as_slice.ensures.value c.report.ensures.out)
-    (subst (λ n. TookBy (g.E.ByteSink.failed c.report.new.streams.err) (g.E.ByteSink.taken c.loop-found.streams.err) (g.E.ByteSink.taken c.report.new.streams.err) (report_of c.args.mode n c.look-outcome.result).err) c.as_slice.ensures.value c.report.ensures.err))
+    c.loop-found.invariant.6 c.add-tally.ensures c.look_at-outcome.ensures.sees (one_bad _ _ (g.O.ByteSink.failed c.report.new.streams.out) (g.E.ByteSink.failed c.report.new.streams.err) c.report.ensures.failed c.is_err.ensures.value c.if-is_err.true)
+    (subst (λ n. TookBy (g.O.ByteSink.failed c.report.new.streams.out) (g.O.ByteSink.taken c.loop-found.streams.out) (g.O.ByteSink.taken c.report.new.streams.out) (report_of c.args.mode n c.look_at-outcome.result).out) c.as_slice.ensures.value c.report.ensures.out)
+    (subst (λ n. TookBy (g.E.ByteSink.failed c.report.new.streams.err) (g.E.ByteSink.taken c.loop-found.streams.err) (g.E.ByteSink.taken c.report.new.streams.err) (report_of c.args.mode n c.look_at-outcome.result).err) c.as_slice.ensures.value c.report.ensures.err))
 
 pub returns-clause-ran : goal.returns-clause-ran
 returns-clause-ran g c =

@@ -1,7 +1,7 @@
 use Rattle.std.proofs.Common.{◌∙◌, ap}
 use Rattle.file_tree.specs.Files.{fault_of_reader, with_fault}
 use Rattle.tree_format.proofs.KeptFormatLemmas.{loads_told, notes_load}
-use Rattle.tree_format.proofs.look.load.Goals as goal
+use Rattle.tree_format.proofs.visit.load.Goals as goal
 
 pub returns-clause-loads : goal.returns-clause-loads
 returns-clause-loads g c =

@@ -1,5 +1,5 @@
 use Rattle.tree_format.proofs.KeptFormatLemmas.{scan_looks, text_asks, text_looks}
-use Rattle.tree_format.proofs.look.change_source.Goals as goal
+use Rattle.tree_format.proofs.visit.change_source.Goals as goal
 
 pub returns-in-Ok-accepts-clause-looks : goal.returns-in-Ok-accepts-clause-looks
 returns-in-Ok-accepts-clause-looks g c =

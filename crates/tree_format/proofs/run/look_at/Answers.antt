@@ -1,7 +1,7 @@
 use Rattle.std.proofs.Common.{◌≡◌, false, subst}
 use Rattle.tree_format.specs.Runs.{Settled, is_failed}
 use Rattle.tree_format.proofs.KeptFormatLemmas.{visit_settled}
-use Rattle.tree_format.proofs.run.look.Goals as goal
+use Rattle.tree_format.proofs.run.look_at.Goals as goal
 
 pub returns-in-None-clause-settled : goal.returns-in-None-clause-settled
 returns-in-None-clause-settled g c =

@@ -2,7 +2,7 @@ use Rattle.std.proofs.Common.{subst}
 use Rattle.file_tree.specs.Files.{Faults}
 use Rattle.tree_format.specs.Looks.{Notes}
 use Rattle.tree_format.proofs.KeptFormatLemmas.{asks_loaded, completed_asks, completed_looks, completed_notes, visits_loaded}
-use Rattle.tree_format.proofs.look.visit.Goals as goal
+use Rattle.tree_format.proofs.visit.visit.Goals as goal
 
 pub returns-in-Ok-clause-visits : goal.returns-in-Ok-clause-visits
 returns-in-Ok-clause-visits g c =
