@@ -25,16 +25,16 @@ fn add_of_comment(
     file: u32,
     tokens: &Tokens<'_>,
     number: usize,
-    walker: &mut PositionCursor<'_>,
+    cursor: &mut PositionCursor<'_>,
     faults: &mut Vec<CommentFault>,
 ) -> Result<(), AllocError>
     requires within { number < length tokens.now.tokens }
-    requires before { IsBefore tokens.now number walker.old }
+    requires before { IsBefore tokens.now number cursor.old }
     requires comment { (t : Lexeme) → slice_get tokens.now.tokens number ≡ Some t
         → is LineComment t.kind ≡ true }
     ensures adds { OnOk result (Adds (record { number = file; source = tokens.now })
         number faults.old.items faults.new.items) }
-    ensures before { OnOk result (IsBefore tokens.now number walker.new) }
+    ensures before { OnOk result (IsBefore tokens.now number cursor.new) }
 {
     let token = tokens.get(number);
     let said = fault_text(alloc, token.text.as_bytes())?;
@@ -43,7 +43,7 @@ fn add_of_comment(
         return Ok(());
     }
     let text = String::from_utf8_lossy(alloc, said)?;
-    let at = walker.position_of(tokens, number);
+    let at = cursor.position_of(tokens, number);
     faults.push(CommentFault { file, at, text })?;
     Ok(())
 }
@@ -54,19 +54,19 @@ fn add_of_token(
     file: u32,
     tokens: &Tokens<'_>,
     number: usize,
-    walker: &mut PositionCursor<'_>,
+    cursor: &mut PositionCursor<'_>,
     faults: &mut Vec<CommentFault>,
 ) -> Result<(), AllocError>
     requires within { number < length tokens.now.tokens }
-    requires before { IsBefore tokens.now number walker.old }
+    requires before { IsBefore tokens.now number cursor.old }
     ensures adds { OnOk result (Adds (record { number = file; source = tokens.now })
         number faults.old.items faults.new.items) }
-    ensures before { OnOk result (IsBefore tokens.now number walker.new) }
+    ensures before { OnOk result (IsBefore tokens.now number cursor.new) }
 {
     if !is_line_comment(tokens.kind(number)) {
         return Ok(());
     }
-    add_of_comment(alloc, file, tokens, number, walker, faults)
+    add_of_comment(alloc, file, tokens, number, cursor, faults)
 }
 
 /// Appends the comments of the file of this number that are meant to silence a rule and don't, in their order, by one
@@ -80,9 +80,9 @@ pub fn add_comment_faults(
     ensures { OnOk result (map fault_view faults.new.items ≡ map fault_view faults.old.items
         ++ faults_in (record { number = file; source = tokens.now })) }
 {
-    let mut walker = PositionCursor::new(tokens.source().text());
+    let mut cursor = PositionCursor::new(tokens.source().text());
     for number in 0..tokens.len() {
-        add_of_token(alloc, file, tokens, number, &mut walker, faults)?;
+        add_of_token(alloc, file, tokens, number, &mut cursor, faults)?;
     }
     Ok(())
 }
