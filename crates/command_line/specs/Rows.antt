@@ -41,7 +41,9 @@ error_line program text = error program (line text)
 
 -- `LINE:COLUMN: TEXT`, to the end of the line
 abbrev pub fault_words : Fault → List ℕ
-fault_words fault = decimal fault.at.line ++ (codes ":" ++ (decimal fault.at.column ++ (codes ": " ++ line (fault_text fault.kind))))
+fault_words fault =
+    decimal fault.at.line
+    ++ (codes ":" ++ (decimal fault.at.column ++ (codes ": " ++ line (fault_text fault.kind))))
 
 abbrev pub write_failed : Program → List ℕ
 write_failed program = error_line program (codes "write failed")
@@ -55,7 +57,9 @@ out_of_memory program = fails_with program (codes "out of memory")
 
 -- the row of a message, or where there was no memory for its text, of that
 abbrev pub IsLineRow : {A E : Type 0} → Program → Result (String A) E → ℕ → Row → Type 0
-IsLineRow program message status row = MatchResult message (λ text. row ≡ message_row (string_bytes text) status) (λ _. row ≡ out_of_memory program)
+IsLineRow program message status row =
+    MatchResult message (λ text. row ≡ message_row (string_bytes text) status) (λ _. row
+    ≡ out_of_memory program)
 
 -- ---- devices
 
@@ -86,10 +90,12 @@ pub record End : Type 0 where
   pub status : ℕ
 
 abbrev pub end_of : {O E : Type 0} → Ghosts O → O → O → Ghosts E → E → E → ℕ → End
-end_of out out_old out_new err err_old err_new status = record { out = writer out out_old out_new; err = writer err err_old err_new; status = status }
+end_of out out_old out_new err err_old err_new status =
+    record { out = writer out out_old out_new; err = writer err err_old err_new; status = status }
 
 -- the same of both streams of a run
-abbrev pub end_of_streams : {O E : Type 0} → Ghosts O → Ghosts E → Streams O E → Streams O E → ℕ → End
+abbrev pub end_of_streams : {O E : Type 0} → Ghosts O → Ghosts E → Streams O E → Streams O E → ℕ
+    → End
 end_of_streams out err old new status = end_of out old.out new.out err old.err new.err status
 
 -- a writer took the text, or where it failed a part of it from its front
@@ -120,7 +126,8 @@ pub record Shows (program : Program) (row : Row) (end : End) : Type 0 where
   pub exit : end.status ≡ (if end.out.failed || end.err.failed then program.failure else row.status)
   pub flush : end.out.failed ≡ false → 0 < length row.out → end.out.flushed ≡ true
   pub once : end.out.failed ≡ false → 0 < length row.out → IsFlushedOnce end.out
-  pub unflushed : end.err.failed ≡ false → 0 < length (error_output program end.out.failed row) → end.err.flushed ≡ false
+  pub unflushed : end.err.failed ≡ false → 0 < length (error_output program end.out.failed row)
+      → end.err.flushed ≡ false
   pub no_flush : IsUnflushed end.err
   pub no_output : length row.out ≡ 0 → end.out.failed ≡ false
   pub no_output_flush : length row.out ≡ 0 → IsUnflushed end.out

@@ -12,7 +12,8 @@ is_known name = list_any (λ rule. names rule name) all_rules
 
 -- the names in the comment of this text that mean none
 abbrev pub unknown_names : List ℕ → List (List ℕ)
-unknown_names text = filter (λ name. not (is_known name)) (map trim_blanks (parts (comment_words text)))
+unknown_names text =
+    filter (λ name. not (is_known name)) (map trim_blanks (parts (comment_words text)))
 
 -- ` or "NAME"`
 abbrev pub or_name : List ℕ → List ℕ
@@ -29,4 +30,6 @@ has_file_keyword text = begins (codes "tflint-ignore-file:") (comment_words text
 
 -- THE MESSAGE about the line comment of this text: none for most
 abbrev pub fault_text : List ℕ → List ℕ
-fault_text text = if has_file_keyword text then codes "tflint-ignore-file silences nothing here" else unknown_text (unknown_names text)
+fault_text text =
+    if has_file_keyword text then codes "tflint-ignore-file silences nothing here"
+    else unknown_text (unknown_names text)

@@ -21,15 +21,19 @@ names_in_listing listing = slice_split (λ b. b == 0) listing
 
 -- a name that is looked at if the walk meets it in a folder
 abbrev pub is_met : Chosen → Name → Name → Bool
-is_met chosen folder name = not (length name == 0) && not (is_passed_over name) && not (is_excluded chosen (folder ++ name))
+is_met chosen folder name =
+    not (length name == 0) && not (is_passed_over name) && not (is_excluded chosen (folder ++ name))
 
 -- a folder has this name, and the name is one to be looked at
 abbrev pub IsEntry : Bool → Files → Chosen → Name → Name → Type 0
-IsEntry sure files chosen folder name = (listing : List ℕ) × Says sure (files.listing (place folder)) listing × Contains (names_in_listing listing) name × (is_met chosen folder name ≡ true)
+IsEntry sure files chosen folder name =
+    (listing : List ℕ) × Says sure (files.listing (place folder)) listing
+    × Contains (names_in_listing listing) name × (is_met chosen folder name ≡ true)
 
 -- a folder has a folder of this name
 abbrev pub HasFolder : Bool → Files → Chosen → Name → Name → Type 0
-HasFolder sure files chosen folder name = IsEntry sure files chosen folder name × Says sure (files.entry (folder ++ name)) Folder
+HasFolder sure files chosen folder name =
+    IsEntry sure files chosen folder name × Says sure (files.entry (folder ++ name)) Folder
 
 -- a path is no folder, links followed
 abbrev pub IsGiven : Bool → Files → Name → Type 0
@@ -37,35 +41,49 @@ IsGiven sure files path = (kind : Kind) × Says sure (files.kind path) kind × (
 
 -- A NAMED FILE that is taken
 abbrev pub IsNamed : Bool → Files → Chosen → Name → Type 0
-IsNamed sure files chosen path = IsGiven sure files path × (is_wanted chosen (tidied path) ≡ true) × (is_excluded chosen (tidied path) ≡ false)
+IsNamed sure files chosen path =
+    IsGiven sure files path × (is_wanted chosen (tidied path) ≡ true)
+    × (is_excluded chosen (tidied path) ≡ false)
 
 -- a named file whose name isn't of a kind that is taken
 abbrev pub IsOther : Bool → Files → Chosen → Name → Type 0
-IsOther sure files chosen path = IsGiven sure files path × (is_wanted chosen (tidied path) ≡ false) × (is_excluded chosen (tidied path) ≡ false)
+IsOther sure files chosen path =
+    IsGiven sure files path × (is_wanted chosen (tidied path) ≡ false)
+    × (is_excluded chosen (tidied path) ≡ false)
 
 -- an entry is a file, or a link that leads to one
 abbrev pub IsFile : Bool → Files → Name → Type 0
 IsFile sure files name =
-    ((identity : Identity) × Says sure (files.entry name) (File identity)) ⊎ (Says sure (files.entry name) Link × ((identity : Identity) × Says sure (files.kind name) (File identity)))
+    ((identity : Identity) × Says sure (files.entry name) (File identity))
+    ⊎ (Says sure (files.entry name) Link
+    × ((identity : Identity) × Says sure (files.kind name) (File identity)))
 
 -- an entry is a pipe, a socket or a device, or a link that leads to one
 abbrev pub IsSpecial : Bool → Files → Name → Type 0
-IsSpecial sure files name = Says sure (files.entry name) Other ⊎ (Says sure (files.entry name) Link × Says sure (files.kind name) Other)
+IsSpecial sure files name =
+    Says sure (files.entry name) Other
+    ⊎ (Says sure (files.entry name) Link × Says sure (files.kind name) Other)
 
 -- an entry is a file; or a pipe, a socket or a device, if these are taken
 abbrev pub IsFileFor : Bool → Files → Chosen → Name → Type 0
-IsFileFor sure files chosen name = IsFile sure files name ⊎ ((chosen.specials ≡ true) × IsSpecial sure files name)
+IsFileFor sure files chosen name =
+    IsFile sure files name ⊎ ((chosen.specials ≡ true) × IsSpecial sure files name)
 
 -- a folder has such an entry of this name, and the name is taken
 abbrev pub HasFile : Bool → Files → Chosen → Name → Name → Type 0
-HasFile sure files chosen folder name = IsEntry sure files chosen folder name × IsFileFor sure files chosen (folder ++ name) × (is_taken name ≡ true)
+HasFile sure files chosen folder name =
+    IsEntry sure files chosen folder name × IsFileFor sure files chosen (folder ++ name)
+    × (is_taken name ≡ true)
 
 -- these parts of a name lead down from a folder, each a folder in the one before
 abbrev pub Leads : Bool → Files → Chosen → Name → List Name → Type 0
 Leads sure files chosen folder [] = Unit {0}
-Leads sure files chosen folder (part ∷ parts) = HasFolder sure files chosen folder part × Leads sure files chosen (inside folder part) parts
+Leads sure files chosen folder (part ∷ parts) =
+    HasFolder sure files chosen folder part × Leads sure files chosen (inside folder part) parts
 
 -- A FILE BELOW a given folder: these parts lead down to its folder, and this is the last part of its name
 abbrev pub IsBelow : Bool → Files → Chosen → Name → List Name → Name → Type 0
 IsBelow sure files chosen path parts last =
-    Says sure (files.kind path) Folder × Leads sure files chosen (top path) parts × HasFile sure files chosen (within (top path) parts) last × (is_excluded chosen (tidied path) ≡ false)
+    Says sure (files.kind path) Folder × Leads sure files chosen (top path) parts
+    × HasFile sure files chosen (within (top path) parts) last
+    × (is_excluded chosen (tidied path) ≡ false)

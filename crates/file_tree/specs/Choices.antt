@@ -17,7 +17,8 @@ pub record Chosen : Type 0 where
 
 -- THE CHOICE by exclusions, each of which is a name or a path
 abbrev pub chosen_by : Bool → List Name → Chosen
-chosen_by any_name excluded = record { any_name = any_name; specials = false; names = excluded; folders = map top excluded }
+chosen_by any_name excluded =
+    record { any_name = any_name; specials = false; names = excluded; folders = map top excluded }
 
 -- with pipes, sockets and devices
 abbrev pub with_specials : Bool → Chosen → Chosen
@@ -32,7 +33,9 @@ abbrev pub any : Chosen
 any = with_specials true (chosen_by true [])
 
 abbrev pub chosen : Choice → Chosen
-chosen choice = with_specials choice.specials (chosen_by choice.any_name (map (λ name. name.now) choice.excluded.now))
+chosen choice =
+    with_specials choice.specials
+    (chosen_by choice.any_name (map (λ name. name.now) choice.excluded.now))
 
 -- ---- exclusions
 
@@ -42,7 +45,8 @@ plain name = if ends (codes "/") name then take (length name - 1) name else name
 
 -- a part of a path has this name
 abbrev pub has_part : Name → Name → Bool
-has_part name path = list_any (λ part. is_step part && bytes_eq part (plain name)) (slice_split (λ b. b == 47) path)
+has_part name path =
+    list_any (λ part. is_step part && bytes_eq part (plain name)) (slice_split (λ b. b == 47) path)
 
 -- a path is that of a folder, or is below it; the current folder isn't excluded
 abbrev pub is_at : Name → Name → Bool
@@ -50,7 +54,9 @@ is_at folder path = nat_lt 0 (length folder) && (bytes_eq path (plain folder) ||
 
 -- EXCLUDED is a path with one of the names, one of the paths, and everything below
 abbrev pub is_excluded : Chosen → Name → Bool
-is_excluded chosen path = list_any (λ name. has_part name path) chosen.names || list_any (λ folder. is_at folder path) chosen.folders
+is_excluded chosen path =
+    list_any (λ name. has_part name path) chosen.names
+    || list_any (λ folder. is_at folder path) chosen.folders
 
 -- ---- named files
 

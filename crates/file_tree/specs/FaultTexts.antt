@@ -7,7 +7,8 @@ abbrev pub tree_fault_text : TreeFault → List ℕ
 tree_fault_text NotUtf8 = codes "the name isn't UTF-8"
 tree_fault_text OtherKind = codes "not named as a Terraform file; --any-name formats it"
 tree_fault_text Missing = codes "no such file or folder"
-tree_fault_text NoInput = codes "no such file or folder; tffmt reads standard input, and tffmt-all formats files"
+tree_fault_text NoInput =
+    codes "no such file or folder; tffmt reads standard input, and tffmt-all formats files"
 tree_fault_text DeadLink = codes "the link leads nowhere"
 tree_fault_text NotAFile = codes "not a file"
 tree_fault_text Unreadable = codes "cannot be read"

@@ -30,7 +30,8 @@ of_digit rights false = rights.other
 -- other way round, so each gets the rights that both had
 abbrev pub kept : Bool → Rights → Rights
 kept true old = old
-kept false old = record { own = old.own; group = both old.group old.other; other = both old.group old.other }
+kept false old =
+    record { own = old.own; group = both old.group old.other; other = both old.group old.other }
 
 -- the bits of a mode for those who run the file, and for its removal: setuid, setgid and sticky
 abbrev pub special : ℕ → ℕ
@@ -41,11 +42,13 @@ special mode = mode / 512 % 8
 abbrev pub new_mode : ℕ → Bool → Bool → ℕ
 new_mode old has_owner has_group =
     let rights : Rights = kept has_group (rights_of old) in
-    (if has_owner && has_group then special old else 0) * 512 + (rights.own * 64 + (rights.group * 8 + rights.other))
+    (if has_owner && has_group then special old
+    else 0) * 512 + (rights.own * 64 + (rights.group * 8 + rights.other))
 
 -- NO RIGHT MORE: nobody but the owner has a right by the new mode that he hadn't by the old one, whichever groups he is
 -- in. If the group is kept, he is in it both before and after, or never
 abbrev pub GivesNoMore : Bool → ℕ → ℕ → Type 0
 GivesNoMore has_group old new =
     (was_in is_in : Bool) (right : ℕ) → is_right right ≡ true → (has_group ≡ true → was_in ≡ is_in)
-    → allows (of_digit (rights_of new) is_in) right ≡ true → allows (of_digit (rights_of old) was_in) right ≡ true
+    → allows (of_digit (rights_of new) is_in) right ≡ true
+    → allows (of_digit (rights_of old) was_in) right ≡ true

@@ -11,10 +11,13 @@ ends back name = list.ends_with (λ a b. a == b) name back
 
 -- a file or folder of this name is passed over: `.NAME`, `NAME~` and `#NAME#`
 abbrev pub is_passed_over : List ℕ → Bool
-is_passed_over name = begins (codes ".") name || ends (codes "~") name || (nat_lt 1 (length name) && begins (codes "#") name && ends (codes "#") name)
+is_passed_over name =
+    begins (codes ".") name || ends (codes "~") name
+    || (nat_lt 1 (length name) && begins (codes "#") name && ends (codes "#") name)
 
 -- a file of this name is taken
 abbrev pub is_taken : List ℕ → Bool
 is_taken name =
-    ends (codes ".tf") name || ends (codes ".tfvars") name || ends (codes ".tofu") name || ends (codes ".tftest.hcl") name || ends (codes ".tfmock.hcl") name
+    ends (codes ".tf") name || ends (codes ".tfvars") name || ends (codes ".tofu") name
+    || ends (codes ".tftest.hcl") name || ends (codes ".tfmock.hcl") name
     || ends (codes ".tfquery.hcl") name || ends (codes ".tofutest.hcl") name

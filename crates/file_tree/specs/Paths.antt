@@ -24,12 +24,16 @@ tidied path = root path ++ join_with_byte 47 (steps path)
 
 -- A GIVEN FOLDER, as it is listed: `./a//b` is `a/b/`
 abbrev pub top : Name → Name
-top path = if length (tidied path) == 0 || bytes_eq (tidied path) (codes "/") then tidied path else tidied path ++ codes "/"
+top path =
+    if length (tidied path) == 0 || bytes_eq (tidied path) (codes "/") then tidied path
+    else tidied path ++ codes "/"
 
 -- the name under which a path is reported that can't be looked at: tidied, unless nothing is left of it. A `/` at its
 -- end stays: `file/` isn't `file`
 abbrev pub report_name : Name → Name
-report_name path = if length (tidied path) == 0 then path else tidied path ++ (if ends (codes "/") path then codes "/" else [])
+report_name path =
+    if length (tidied path) == 0 then path
+    else tidied path ++ (if ends (codes "/") path then codes "/" else [])
 
 -- ---- folders below
 

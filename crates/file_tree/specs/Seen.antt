@@ -15,7 +15,9 @@ all_found named looked = named ++ flat_map (λ l. l.found.items) looked
 
 -- WHAT PATHS STAND FOR, by what the device tells, and by its faults before and after: in order, these are the files
 -- that they stand for, each report is real, and in each folder that was listed they are its files
-pub record Sees (files : Files) (paths : List Name) (was is : Faults) (named : List Found) (looked : List ListedFolder) : Type 0 where
-  pub finds : (found : List Found) → Orders (all_found named looked) found → Finds files any paths found
+pub record Sees (files : Files) (paths : List Name) (was is : Faults) (named : List Found)
+    (looked : List ListedFolder) : Type 0 where
+  pub finds : (found : List Found) → Orders (all_found named looked) found
+      → Finds files any paths found
   pub real : AreReal files any paths was is (all_found named looked)
   pub each : (l : ListedFolder) → Contains looked l → FindsIn files l.folder.items l.found.items

@@ -89,7 +89,9 @@ drops _ _ = false
 -- what the grammar sees of a list whose first token has this number
 abbrev pub lookaheads_from : ℕ → List Lexeme → List Lookahead
 lookaheads_from n [] = []
-lookaheads_from n (t ∷ ts) = if is_trivia (class_of t) then lookaheads_from (n + 1) ts else record { class = class_of t; number = n } ∷ lookaheads_from (n + 1) ts
+lookaheads_from n (t ∷ ts) =
+    if is_trivia (class_of t) then lookaheads_from (n + 1) ts
+    else record { class = class_of t; number = n } ∷ lookaheads_from (n + 1) ts
 
 -- what the grammar sees of a token list
 abbrev pub lookaheads : List Lexeme → List Lookahead

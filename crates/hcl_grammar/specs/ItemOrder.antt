@@ -18,7 +18,8 @@ past (item.Label l) = l.first + 1
 
 -- the tokens that an item names are in order, from a number on to before another
 abbrev pub Spans : ℕ → Item → ℕ → Type 0
-Spans from (item.Attribute level name first end) to = (from ≤ name) × (name < first) × (first ≤ end) × (end ≤ to)
+Spans from (item.Attribute level name first end) to =
+    (from ≤ name) × (name < first) × (first ≤ end) × (end ≤ to)
 Spans from (item.Block level kind end) to = (from ≤ kind) × (end ≤ to)
 Spans from (item.Label l) to = (from ≤ l.first) × (l.first < to)
 

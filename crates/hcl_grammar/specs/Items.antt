@@ -42,7 +42,8 @@ closing_quote (t ∷ ts) = if is QuoteClose t.kind then t.number else closing_qu
 abbrev pub label_at : ℕ → Kind → List Numbered → List Item
 label_at number kind rest =
     if is Ident kind then item.Label (record { first = number; last = number }) ∷ []
-    else if is QuoteOpen kind then item.Label (record { first = number; last = closing_quote rest }) ∷ []
+    else if is QuoteOpen kind
+    then item.Label (record { first = number; last = closing_quote rest }) ∷ []
     else []
 
 -- the labels that stand before the first opening brace
@@ -65,14 +66,16 @@ body ts = filter (λ t. nat_lt (t.number + 1) (block_end ts)) (after_brace ts)
 
 -- a block with its labels and the items of its body, where `rest` follows its kind
 abbrev pub block : (List Numbered → List Item) → ℕ → Numbered → List Numbered → List Item
-block inner level kind rest = item.Block level kind.number (block_end rest) ∷ (labels rest ++ inner (body rest))
+block inner level kind rest =
+    item.Block level kind.number (block_end rest) ∷ (labels rest ++ inner (body rest))
 
 -- the item of a piece: an attribute where the second token is `=`
 abbrev pub item_of : (List Numbered → List Item) → ℕ → List Numbered → List Item
 item_of inner level [] = []
 item_of inner level (kind ∷ []) = block inner level kind []
 item_of inner level (name ∷ second ∷ rest) =
-    if is Assign second.kind then item.Attribute level name.number (second.number + 1) (end_of (second ∷ rest)) ∷ []
+    if is Assign second.kind
+    then item.Attribute level name.number (second.number + 1) (end_of (second ∷ rest)) ∷ []
     else block inner level name (second ∷ rest)
 
 -- the items at a level, and those in their bodies to so many levels; a body is shorter than its piece, so the number of

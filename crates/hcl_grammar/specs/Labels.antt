@@ -20,4 +20,5 @@ text_of ts n = first_text (drop n ts)
 
 -- THE TEXT of a label
 abbrev pub label_text : List Numbered → Label → List ℕ
-label_text ts l = if l.first == l.last then text_of ts l.first else first_literal (drop (l.first + 1) ts)
+label_text ts l =
+    if l.first == l.last then text_of ts l.first else first_literal (drop (l.first + 1) ts)

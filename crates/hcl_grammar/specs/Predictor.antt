@@ -25,7 +25,8 @@ max_directives = 256
 
 -- a directive opens, unless so many are open
 abbrev pub opening_directive : ℕ → ℕ → List Marked → Effect
-opening_directive count n ss = if nat_lt count max_directives then on (count + 1) ss else stop (TooDeep n)
+opening_directive count n ss =
+    if nat_lt count max_directives then on (count + 1) ss else stop (TooDeep n)
 
 -- what the row of the first symbol does, where the others give passed
 abbrev pub row_effect : ℕ → Action → List Marked → Effect → Lookahead → Effect
@@ -38,7 +39,9 @@ row_effect count (closes xs) ss passed t = on (count - 1) (xs ++ ss)
 -- one token
 abbrev pub effect : ℕ → List Marked → Lookahead → Effect
 effect count [] t = stop (UnexpectedToken t.number)
-effect count (s at m ∷ ss) t = if drops m t.class then on count (s at m ∷ ss) else row_effect count (row s m t) ss (effect count ss t) t
+effect count (s at m ∷ ss) t =
+    if drops m t.class then on count (s at m ∷ ss)
+    else row_effect count (row s m t) ss (effect count ss t) t
 
 abbrev pub next : Effect → (ℕ → List Marked → Option Refusal) → Option Refusal
 next (on count ss) go = go count ss

@@ -25,7 +25,8 @@ start_of tokens n = get_or (map (λ t. t.start) tokens) n 0
 
 -- the fault that a refusal of a source's tokens is reported as
 abbrev pub fault_at : Scanned → Refusal → Fault
-fault_at s (UnexpectedToken n) = record { kind = fault.UnexpectedToken; at = place s.text (start_of s.tokens n) }
+fault_at s (UnexpectedToken n) =
+    record { kind = fault.UnexpectedToken; at = place s.text (start_of s.tokens n) }
 fault_at s UnexpectedEnd = record { kind = fault.UnexpectedEnd; at = place s.text (length s.text) }
 fault_at s (TooDeep n) = record { kind = fault.TooDeep; at = place s.text (start_of s.tokens n) }
 
@@ -40,5 +41,7 @@ verdict s = verdict_by s (refusal_of (lookaheads s.tokens))
 -- THE VERDICT on a text: it is a file of these tokens, or has this one fault, of the scan or of the grammar
 abbrev pub IsTextVerdict : List ℕ → Result Scanned Fault → Type 0
 IsTextVerdict text result =
-    ((kind : FaultKind) × (at : ℕ) × IsScanFault text kind at × (result ≡ Err (record { kind = kind; at = place text at })))
-    ⊎ ((ts : List Lexeme) × Scans text ts × (result ≡ verdict (record { text = text; tokens = ts })))
+    ((kind : FaultKind) × (at : ℕ) × IsScanFault text kind at
+    × (result ≡ Err (record { kind = kind; at = place text at })))
+    ⊎ ((ts : List Lexeme) × Scans text ts
+    × (result ≡ verdict (record { text = text; tokens = ts })))

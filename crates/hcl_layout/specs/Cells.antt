@@ -38,7 +38,8 @@ is_assignment t = is kind.Assign t.kind && not t.inside_heredoc
 
 -- an inline comment with a newline in it, so that the line continues below it
 abbrev pub is_multiline : Lexeme → Bool
-is_multiline t = is kind.InlineComment t.kind && not t.inside_heredoc && list_any (λ b. b == 10) t.text
+is_multiline t =
+    is kind.InlineComment t.kind && not t.inside_heredoc && list_any (λ b. b == 10) t.text
 
 abbrev pub has_multiline : Line → Bool
 has_multiline = list_any is_multiline
@@ -53,7 +54,9 @@ if_level line (Some i) = if is_level (net_of (drop i line)) then Some i else Non
 
 -- the line's first assignment sign, as a cell; a later sign never begins one
 abbrev pub assign_cell : Line → Option ℕ
-assign_cell line = if has_multiline line then None else if_level (before_comment line) (first_place is_assignment (before_comment line))
+assign_cell line =
+    if has_multiline line then None
+    else if_level (before_comment line) (first_place is_assignment (before_comment line))
 
 -- the trailing comment, if the line is part of runs of comments
 abbrev pub running_comment : Line → Option ℕ

@@ -13,7 +13,9 @@ widest (Some width ∷ rest) = max width (widest rest)
 abbrev pub columns_after : List (Option ℕ) → List (Option ℕ) → List (Option ℕ)
 columns_after before [] = []
 columns_after before (None ∷ rest) = None ∷ columns_after (None ∷ before) rest
-columns_after before (Some width ∷ rest) = Some (max (widest before) (widest (Some width ∷ rest))) ∷ columns_after (Some width ∷ before) rest
+columns_after before (Some width ∷ rest) =
+    Some (max (widest before) (widest (Some width ∷ rest)))
+    ∷ columns_after (Some width ∷ before) rest
 
 abbrev pub columns : List (Option ℕ) → List (Option ℕ)
 columns = columns_after []

@@ -28,7 +28,8 @@ blanks before subject after = if has_blank before subject after then 1 else 0
 -- the gaps after the subject
 abbrev pub gaps_after : Option Lexeme → Lexeme → Line → List ℕ
 gaps_after before subject [] = []
-gaps_after before subject (after ∷ line) = blanks before subject after ∷ gaps_after (Some subject) after line
+gaps_after before subject (after ∷ line) =
+    blanks before subject after ∷ gaps_after (Some subject) after line
 
 abbrev pub indent : ℕ → Lexeme → ℕ
 indent level t = if is kind.Newline t.kind || t.inside_heredoc then 0 else 2 * level
@@ -67,14 +68,16 @@ set_gap (Some i) gaps line column = slice_set gaps i (gap_to column (width i gap
 abbrev pub align : (Line → Option ℕ) → List ℕ → Line → Option ℕ → List ℕ
 align cell gaps line column = set_gap (cell line) gaps line column
 
-abbrev pub aligned_gaps_by : (Line → Option ℕ) → List (List ℕ) → List Line → List (Option ℕ) → List (List ℕ)
+abbrev pub aligned_gaps_by : (Line → Option ℕ) → List (List ℕ) → List Line → List (Option ℕ)
+    → List (List ℕ)
 aligned_gaps_by cell [] ls cs = []
 aligned_gaps_by cell (g ∷ gs) [] cs = []
 aligned_gaps_by cell (g ∷ gs) (l ∷ ls) [] = []
 aligned_gaps_by cell (g ∷ gs) (l ∷ ls) (c ∷ cs) = align cell g l c ∷ aligned_gaps_by cell gs ls cs
 
 -- the cells of all lines set to their columns: `running` says which lines are part of runs
-abbrev pub aligned_gaps : (Line → Option ℕ) → (Line → Option ℕ) → List (List ℕ) → List Line → List (List ℕ)
+abbrev pub aligned_gaps : (Line → Option ℕ) → (Line → Option ℕ) → List (List ℕ) → List Line
+    → List (List ℕ)
 aligned_gaps cell running gaps ls = aligned_gaps_by cell gaps ls (columns (widths running gaps ls))
 
 -- ---- all lines
@@ -83,7 +86,9 @@ abbrev pub indented_gaps : List Line → List (List ℕ)
 indented_gaps ls = zip_with plain_gaps (levels (map net_of ls)) ls
 
 abbrev pub line_gaps : List Line → List (List ℕ)
-line_gaps ls = aligned_gaps trailing_comment running_comment (aligned_gaps assign_cell assign_cell (indented_gaps ls) ls) ls
+line_gaps ls =
+    aligned_gaps trailing_comment running_comment
+    (aligned_gaps assign_cell assign_cell (indented_gaps ls) ls) ls
 
 -- the gap before each token
 abbrev pub gaps : List Lexeme → List ℕ

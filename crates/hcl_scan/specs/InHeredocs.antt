@@ -19,7 +19,8 @@ pub record SameInside (other : List ℕ) (s twin : State) : Type 0 where
 
 -- the token at another offset
 abbrev pub starting : ℕ → Lexeme → Lexeme
-starting at t = record { kind = t.kind; text = t.text; start = at; inside_heredoc = t.inside_heredoc }
+starting at t =
+    record { kind = t.kind; text = t.text; start = at; inside_heredoc = t.inside_heredoc }
 
 -- the twin reads the token that led to `next`, and is where `next` is
 pub record ReadsToo (other : List ℕ) (twin : State) (t : Lexeme) (next : State) : Type 0 where

@@ -29,7 +29,8 @@ pub record IsText (bytes : List ℕ) : Type 0 where
 abbrev pub IsLoadFaultAt : List ℕ → FaultKind → ℕ → Type 0
 IsLoadFaultAt bytes TooLarge at = (max_source < length bytes) × (at ≡ 0)
 IsLoadFaultAt bytes InvalidUtf8 at = (length bytes ≤ max_source) × IsValidUpTo bytes at
-IsLoadFaultAt bytes ByteOrderMark at = (length bytes ≤ max_source) × IsUtf8 bytes × IsTrue (has_byte_order_mark bytes) × (at ≡ 0)
+IsLoadFaultAt bytes ByteOrderMark at =
+    (length bytes ≤ max_source) × IsUtf8 bytes × IsTrue (has_byte_order_mark bytes) × (at ≡ 0)
 IsLoadFaultAt bytes _ at = ⊥
 
 -- THE FAULT for which bytes are refused
@@ -50,7 +51,8 @@ IsLoadError bytes error.OutOfMemory = Unit {0}
 -- or their fault, with nothing left unless they are too many.
 abbrev pub Loads : List ℕ → Option (List ℕ) → Result (List ℕ) LoadError → Type 0
 Loads bytes left (Ok source) = (source ≡ bytes) × IsText bytes × IsAtEnd left
-Loads bytes left (Err (error.Fault fault)) = IsLoadFault bytes fault × (length bytes ≤ max_source → IsAtEnd left)
+Loads bytes left (Err (error.Fault fault)) =
+    IsLoadFault bytes fault × (length bytes ≤ max_source → IsAtEnd left)
 Loads bytes left (Err error.ReadFailed) = Unit {0}
 Loads bytes left (Err error.OutOfMemory) = Unit {0}
 

@@ -18,17 +18,22 @@ closes_group k = is kind.ParenClose k || is kind.BracketClose k || is kind.SeqCl
 
 -- the kinds that an index may follow
 abbrev pub ends_operand : Kind → Bool
-ends_operand k = is kind.Ident k || is kind.Number k || is kind.QuoteClose k || is kind.ParenClose k || is kind.BracketClose k || is kind.BraceClose k
+ends_operand k =
+    is kind.Ident k || is kind.Number k || is kind.QuoteClose k || is kind.ParenClose k
+    || is kind.BracketClose k || is kind.BraceClose k
 
 -- the binary operators and `!`
 abbrev pub is_operator : Kind → Bool
 is_operator k =
-    is kind.Plus k || is kind.Minus k || is kind.Star k || is kind.Slash k || is kind.Percent k || is kind.And k || is kind.Or k || is kind.Not k
-    || is kind.Equal k || is kind.NotEqual k || is kind.Less k || is kind.Greater k || is kind.LessEqual k || is kind.GreaterEqual k
+    is kind.Plus k || is kind.Minus k || is kind.Star k || is kind.Slash k || is kind.Percent k
+    || is kind.And k || is kind.Or k || is kind.Not k
+    || is kind.Equal k || is kind.NotEqual k || is kind.Less k || is kind.Greater k
+    || is kind.LessEqual k || is kind.GreaterEqual k
 
 -- marks after which an expression begins
 abbrev pub expects_operand : Kind → Bool
-expects_operand k = is kind.Assign k || is kind.Arrow k || is kind.Colon k || is kind.Comma k || is kind.Question k
+expects_operand k =
+    is kind.Assign k || is kind.Arrow k || is kind.Colon k || is kind.Comma k || is kind.Question k
 
 abbrev pub begins_with_equals : List ℕ → Bool
 begins_with_equals [] = false
@@ -52,14 +57,18 @@ is_opening (Some t) = is_opener t.kind || is_operator t.kind || expects_operand 
 abbrev pub would_join : Option Lexeme → Lexeme → Lexeme → Bool
 would_join before subject after =
     (is kind.Dot subject.kind && (is kind.Dot after.kind || is kind.Ellipsis after.kind))
-    || (is kind.Number subject.kind && not (follows_kind (is kind.Dot) before) && is kind.Dot after.kind)
+    || (is kind.Number subject.kind && not (follows_kind (is kind.Dot) before)
+    && is kind.Dot after.kind)
     || (is kind.Not subject.kind && begins_with_equals after.text)
-    || (opens_sequence subject.kind && is kind.SeqClose after.kind && bytes_eq after.text (codes "~}"))
+    || (opens_sequence subject.kind && is kind.SeqClose after.kind
+    && bytes_eq after.text (codes "~}"))
     || (is kind.Colon subject.kind && begins_with_colon after.text)
 
 -- the word `in`, after the last name that a `for` declares
 abbrev pub is_in : Option Lexeme → Lexeme → Bool
-is_in before subject = is kind.Ident subject.kind && bytes_eq subject.text (codes "in") && follows_kind (is kind.Ident) before
+is_in before subject =
+    is kind.Ident subject.kind && bytes_eq subject.text (codes "in")
+    && follows_kind (is kind.Ident) before
 
 -- THE TABLE: one blank between the subject and the token after it; `before` is the token before the subject on its
 -- line. The words in quotation marks are headings of docs/STYLE.md, which has each row with examples.
@@ -78,7 +87,8 @@ has_blank before subject after =
     else if is kind.Comma after.kind || is kind.Ellipsis after.kind then false
     else if is kind.Comma subject.kind then true
     -- "Quotes": a blank there would be text
-    else if is kind.QuoteOpen subject.kind || is kind.Lit subject.kind || is kind.Lit after.kind || is kind.QuoteClose after.kind then false
+    else if is kind.QuoteOpen subject.kind || is kind.Lit subject.kind || is kind.Lit after.kind
+    || is kind.QuoteClose after.kind then false
     -- "`in`" is a word of its own, also before a bracket
     else if is_in before subject then true
     -- "Indexes": a bracket hugs the indexed value
@@ -90,11 +100,13 @@ has_blank before subject after =
     -- brace and the mark of a sequence
     else if is kind.BraceOpen subject.kind && is kind.BraceClose after.kind then false
     else if is kind.BraceOpen subject.kind || is kind.BraceClose after.kind then true
-    else if (opens_sequence subject.kind && is kind.BraceOpen after.kind) || (is kind.BraceClose subject.kind && is kind.SeqClose after.kind) then true
+    else if (opens_sequence subject.kind && is kind.BraceOpen after.kind)
+    || (is kind.BraceClose subject.kind && is kind.SeqClose after.kind) then true
     -- "Quotes": a blank between a sequence and the next would be text
     else if is kind.SeqClose subject.kind && opens_sequence after.kind then false
     -- "Brackets, parentheses" and sequences hug their contents
-    else if is kind.ParenOpen subject.kind || is kind.BracketOpen subject.kind || opens_sequence subject.kind then false
+    else if is kind.ParenOpen subject.kind || is kind.BracketOpen subject.kind
+    || opens_sequence subject.kind then false
     -- "All else" has one blank, except inside a closer
     else not (closes_group after.kind)
 

@@ -17,19 +17,27 @@ end_fault _ = None
 
 -- where something is seen that begins no token
 abbrev pub no_token_fault : Context → List ℕ → FaultKind
-no_token_fault Expression seen = if starts seen (codes "/*") then UnterminatedComment else InvalidCharacter
-no_token_fault (Template _) seen = if starts seen (codes "\\") then InvalidEscape else UnterminatedQuote
+no_token_fault Expression seen =
+    if starts seen (codes "/*") then UnterminatedComment else InvalidCharacter
+no_token_fault (Template _) seen =
+    if starts seen (codes "\\") then InvalidEscape else UnterminatedQuote
 
 -- why the reading ends here
 pub data Lacks (s : State) (kind : FaultKind) : Type 0 where
   at_end : ahead s ≡ [] → end_fault (unclosed_opener s.opens) ≡ Some kind → Lacks s kind
-  no_token : 0 < length (ahead s) → HasNone s.opens s.after_dot (ahead s) → kind ≡ no_token_fault (context s.opens) (ahead s) → Lacks s kind
-  too_deep : (k : Kind) (text rest : List ℕ) → IsLongest s.opens s.after_dot (ahead s) k text rest → max_open < length (open_after k s.opens) → kind ≡ TooDeep → Lacks s kind
-  no_marker_line : (text rest : List ℕ) → IsLongest s.opens s.after_dot (ahead s) HeredocOpen text rest → length s.opens < max_open → ((n : ℕ) → ¬ IsMarkerLine (marker_of text) rest n) → kind ≡ UnterminatedHeredoc → Lacks s kind
+  no_token : 0 < length (ahead s) → HasNone s.opens s.after_dot (ahead s)
+      → kind ≡ no_token_fault (context s.opens) (ahead s) → Lacks s kind
+  too_deep : (k : Kind) (text rest : List ℕ) → IsLongest s.opens s.after_dot (ahead s) k text rest
+      → max_open < length (open_after k s.opens) → kind ≡ TooDeep → Lacks s kind
+  no_marker_line : (text rest : List ℕ)
+      → IsLongest s.opens s.after_dot (ahead s) HeredocOpen text rest → length s.opens < max_open
+      → ((n : ℕ) → ¬ IsMarkerLine (marker_of text) rest n) → kind ≡ UnterminatedHeredoc
+      → Lacks s kind
 
 -- where the innermost Quote, Heredoc or Sequence was opened
 abbrev pub unclosed_offset : List Opener → List ℕ → ℕ
-unclosed_offset (o ∷ opens) (at ∷ offsets) = if must_be_closed o then at else unclosed_offset opens offsets
+unclosed_offset (o ∷ opens) (at ∷ offsets) =
+    if must_be_closed o then at else unclosed_offset opens offsets
 unclosed_offset _ _ = 0
 
 -- an unterminated quote or template stands at its opener, all else where the reading ends

@@ -27,7 +27,9 @@ is_newline_byte b = (b == 10) || (b == 13)
 
 -- the marker of the text of a heredoc's opener: what stands after `<<` or `<<-`, up to the newline
 abbrev pub marker_of : List ℕ → List ℕ
-marker_of text = before_first is_newline_byte (if starts_with nat_eq text (codes "<<-") then drop 3 text else drop 2 text)
+marker_of text =
+    before_first is_newline_byte (if starts_with nat_eq text (codes "<<-") then drop 3 text
+    else drop 2 text)
 
 abbrev pub same_opener : Opener → Opener → Bool
 same_opener Quote Quote = true

@@ -38,13 +38,17 @@ grows _ b = false
 -- the next token may join the one before it, `after_dot` telling whether a Dot stands before that: a Dot may begin
 -- the fraction of a number that follows none (`1` and `.`, but not the second step of `l.0.1`)
 abbrev pub joins : Bool → Kind → Kind → List ℕ → Bool
-joins after_dot kind next text = grows kind (get_or text 0 0) || (is Number kind && not after_dot && is Dot next)
+joins after_dot kind next text =
+    grows kind (get_or text 0 0) || (is Number kind && not after_dot && is Dot next)
 
 -- ---- a token before a text that isn't cut into tokens
 
 -- the text may go on the token: its first byte, or for a number a point and a digit
 abbrev pub joins_text : Bool → Kind → List ℕ → Bool
-joins_text after_dot kind other = grows kind (get_or other 0 0) || (is Number kind && not after_dot && (get_or other 0 0 == 46) && is_ascii_digit (get_or other 1 0))
+joins_text after_dot kind other =
+    grows kind (get_or other 0 0)
+    || (is Number kind && not after_dot && (get_or other 0 0 == 46)
+    && is_ascii_digit (get_or other 1 0))
 
 -- an LF, or nothing, comes first
 abbrev pub ends_comment : List ℕ → Bool
@@ -53,7 +57,10 @@ ends_comment (b ∷ more) = b == 10
 
 -- both begin with the same token of a template, after which literal text ends
 abbrev pub same_close : List ℕ → List ℕ → Bool
-same_close rest other = (starts rest (codes "\"") && starts other (codes "\"")) || (starts rest (codes "${") && starts other (codes "${")) || (starts rest (codes "%{") && starts other (codes "%{"))
+same_close rest other =
+    (starts rest (codes "\"") && starts other (codes "\""))
+    || (starts rest (codes "${") && starts other (codes "${"))
+    || (starts rest (codes "%{") && starts other (codes "%{"))
 
 -- a token of this kind that was the longest before `rest` is the longest before `other`
 abbrev pub stays : Bool → Kind → List ℕ → List ℕ → Bool

@@ -20,11 +20,14 @@ text_with_gaps (p ∷ ps) = replicate p.0 32 ++ (p.1.text ++ text_with_gaps ps)
 -- the tokens where they stand in that text, its first byte being at an offset
 abbrev pub placed_tokens : ℕ → List (ℕ × Lexeme) → List Lexeme
 placed_tokens at [] = []
-placed_tokens at (p ∷ ps) = record { kind = p.1.kind; text = p.1.text; start = at + p.0; inside_heredoc = p.1.inside_heredoc } ∷ placed_tokens (at + p.0 + length p.1.text) ps
+placed_tokens at (p ∷ ps) =
+    record { kind = p.1.kind; text = p.1.text; start = at + p.0;
+    inside_heredoc = p.1.inside_heredoc } ∷ placed_tokens (at + p.0 + length p.1.text) ps
 
 -- a token of templates: blanks before it would be literal text
 abbrev pub is_template : Kind → Bool
-is_template k = is Lit k || is InterpOpen k || is ControlOpen k || is QuoteClose k || is HeredocClose k
+is_template k =
+    is Lit k || is InterpOpen k || is ControlOpen k || is QuoteClose k || is HeredocClose k
 
 -- nothing may stand between a token of this kind and the next: a comment would go on over the blanks, and in a
 -- template or a heredoc they are text
@@ -34,9 +37,12 @@ touches _ t = is_template t.kind || t.inside_heredoc
 
 -- so many blanks may stand between a token of this kind and the next
 abbrev pub gap_fits : Bool → Kind → Lexeme → ℕ → Bool
-gap_fits after_dot before t gap = if touches before t then gap == 0 else (not (gap == 0) || not (joins after_dot before t.kind t.text))
+gap_fits after_dot before t gap =
+    if touches before t then gap == 0
+    else (not (gap == 0) || not (joins after_dot before t.kind t.text))
 
 -- every gap fits, after a token of this kind
 abbrev pub AllFit : Bool → Kind → List (ℕ × Lexeme) → Type 0
 AllFit after_dot before [] = Unit {0}
-AllFit after_dot before (p ∷ ps) = IsTrue (gap_fits after_dot before p.1 p.0) × AllFit (is Dot before) p.1.kind ps
+AllFit after_dot before (p ∷ ps) =
+    IsTrue (gap_fits after_dot before p.1 p.0) × AllFit (is Dot before) p.1.kind ps

@@ -15,9 +15,12 @@ pub record Scanned : Type 0 where
 
 -- a token as contracts see it
 abbrev pub lexeme : Token → Lexeme
-lexeme t = record { kind = t.kind; text = t.text.now; start = t.start; inside_heredoc = t.inside_heredoc }
+lexeme t =
+    record { kind = t.kind; text = t.text.now; start = t.start; inside_heredoc = t.inside_heredoc }
 
 -- an error of a scan: the one fault of the text, which then has no tokens
 abbrev pub IsScanError : List ℕ → ScanError → Type 0
-IsScanError text (error.Fault fault) = (at : ℕ) × IsScanFault text fault.kind at × (fault.at ≡ place text at) × ((ts : List Lexeme) → ¬ Scans text ts)
+IsScanError text (error.Fault fault) =
+    (at : ℕ) × IsScanFault text fault.kind at × (fault.at ≡ place text at)
+    × ((ts : List Lexeme) → ¬ Scans text ts)
 IsScanError text error.OutOfMemory = Unit {0}

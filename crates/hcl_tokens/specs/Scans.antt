@@ -24,11 +24,14 @@ pub record State : Type 0 where
   pub hidden : List Hidden  -- what each open heredoc hides, the innermost first
 
 abbrev pub begin : List ℕ → State
-begin text = record { at = 0; opens = []; offsets = []; after_dot = false; seen = text; hidden = [] }
+begin text =
+    record { at = 0; opens = []; offsets = []; after_dot = false; seen = text; hidden = [] }
 
 -- where what is open was opened, after a token at this offset
 abbrev pub offsets_of : ℕ → List Opener → List Opener → List ℕ → List ℕ
-offsets_of at old new offsets = if nat_lt (length old) (length new) then at ∷ offsets else drop (length old - length new) offsets
+offsets_of at old new offsets =
+    if nat_lt (length old) (length new) then at ∷ offsets
+    else drop (length old - length new) offsets
 
 -- blanks are gaps in expressions outside heredocs
 abbrev pub has_gaps_in : Context → Bool → Bool
@@ -37,7 +40,8 @@ has_gaps_in Expression inside = not inside
 
 -- how many blanks at the front of what is seen are a gap
 abbrev pub gap_in : List Opener → List ℕ → ℕ
-gap_in opens seen = if has_gaps_in (context opens) (in_heredoc opens) then prefix_len is_blank seen else 0
+gap_in opens seen =
+    if has_gaps_in (context opens) (in_heredoc opens) then prefix_len is_blank seen else 0
 
 abbrev pub gap_len : State → ℕ
 gap_len s = gap_in s.opens s.seen
@@ -60,7 +64,9 @@ closer_len marker line = prefix_len is_blank line + length marker
 
 -- the first line of the text is the marker, blanks at both ends aside
 abbrev pub is_marker_line : List ℕ → List ℕ → Bool
-is_marker_line marker text = starts (skip_blanks text) marker && at_line_end (skip_blanks (drop (closer_len marker text) text))
+is_marker_line marker text =
+    starts (skip_blanks text) marker
+    && at_line_end (skip_blanks (drop (closer_len marker text) text))
 
 -- a marker line begins after n bytes of the text, itself the start of a line
 pub record IsMarkerLine (marker text : List ℕ) (n : ℕ) : Type 0 where
@@ -74,22 +80,30 @@ pub record IsFirstMarkerLine (marker text : List ℕ) (n : ℕ) : Type 0 where
   pub first : (m : ℕ) → m < n → ¬ IsMarkerLine marker text m
 
 -- the text is what is seen, up to `rest`, and no longer one there is a spelling
-pub record IsLongest (opens : List Opener) (after_dot : Bool) (seen : List ℕ) (kind : Kind) (text rest : List ℕ) : Type 0 where
+pub record IsLongest (opens : List Opener) (after_dot : Bool) (seen : List ℕ) (kind : Kind)
+    (text rest : List ℕ) : Type 0 where
   pub whole : text ++ rest ≡ seen
   pub spelled : IsSpelling opens after_dot kind text rest
-  pub longest : (other : Kind) (longer left : List ℕ) → longer ++ left ≡ seen → length text < length longer → ¬ IsSpelling opens after_dot other longer left
+  pub longest : (other : Kind) (longer left : List ℕ) → longer ++ left ≡ seen
+      → length text < length longer → ¬ IsSpelling opens after_dot other longer left
 
 -- no front of what is seen is a spelling of any kind
 abbrev pub HasNone : List Opener → Bool → List ℕ → Type 0
-HasNone opens after_dot seen = (kind : Kind) (text rest : List ℕ) → text ++ rest ≡ seen → ¬ IsSpelling opens after_dot kind text rest
+HasNone opens after_dot seen =
+    (kind : Kind) (text rest : List ℕ) → text ++ rest ≡ seen
+    → ¬ IsSpelling opens after_dot kind text rest
 
 -- what is hidden after a marker line
 abbrev pub hides : List ℕ → List ℕ → Hidden
-hides marker line = record { closer = take (closer_len marker line) line; after = drop (closer_len marker line) line }
+hides marker line =
+    record { closer = take (closer_len marker line) line;
+    after = drop (closer_len marker line) line }
 
 -- what is seen and hidden after a token, `rest` being what was seen after it
 abbrev pub Leaves : Kind → List ℕ → List ℕ → List Hidden → List ℕ → List Hidden → Type 0
-Leaves HeredocOpen text rest hidden seen' hidden' = (n : ℕ) × IsFirstMarkerLine (marker_of text) rest n × (seen' ≡ take n rest) × (hidden' ≡ hides (marker_of text) (drop n rest) ∷ hidden)
+Leaves HeredocOpen text rest hidden seen' hidden' =
+    (n : ℕ) × IsFirstMarkerLine (marker_of text) rest n × (seen' ≡ take n rest)
+    × (hidden' ≡ hides (marker_of text) (drop n rest) ∷ hidden)
 Leaves _ text rest hidden seen' hidden' = (seen' ≡ rest) × (hidden' ≡ hidden)
 
 -- a token is read where it is the longest spelling
@@ -116,7 +130,9 @@ pub record Closes (s : State) (t : Lexeme) (next : State) : Type 0 where
   pub kind : t.kind ≡ HeredocClose
   pub start : t.start ≡ s.at
   pub inside : t.inside_heredoc ≡ true
-  pub next_is : next ≡ record { at = s.at + length t.text; opens = below; offsets = drop 1 s.offsets; after_dot = false; seen = rest; hidden = above }
+  pub next_is : next
+      ≡ record { at = s.at + length t.text; opens = below; offsets = drop 1 s.offsets;
+      after_dot = false; seen = rest; hidden = above }
 
 -- one token
 abbrev pub Next : State → Lexeme → State → Type 0

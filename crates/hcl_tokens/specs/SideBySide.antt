@@ -38,9 +38,11 @@ opens_template k = is QuoteOpen k || is Lit k || is SeqClose k
 pub record Beside (before : Kind) (t : Lexeme) : Type 0 where
   pub comment : t.inside_heredoc ≡ false → before ≡ LineComment → t.kind ≡ Newline
   pub template : t.inside_heredoc ≡ false → is_template t.kind ≡ true → opens_template before ≡ true
-  pub begins : t.inside_heredoc ≡ false → is_template t.kind ≡ false → begins_as t.kind (get_or t.text 0 0) ≡ true
+  pub begins : t.inside_heredoc ≡ false → is_template t.kind ≡ false
+      → begins_as t.kind (get_or t.text 0 0) ≡ true
   pub closer : t.kind ≡ HeredocClose → t.inside_heredoc ≡ true
-  pub tilde : t.inside_heredoc ≡ false → t.kind ≡ SeqClose → (t.text ≡ codes "}") ⊎ (t.text ≡ codes "~}")
+  pub tilde : t.inside_heredoc ≡ false → t.kind ≡ SeqClose → (t.text ≡ codes "}")
+      ⊎ (t.text ≡ codes "~}")
 
 -- so for all tokens of a list, the first after one of this kind
 abbrev pub Besides : Kind → List Lexeme → Type 0

@@ -22,11 +22,15 @@ is_blank b = (b == 32) || (b == 9)
 -- the marks of expressions, each with its one kind; `/` and `}` are below
 unfoldable pub punctuation : List (List ℕ × Kind)
 punctuation =
-    (codes "\"", QuoteOpen) ∷ (codes "(", ParenOpen) ∷ (codes "[", BracketOpen) ∷ (codes "{", BraceOpen) ∷ (codes ")", ParenClose) ∷ (codes "]", BracketClose)
-    ∷ (codes ".", Dot) ∷ (codes ",", Comma) ∷ (codes "...", Ellipsis) ∷ (codes "?", Question) ∷ (codes ":", Colon) ∷ (codes "::", ColonColon) ∷ (codes "=", Assign) ∷ (codes "=>", Arrow)
-    ∷ (codes "!", Not) ∷ (codes "-", Minus) ∷ (codes "+", Plus) ∷ (codes "*", Star) ∷ (codes "%", Percent)
+    (codes "\"", QuoteOpen) ∷ (codes "(", ParenOpen) ∷ (codes "[", BracketOpen)
+    ∷ (codes "{", BraceOpen) ∷ (codes ")", ParenClose) ∷ (codes "]", BracketClose)
+    ∷ (codes ".", Dot) ∷ (codes ",", Comma) ∷ (codes "...", Ellipsis) ∷ (codes "?", Question)
+    ∷ (codes ":", Colon) ∷ (codes "::", ColonColon) ∷ (codes "=", Assign) ∷ (codes "=>", Arrow)
+    ∷ (codes "!", Not) ∷ (codes "-", Minus) ∷ (codes "+", Plus) ∷ (codes "*", Star)
+    ∷ (codes "%", Percent)
     ∷ (codes "&&", And) ∷ (codes "||", Or) ∷ (codes "==", Equal) ∷ (codes "!=", NotEqual)
-    ∷ (codes "<", Less) ∷ (codes ">", Greater) ∷ (codes "<=", LessEqual) ∷ (codes ">=", GreaterEqual) ∷ []
+    ∷ (codes "<", Less) ∷ (codes ">", Greater) ∷ (codes "<=", LessEqual)
+    ∷ (codes ">=", GreaterEqual) ∷ []
 
 -- the text is a mark of this kind
 abbrev pub IsPunctuation : List (List ℕ × Kind) → List ℕ → Kind → Type 0
@@ -54,7 +58,8 @@ are_ident [] = false
 are_ident (c ∷ cs) = starts_ident c && list_all continues_ident cs
 
 abbrev pub IsIdent : List ℕ → Type 0
-IsIdent text = (cs : List ℕ) × IsTrue (all_scalars cs) × IsTrue (are_ident cs) × (text ≡ encode_utf8_all cs)
+IsIdent text =
+    (cs : List ℕ) × IsTrue (all_scalars cs) × IsTrue (are_ident cs) × (text ≡ encode_utf8_all cs)
 
 abbrev pub IsFraction : List ℕ → Type 0
 IsFraction text = (text ≡ []) ⊎ ((digits : List ℕ) × IsDigits digits × (text ≡ codes "." ++ digits))
@@ -64,24 +69,33 @@ IsSign text = (text ≡ []) ⊎ (text ≡ codes "+") ⊎ (text ≡ codes "-")
 
 abbrev pub IsExponent : List ℕ → Type 0
 IsExponent text = (text ≡ [])
-    ⊎ ((letter sign digits : List ℕ) × ((letter ≡ codes "e") ⊎ (letter ≡ codes "E")) × IsSign sign × IsDigits digits × (text ≡ letter ++ sign ++ digits))
+    ⊎ ((letter sign digits : List ℕ) × ((letter ≡ codes "e") ⊎ (letter ≡ codes "E")) × IsSign sign
+    × IsDigits digits × (text ≡ letter ++ sign ++ digits))
 
 abbrev pub IsNumber : List ℕ → Type 0
-IsNumber text = (whole fraction exponent : List ℕ) × IsDigits whole × IsFraction fraction × IsExponent exponent × (text ≡ whole ++ fraction ++ exponent)
+IsNumber text =
+    (whole fraction exponent : List ℕ) × IsDigits whole × IsFraction fraction × IsExponent exponent
+    × (text ≡ whole ++ fraction ++ exponent)
 
 -- `part` stands somewhere in the text
 abbrev pub Holds : List ℕ → List ℕ → Type 0
 Holds text part = (before after : List ℕ) × (text ≡ before ++ part ++ after)
 
 abbrev pub IsLineComment : List ℕ → Type 0
-IsLineComment text = IsTrue (starts text (codes "#") || starts text (codes "//")) × IsFalse (list_any (λ b. b == 10) text)
+IsLineComment text =
+    IsTrue (starts text (codes "#") || starts text (codes "//"))
+    × IsFalse (list_any (λ b. b == 10) text)
 
 -- after the `/*`, the `*/` comes at the end and nowhere before
 abbrev pub IsInlineComment : List ℕ → Type 0
-IsInlineComment text = (inner : List ℕ) × (text ≡ codes "/*" ++ inner ++ codes "*/") × ¬ Holds (inner ++ codes "*") (codes "*/")
+IsInlineComment text =
+    (inner : List ℕ) × (text ≡ codes "/*" ++ inner ++ codes "*/")
+    × ¬ Holds (inner ++ codes "*") (codes "*/")
 
 abbrev pub IsHeredocOpen : List ℕ → Type 0
-IsHeredocOpen text = (dash marker end : List ℕ) × ((dash ≡ []) ⊎ (dash ≡ codes "-")) × IsIdent marker × IsNewline end × (text ≡ codes "<<" ++ dash ++ marker ++ end)
+IsHeredocOpen text =
+    (dash marker end : List ℕ) × ((dash ≡ []) ⊎ (dash ≡ codes "-")) × IsIdent marker × IsNewline end
+    × (text ≡ codes "<<" ++ dash ++ marker ++ end)
 
 -- a text of this kind in an expression, before `rest`
 abbrev pub IsExpressionText : List Opener → Bool → Kind → List ℕ → List ℕ → Type 0
@@ -93,10 +107,13 @@ IsExpressionText opens after_dot Ident text rest = IsIdent text
 IsExpressionText opens true Number text rest = IsDigits text
 IsExpressionText opens false Number text rest = IsNumber text
 IsExpressionText opens after_dot HeredocOpen text rest = IsHeredocOpen text
-IsExpressionText opens after_dot SeqClose text rest = IsTrue (closes_sequence opens) × ((text ≡ codes "}") ⊎ (text ≡ codes "~}"))
-IsExpressionText opens after_dot BraceClose text rest = IsFalse (closes_sequence opens) × (text ≡ codes "}")
+IsExpressionText opens after_dot SeqClose text rest =
+    IsTrue (closes_sequence opens) × ((text ≡ codes "}") ⊎ (text ≡ codes "~}"))
+IsExpressionText opens after_dot BraceClose text rest =
+    IsFalse (closes_sequence opens) × (text ≡ codes "}")
 -- a `/*` that never ends is no two marks
-IsExpressionText opens after_dot Slash text rest = (text ≡ codes "/") × IsFalse (starts rest (codes "*"))
+IsExpressionText opens after_dot Slash text rest =
+    (text ≡ codes "/") × IsFalse (starts rest (codes "*"))
 IsExpressionText opens after_dot kind text rest = IsPunctuation punctuation text kind
 
 abbrev pub hex_digits_after : ℕ → List ℕ → Bool
@@ -107,7 +124,8 @@ hex_digits_after (suc n) (b ∷ text) = is_ascii_hexdigit b && hex_digits_after 
 -- how many bytes the escape at the front of the text has, if one is there
 abbrev pub escape_len : List ℕ → Option ℕ
 escape_len text =
-    if starts text (codes "\\n") || starts text (codes "\\r") || starts text (codes "\\t") || starts text (codes "\\\"") || starts text (codes "\\\\") then Some 2
+    if starts text (codes "\\n") || starts text (codes "\\r") || starts text (codes "\\t")
+    || starts text (codes "\\\"") || starts text (codes "\\\\") then Some 2
     else (if starts text (codes "\\u") && hex_digits_after 4 (drop 2 text) then Some 6
     else (if starts text (codes "\\U") && hex_digits_after 8 (drop 2 text) then Some 10
     else None))
@@ -118,7 +136,8 @@ is_dollar_or_percent b = (b == 36) || (b == 37)
 
 -- what ends literal text in quotes, where `after` is what follows the byte
 abbrev pub ends_quoted : ℕ → List ℕ → Bool
-ends_quoted b after = (b == 34) || (b == 92) || (b == 10) || ((b == 13) && starts after (codes "\n"))
+ends_quoted b after =
+    (b == 34) || (b == 92) || (b == 10) || ((b == 13) && starts after (codes "\n"))
 
 -- how many bytes the element of literal text at the front of what is seen has, if one is there
 abbrev pub element_len : Bool → List ℕ → Option ℕ
@@ -133,7 +152,9 @@ element_len quoted (b ∷ after) =
 abbrev pub are_elements : Bool → ℕ → List ℕ → List ℕ → Bool
 are_elements quoted zero [] rest = true
 are_elements quoted (suc left) [] rest = false
-are_elements quoted zero (b ∷ text) rest = option_map_or (λ n. are_elements quoted (n - 1) text rest) (element_len quoted (b ∷ text ++ rest)) false
+are_elements quoted zero (b ∷ text) rest =
+    option_map_or (λ n. are_elements quoted (n - 1) text rest) (element_len quoted (b ∷ text
+    ++ rest)) false
 are_elements quoted (suc left) (b ∷ text) rest = are_elements quoted left text rest
 
 abbrev pub IsLiteral : Bool → List ℕ → List ℕ → Type 0

@@ -54,7 +54,9 @@ each text n zero = []
 each text n (suc more) = text n ++ each text (suc n) more
 
 abbrev pub ended_line : List ℕ → List ℕ
-ended_line line = if list.ends_with (λ a b. a == b) line (codes "\n") then line else line ++ codes "\n\\ No newline at end of file\n"
+ended_line line =
+    if list.ends_with (λ a b. a == b) line (codes "\n") then line
+    else line ++ codes "\n\\ No newline at end of file\n"
 
 -- a line with its sign; an empty one is none
 abbrev pub signed_line : List ℕ → List ℕ → List ℕ
@@ -63,8 +65,10 @@ signed_line sign line = if length line == 0 then [] else sign ++ ended_line line
 -- the run of changed lines that begins here: first all removed lines and then all added ones
 abbrev pub change_at : Texts → ℕ → List ℕ
 change_at ts n =
-    each (λ k. signed_line (codes "-") (line_at ts.old k)) n (run_length (is_changed ts) n (count ts - n))
-    ++ each (λ k. signed_line (codes "+") (line_at ts.new k)) n (run_length (is_changed ts) n (count ts - n))
+    each (λ k. signed_line (codes "-") (line_at ts.old k)) n
+    (run_length (is_changed ts) n (count ts - n))
+    ++ each (λ k. signed_line (codes "+") (line_at ts.new k)) n
+    (run_length (is_changed ts) n (count ts - n))
 
 -- the text for a line of a hunk: at the beginning of a run of changed lines the whole run; otherwise the line
 abbrev pub body_at : Texts → ℕ → List ℕ
@@ -76,18 +80,24 @@ body_at ts n =
 abbrev pub range_by : ℕ → ℕ → List ℕ
 range_by start end =
     if end - start == 1 then decimal end
-    else decimal (if end - start == 0 then start else start + 1) ++ (codes "," ++ decimal (end - start))
+    else decimal (if end - start == 0 then start else start + 1)
+    ++ (codes "," ++ decimal (end - start))
 
 abbrev pub range : ℕ → ℕ → ℕ → List ℕ
 range start end len = range_by (min start (min end len)) (min end len)
 
 abbrev pub head : Texts → ℕ → ℕ → List ℕ
-head ts start end = codes "@@ -" ++ (range start end (length ts.old) ++ (codes " +" ++ (range start end (length ts.new) ++ codes " @@\n")))
+head ts start end =
+    codes "@@ -"
+    ++ (range start end (length ts.old)
+    ++ (codes " +" ++ (range start end (length ts.new) ++ codes " @@\n")))
 
 -- at the beginning of a run of shown lines, their hunk
 abbrev pub hunk_at : Texts → ℕ → List ℕ
 hunk_at ts n =
-    if begins (is_shown ts) n then head ts n (n + run_length (is_shown ts) n (count ts - n)) ++ each (body_at ts) n (run_length (is_shown ts) n (count ts - n))
+    if begins (is_shown ts) n
+    then head ts n (n + run_length (is_shown ts) n (count ts - n))
+    ++ each (body_at ts) n (run_length (is_shown ts) n (count ts - n))
     else []
 
 abbrev pub hunks : Texts → List ℕ
@@ -95,4 +105,6 @@ hunks ts = each (hunk_at ts) 0 (count ts)
 
 -- THE DIFF of a text and another, under these two names as they are to be shown
 abbrev pub diff_of : List ℕ → List ℕ → List ℕ → List ℕ → List ℕ
-diff_of old_name new_name old new = codes "--- " ++ (old_name ++ (codes "\n+++ " ++ (new_name ++ (codes "\n" ++ hunks (texts old new)))))
+diff_of old_name new_name old new =
+    codes "--- "
+    ++ (old_name ++ (codes "\n+++ " ++ (new_name ++ (codes "\n" ++ hunks (texts old new)))))

@@ -22,10 +22,12 @@ given_in (Ok given) = Ok (given_of given)
 given_in (Err usage) = Err usage
 
 abbrev pub job_of : code.Job → Job
-job_of job = record { given = given_of job.given; quiet = job.quiet; shard = job.shard; form = job.form }
+job_of job =
+    record { given = given_of job.given; quiet = job.quiet; shard = job.shard; form = job.form }
 
 abbrev pub request_of : LintOptions → Request
-request_of o = record { job = job_of o.job; null = o.null; names = map (λ name. name.now) o.names.items }
+request_of o =
+    record { job = job_of o.job; null = o.null; names = map (λ name. name.now) o.names.items }
 
 abbrev pub result_request : Result LintOptions Usage → Result Request Usage
 result_request (Ok o) = Ok (request_of o)

@@ -42,7 +42,8 @@ use Rattle.lint_command.specs.declared.usage.Usage.TheVariants.{Help, Version, L
 
 -- the modules of what these paths stand for, as far as they are of the part, and what can't be looked at: each is told since a call
 -- of the device failed, or for its name
-pub record Collects (files : Files) (shard : Option Shard) (paths : List Name) (was is : Faults) (modules : List Module) (faults : List Found) : Type 0 where
+pub record Collects (files : Files) (shard : Option Shard) (paths : List Name) (was is : Faults)
+    (modules : List Module) (faults : List Found) : Type 0 where
   pub named : List Found  -- what was found of the paths themselves
   pub looked : List ListedFolder  -- what was found in each folder of the walk
   pub walked : Faults  -- those of calls up to the end of the walk
@@ -58,11 +59,14 @@ pub record Collects (files : Files) (shard : Option Shard) (paths : List Name) (
 -- a text is written after what a writer took, unless it failed before
 abbrev pub Then : Bool → Writer → Writer → List ℕ → Type 0
 Then true between last text = last ≡ between
-Then false between last text = (last.before ≡ between.before) × TookBy last.failed between.after last.after text
+Then false between last text =
+    (last.before ≡ between.before) × TookBy last.failed between.after last.after text
 
 -- how many issues there are, and in how many modules, and how many modules aren't linted. That there is no module isn't said then
 abbrev pub count_lines : ℕ → Counts → List ℕ
-count_lines unlinted counts = (if counts.modules == 0 && nat_lt 0 unlinted then [] else summary_line counts) ++ unlinted_line unlinted
+count_lines unlinted counts =
+    (if counts.modules == 0 && nat_lt 0 unlinted then [] else summary_line counts)
+    ++ unlinted_line unlinted
 
 -- the same, unless the run is to be quiet
 abbrev pub summary : Bool → ℕ → Counts → List ℕ
@@ -72,7 +76,9 @@ summary quiet unlinted counts = if quiet then [] else count_lines unlinted count
 -- that a write failed
 abbrev pub last_words : Bool → Bool → List Found → Configured → Counts → List ℕ
 last_words quiet out_failed faults config counts =
-    if out_failed then write_failed tree_linter else flat_map fault_lines faults ++ (configured_words config ++ summary quiet config.unlinted counts)
+    if out_failed then write_failed tree_linter
+    else flat_map fault_lines faults
+    ++ (configured_words config ++ summary quiet config.unlinted counts)
 
 -- the status of a run in which these can't be looked at, and so many modules aren't linted
 abbrev pub fault_status : List Found → ℕ → ℕ
@@ -91,12 +97,16 @@ head_of (Some form) = form_head form version
 
 -- why modules aren't linted, as remarks: those that were refused, what can't be looked at, and the files `.tfrules` that are bad
 abbrev pub refused_remarks : KeptRefusals → List Found → Configured → List Remark
-refused_remarks kept faults config = map kept_remark kept.refusals.items ++ map refusal_remark (flat_map refusal_in faults ++ configured_refusals config)
+refused_remarks kept faults config =
+    map kept_remark kept.refusals.items
+    ++ map refusal_remark (flat_map refusal_in faults ++ configured_refusals config)
 
 -- what stands after the issues, in a run of a status
 abbrev pub IsFoot : Option Form → ℕ → RunEnd → List Found → Configured → List ℕ → Type 0
 IsFoot None status ran faults config text = text ≡ []
-IsFoot (Some form) status ran faults config text = (ran.kept.is_whole ≡ true) × (text ≡ form_foot form status ran.has_output (refused_remarks ran.kept faults config))
+IsFoot (Some form) status ran faults config text =
+    (ran.kept.is_whole ≡ true)
+    × (text ≡ form_foot form status ran.has_output (refused_remarks ran.kept faults config))
 
 -- ---- how a run ends whose modules were linted
 
@@ -120,30 +130,41 @@ pub record EndsLost (form : Option Form) (between end : End) : Type 0 where
   pub exit : end.status ≡ 1
 
 -- that is written, and the last words are said. What can't be looked at, and what isn't linted, is a status of 1
-pub record EndsWhole (form : Option Form) (quiet : Bool) (config : Configured) (faults : List Found) (ran : RunEnd) (between end : End) : Type 0 where
+pub record EndsWhole (form : Option Form) (quiet : Bool) (config : Configured) (faults : List Found)
+    (ran : RunEnd) (between end : End) : Type 0 where
   pub whole : is_cut between ≡ false
   pub foot : List ℕ
-  pub is : IsFoot form (worse_status between.status (fault_status faults config.unlinted)) ran faults config foot
+  pub is : IsFoot form (worse_status between.status (fault_status faults config.unlinted)) ran
+      faults config foot
   pub output : Then false between.out end.out foot
-  pub message : Then false between.err end.err (last_words quiet end.out.failed faults config ran.counts)
-  pub exit : end.status ≡ (if end.out.failed || end.err.failed then 1 else worse_status between.status (fault_status faults config.unlinted))
+  pub message : Then false between.err end.err
+      (last_words quiet end.out.failed faults config ran.counts)
+  pub exit : end.status
+      ≡ (if end.out.failed || end.err.failed then 1
+      else worse_status between.status (fault_status faults config.unlinted))
 
 -- EACH MODULE IS LINTED whose options are known, by its own, and the run ends
-pub record RunsThen (files : Files) (manner : Manner) (quiet : Bool) (config : Configured) (faults : List Found) (was is : Faults) (end : End) : Type 0 where
+pub record RunsThen (files : Files) (manner : Manner) (quiet : Bool) (config : Configured)
+    (faults : List Found) (was is : Faults) (end : End) : Type 0 where
   pub between : End  -- when the modules were linted
   pub ran : RunEnd
   pub linted : IsLintRun files manner (head_of manner.form) config.governed.items was is between ran
-  pub ends : EndsCut between end ⊎ (EndsLost manner.form between end ⊎ EndsWhole manner.form quiet config faults ran between end)
+  pub ends : EndsCut between end
+      ⊎ (EndsLost manner.form between end
+      ⊎ EndsWhole manner.form quiet config faults ran between end)
 
 -- these modules are linted, and these names can't be looked at
-pub record LintsModules (terminals : Terminals) (job : Job) (modules : List Module) (faults : List Found) (files : Files) (was is : Faults) (end : End) : Type 0 where
+pub record LintsModules (terminals : Terminals) (job : Job) (modules : List Module)
+    (faults : List Found) (files : Files) (was is : Faults) (end : End) : Type 0 where
   pub config : Configured
   pub looked : Faults  -- those of calls before the first module is linted
   pub configures : Configures files job.given.said job.given.reads modules was looked config
-  pub runs : RunsThen files (record { form = job.form; terminals = terminals }) job.quiet config faults looked is end
+  pub runs : RunsThen files (record { form = job.form;
+      terminals = terminals }) job.quiet config faults looked is end
 
 -- THE MODULES ARE LINTED of what these paths stand for, by a device that has had these faults before and after
-pub record Lints (terminals : Terminals) (job : Job) (paths : List Name) (files : Files) (was is : Faults) (end : End) : Type 0 where
+pub record Lints (terminals : Terminals) (job : Job) (paths : List Name) (files : Files)
+    (was is : Faults) (end : End) : Type 0 where
   pub modules : List Module
   pub faults : List Found
   pub walked : Faults  -- those of calls before it is looked for files `.tfrules`
@@ -155,26 +176,33 @@ abbrev pub SaysOnly : Row → End → Type 0
 SaysOnly row end = Shows tree_linter row end
 
 -- memory ran out before a module was linted, or these were linted
-abbrev pub LintsCollected : Terminals → Job → List Module → List Found → Files → Faults → Faults → End → Type 0
-LintsCollected terminals job modules faults files was is end = SaysOnly (out_of_memory tree_linter) end ⊎ LintsModules terminals job modules faults files was is end
+abbrev pub LintsCollected : Terminals → Job → List Module → List Found → Files → Faults → Faults
+    → End → Type 0
+LintsCollected terminals job modules faults files was is end =
+    SaysOnly (out_of_memory tree_linter) end
+    ⊎ LintsModules terminals job modules faults files was is end
 
 -- the same of the modules of paths
 abbrev pub LintsOr : Terminals → Job → List Name → Files → Faults → Faults → End → Type 0
-LintsOr terminals job paths files was is end = SaysOnly (out_of_memory tree_linter) end ⊎ Lints terminals job paths files was is end
+LintsOr terminals job paths files was is end =
+    SaysOnly (out_of_memory tree_linter) end ⊎ Lints terminals job paths files was is end
 
 -- the same where the paths are those of the line
 abbrev pub LintsNamed : Terminals → Job → List Name → Files → Faults → Faults → End → Type 0
-LintsNamed terminals job names files was is end = LintsOr terminals job (paths_of_line names) files was is end
+LintsNamed terminals job names files was is end =
+    LintsOr terminals job (paths_of_line names) files was is end
 
 abbrev pub read_failed : Row
 read_failed = fails_with tree_linter (codes "read failed")
 
 -- the same where they are read from standard input, which has these bytes where it tells them, unless its read failed
-abbrev pub ReadsAndLints : Terminals → Job → Bool → Option (List ℕ) → Files → Faults → Faults → End → Type 0
+abbrev pub ReadsAndLints : Terminals → Job → Bool → Option (List ℕ) → Files → Faults → Faults → End
+    → Type 0
 ReadsAndLints terminals job failed input files was is end =
     SaysOnly (out_of_memory tree_linter) end
     ⊎ (((failed ≡ true) × (is ≡ was) × SaysOnly read_failed end)
-    ⊎ ((failed ≡ false) × (bytes : List ℕ) × Tells input bytes × Lints terminals job (paths_of_input bytes) files was is end))
+    ⊎ ((failed ≡ false) × (bytes : List ℕ) × Tells input bytes
+    × Lints terminals job (paths_of_input bytes) files was is end))
 
 -- ---- runs that look at no file
 
@@ -182,7 +210,9 @@ abbrev pub version_line : List ℕ
 version_line = codes "tfrules-all 0.3.0\n"
 
 abbrev pub help_text : List ℕ
-help_text = codes "usage: tfrules-all [--rules LIST] [--naming NAMING]\n                   [--minimum-failure-severity SEVERITY] [--force]\n                   [--check-comments] [--no-config] [--format FORM] [--quiet]\n                   [--shard K/N] [--null] [--] [FILE|FOLDER]...\n       tfrules-all --list-rules\n       tfrules-all --explain RULE\n\nLints the modules of folders, each by itself, as tfrules lints its files.\n\nA module is the .tf and .tofu files of one folder. A file stands for its\nfolder, also one that was deleted while the folder is there; a folder for\nitself and all below. Files and folders whose names begin with a dot or end\nwith ~, and those named #...#, are passed over. Without an operand it is the\ncurrent folder.\n\nOptions that the line doesn't have come from the nearest .tfrules, in the folder\nof a module or above it up to the top of the repository: one a line, of the\nfirst five below.\n\n  --rules LIST     default, all or names of rules, with commas between them; a\n                   dash before one takes its rules away: all,-terraform_...\n  --naming NAMING  snake_case or mixed_snake_case\n  --minimum-failure-severity SEVERITY\n                   error, warning or notice: from which severity on an issue\n                   fails the run\n  --force          nothing that is found fails the run\n  --check-comments report comments that are meant to silence a rule and don't:\n                   those that name no rule, and tflint-ignore-file\n  --no-config      read no file .tfrules\n  --format FORM    text; or json (TFLint's), sarif, checkstyle, junit, gitlab or\n                   github: what forges and editors read, of all modules, with\n                   what couldn't be linted\n  --quiet          say nothing of the run as a whole: no count of the issues\n                   at its end\n  --shard K/N      take the K-th of N parts of the folders\n  -0, --null       read names, each ended by NUL, from standard input\n  -j, --jobs N     taken, and of no use: modules are linted one after the\n                   other\n  --list-rules     print each rule with its severity, whether it is a default\n                   one, and what it reports\n  --explain RULE   print that of a rule, why it does, and how to silence it\n  -h, --help       print this\n  --version        print the version\n\nStatus: 0  nothing that is found fails the run\n        1  something couldn't be linted, or the command line is wrong\n        2  an issue fails the run, or a comment that --check-comments\n           reports, and nothing is worse\n"
+help_text =
+    codes
+    "usage: tfrules-all [--rules LIST] [--naming NAMING]\n                   [--minimum-failure-severity SEVERITY] [--force]\n                   [--check-comments] [--no-config] [--format FORM] [--quiet]\n                   [--shard K/N] [--null] [--] [FILE|FOLDER]...\n       tfrules-all --list-rules\n       tfrules-all --explain RULE\n\nLints the modules of folders, each by itself, as tfrules lints its files.\n\nA module is the .tf and .tofu files of one folder. A file stands for its\nfolder, also one that was deleted while the folder is there; a folder for\nitself and all below. Files and folders whose names begin with a dot or end\nwith ~, and those named #...#, are passed over. Without an operand it is the\ncurrent folder.\n\nOptions that the line doesn't have come from the nearest .tfrules, in the folder\nof a module or above it up to the top of the repository: one a line, of the\nfirst five below.\n\n  --rules LIST     default, all or names of rules, with commas between them; a\n                   dash before one takes its rules away: all,-terraform_...\n  --naming NAMING  snake_case or mixed_snake_case\n  --minimum-failure-severity SEVERITY\n                   error, warning or notice: from which severity on an issue\n                   fails the run\n  --force          nothing that is found fails the run\n  --check-comments report comments that are meant to silence a rule and don't:\n                   those that name no rule, and tflint-ignore-file\n  --no-config      read no file .tfrules\n  --format FORM    text; or json (TFLint's), sarif, checkstyle, junit, gitlab or\n                   github: what forges and editors read, of all modules, with\n                   what couldn't be linted\n  --quiet          say nothing of the run as a whole: no count of the issues\n                   at its end\n  --shard K/N      take the K-th of N parts of the folders\n  -0, --null       read names, each ended by NUL, from standard input\n  -j, --jobs N     taken, and of no use: modules are linted one after the\n                   other\n  --list-rules     print each rule with its severity, whether it is a default\n                   one, and what it reports\n  --explain RULE   print that of a rule, why it does, and how to silence it\n  -h, --help       print this\n  --version        print the version\n\nStatus: 0  nothing that is found fails the run\n        1  something couldn't be linted, or the command line is wrong\n        2  an issue fails the run, or a comment that --check-comments\n           reports, and nothing is worse\n"
 
 -- what an option of a line says
 abbrev pub value_in : List Text → List ℕ → Text
@@ -199,42 +229,66 @@ usage_row texts Version = output_row version_line 0
 usage_row texts ListRules = output_row rule_list 0
 usage_row texts (Explain rule) = output_row (explanation_of rule) 0
 usage_row texts BadLine = message_row (bad_line_words linter_words texts) 1
-usage_row texts UnknownRule = wrong_value (codes "unknown rule ") (unknown_in (value_in texts (codes "rules")))
-usage_row texts UnknownExplained = wrong_value (codes "unknown rule ") (value_in texts (codes "explain"))
-usage_row texts NoRuleLeft = wrong_value (codes "no rule is left by ") (value_in texts (codes "rules"))
+usage_row texts UnknownRule =
+    wrong_value (codes "unknown rule ") (unknown_in (value_in texts (codes "rules")))
+usage_row texts UnknownExplained =
+    wrong_value (codes "unknown rule ") (value_in texts (codes "explain"))
+usage_row texts NoRuleLeft =
+    wrong_value (codes "no rule is left by ") (value_in texts (codes "rules"))
 usage_row texts BadNaming = wrong_value (codes "unknown naming ") (value_in texts (codes "naming"))
-usage_row texts BadSeverity = wrong_value (codes "unknown severity ") (value_in texts (codes "minimum-failure-severity"))
-usage_row texts BadPart = wrong_value (codes "--shard takes K/N, with K from 1 to N, at most 99999, not ") (value_in texts (codes "shard"))
-usage_row texts BadForm = wrong_value (codes "--format takes text, json, sarif, checkstyle, junit, gitlab or github, not ") (value_in texts (codes "format"))
+usage_row texts BadSeverity =
+    wrong_value (codes "unknown severity ") (value_in texts (codes "minimum-failure-severity"))
+usage_row texts BadPart =
+    wrong_value (codes "--shard takes K/N, with K from 1 to N, at most 99999, not ")
+    (value_in texts (codes "shard"))
+usage_row texts BadForm =
+    wrong_value
+    (codes "--format takes text, json, sarif, checkstyle, junit, gitlab or github, not ")
+    (value_in texts (codes "format"))
 usage_row texts BadJobs = fails_with tree_linter (codes "--jobs takes a number from 1 to 9999")
-usage_row texts NamesTwice = fails_with tree_linter (codes "--null takes no names on the command line")
+usage_row texts NamesTwice =
+    fails_with tree_linter (codes "--null takes no names on the command line")
 usage_row texts OutOfMemory = out_of_memory tree_linter
 
 -- it is shown, or that memory ran out
 abbrev pub ShowsUsage : List Text → Usage → End → Type 0
-ShowsUsage texts usage end = SaysOnly (out_of_memory tree_linter) end ⊎ SaysOnly (usage_row texts usage) end
+ShowsUsage texts usage end =
+    SaysOnly (out_of_memory tree_linter) end ⊎ SaysOnly (usage_row texts usage) end
 
 -- ---- all runs
 
 -- how a run ends that was asked for this
-abbrev pub EndsBy : Terminals → Bool → Job → List Name → Bool → Option (List ℕ) → Files → Faults → Faults → End → Type 0
-EndsBy terminals true job names failed input files was is end = ReadsAndLints terminals job failed input files was is end
-EndsBy terminals false job names failed input files was is end = LintsNamed terminals job names files was is end
+abbrev pub EndsBy : Terminals → Bool → Job → List Name → Bool → Option (List ℕ) → Files → Faults
+    → Faults → End → Type 0
+EndsBy terminals true job names failed input files was is end =
+    ReadsAndLints terminals job failed input files was is end
+EndsBy terminals false job names failed input files was is end =
+    LintsNamed terminals job names files was is end
 
-abbrev pub EndsByRequest : Terminals → Request → Bool → Option (List ℕ) → Files → Faults → Faults → End → Type 0
-EndsByRequest terminals asking failed input files was is end = EndsBy terminals asking.null asking.job asking.names failed input files was is end
+abbrev pub EndsByRequest : Terminals → Request → Bool → Option (List ℕ) → Files → Faults → Faults
+    → End → Type 0
+EndsByRequest terminals asking failed input files was is end =
+    EndsBy terminals asking.null asking.job asking.names failed input files was is end
 
 -- without options the device isn't called
-abbrev pub EndsFor : Terminals → List Text → Result Request Usage → Bool → Option (List ℕ) → Files → Faults → Faults → End → Type 0
-EndsFor terminals texts (Ok asking) failed input files was is end = EndsByRequest terminals asking failed input files was is end
-EndsFor terminals texts (Err usage) failed input files was is end = (is ≡ was) × ShowsUsage texts usage end
+abbrev pub EndsFor : Terminals → List Text → Result Request Usage → Bool → Option (List ℕ) → Files
+    → Faults → Faults → End → Type 0
+EndsFor terminals texts (Ok asking) failed input files was is end =
+    EndsByRequest terminals asking failed input files was is end
+EndsFor terminals texts (Err usage) failed input files was is end =
+    (is ≡ was) × ShowsUsage texts usage end
 
 -- the end of a run with these texts, and these names beside them
-abbrev pub IsEndOf : Terminals → List Text → List Name → Bool → Option (List ℕ) → Files → Faults → Faults → End → Type 0
+abbrev pub IsEndOf : Terminals → List Text → List Name → Bool → Option (List ℕ) → Files → Faults
+    → Faults → End → Type 0
 IsEndOf terminals texts others failed input files was is end =
-    ((is ≡ was) × SaysOnly (out_of_memory tree_linter) end) ⊎ EndsFor terminals texts (request_of_texts texts others) failed input files was is end
+    ((is ≡ was) × SaysOnly (out_of_memory tree_linter) end)
+    ⊎ EndsFor terminals texts (request_of_texts texts others) failed input files was is end
 
 -- THE END of a run with these words, over these files, where these outputs are read on terminals, standard input has these bytes
 -- and the device has had these faults before and after: what the words ask for; or memory ran out before a file was looked at
-abbrev pub IsEnd : Terminals → List (List ℕ) → Bool → Option (List ℕ) → Files → Faults → Faults → End → Type 0
-IsEnd terminals words failed input files was is end = IsEndOf terminals (texts_in (codes "tfrules-all") words) (others_in words) failed input files was is end
+abbrev pub IsEnd : Terminals → List (List ℕ) → Bool → Option (List ℕ) → Files → Faults → Faults
+    → End → Type 0
+IsEnd terminals words failed input files was is end =
+    IsEndOf terminals (texts_in (codes "tfrules-all") words) (others_in words) failed input files
+    was is end

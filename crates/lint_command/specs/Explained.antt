@@ -11,14 +11,17 @@ default_word recommended = if recommended then codes ", default" else []
 abbrev pub rule_line : Rule → List ℕ
 rule_line rule =
     rule_name rule
-    ++ (codes " (" ++ (severity_text (severity rule) ++ (default_word (is_recommended rule) ++ (codes "): " ++ (reports rule ++ codes "\n")))))
+    ++ (codes " ("
+    ++ (severity_text (severity rule)
+    ++ (default_word (is_recommended rule) ++ (codes "): " ++ (reports rule ++ codes "\n")))))
 
 -- why it does, and how an issue is silenced
 abbrev pub why_and_how : Rule → List ℕ
 why_and_how rule =
     codes "\n"
     ++ (reason rule
-    ++ (codes "\n\nA comment on the line of an issue, or on the line above it, silences it:\n\n  # tflint-ignore: "
+    ++ (codes
+    "\n\nA comment on the line of an issue, or on the line above it, silences it:\n\n  # tflint-ignore: "
     ++ (rule_name rule ++ codes "\n")))
 
 -- WHAT IS SAID OF A RULE

@@ -47,8 +47,11 @@ pub record Request : Type 0 where
 abbrev pub tfrules_all : App
 tfrules_all =
     fold with_rule (new_app (codes "tfrules-all"))
-    (option_rule (codes "rules") ∷ option_rule (codes "naming") ∷ option_rule (codes "minimum-failure-severity") ∷ count_rule (codes "force")
-    ∷ count_rule (codes "check-comments") ∷ count_rule (codes "no-config") ∷ option_rule (codes "format") ∷ count_rule (codes "quiet") ∷ count_rule (codes "version") ∷ null_rule ∷ option_rule (codes "shard") ∷ jobs_rule ∷ count_rule (codes "list-rules")
+    (option_rule (codes "rules") ∷ option_rule (codes "naming")
+    ∷ option_rule (codes "minimum-failure-severity") ∷ count_rule (codes "force")
+    ∷ count_rule (codes "check-comments") ∷ count_rule (codes "no-config")
+    ∷ option_rule (codes "format") ∷ count_rule (codes "quiet") ∷ count_rule (codes "version")
+    ∷ null_rule ∷ option_rule (codes "shard") ∷ jobs_rule ∷ count_rule (codes "list-rules")
     ∷ option_rule (codes "explain") ∷ file_rule ∷ [])
 
 -- ---- by what modules are linted
@@ -65,17 +68,23 @@ taken usage None = Ok None
 taken usage (Some None) = Err usage
 taken usage (Some (Some a)) = Ok (Some a)
 
-abbrev pub given_by : Result (Option (List Rule)) Usage → Result (Option Naming) Usage → Result (Option Severity) Usage → Bool → Bool → Bool → Result Given Usage
+abbrev pub given_by : Result (Option (List Rule)) Usage → Result (Option Naming) Usage
+    → Result (Option Severity) Usage → Bool → Bool → Bool → Result Given Usage
 given_by (Err usage) naming minimum force checks reads = Err usage
 given_by (Ok rules) (Err usage) minimum force checks reads = Err usage
 given_by (Ok rules) (Ok naming) (Err usage) force checks reads = Err usage
 given_by (Ok rules) (Ok naming) (Ok minimum) force checks reads =
-    Ok (record { said = record { rules = rules; naming = naming; minimum = minimum; force = force; checks = checks }; reads = reads })
+    Ok (record { said = record { rules = rules; naming = naming; minimum = minimum; force = force;
+    checks = checks }; reads = reads })
 
 abbrev pub given_of_rows : List Row → Result Given Usage
 given_of_rows rows =
-    given_by (rules_taken (option_map rules_in (first_of (codes "rules") rows))) (taken BadNaming (option_map naming_of_text (first_of (codes "naming") rows)))
-    (taken BadSeverity (option_map severity_of_text (first_of (codes "minimum-failure-severity") rows))) (is_given (codes "force") rows) (is_given (codes "check-comments") rows) (not (is_given (codes "no-config") rows))
+    given_by (rules_taken (option_map rules_in (first_of (codes "rules") rows)))
+    (taken BadNaming (option_map naming_of_text (first_of (codes "naming") rows)))
+    (taken BadSeverity
+    (option_map severity_of_text (first_of (codes "minimum-failure-severity") rows)))
+    (is_given (codes "force") rows) (is_given (codes "check-comments") rows)
+    (not (is_given (codes "no-config") rows))
 
 -- ---- the form
 
@@ -101,38 +110,47 @@ form_given (Some text) = form_of_text text
 abbrev pub is_good : Bool → ℕ → Bool
 is_good null names = not null || names == 0
 
-abbrev pub request_by : Result Given Usage → Bool → Option (Option Shard) → Option (Option Form) → Bool → Bool → Bool → List Name → Result Request Usage
+abbrev pub request_by : Result Given Usage → Bool → Option (Option Shard) → Option (Option Form)
+    → Bool → Bool → Bool → List Name → Result Request Usage
 request_by (Err usage) quiet shard form are_jobs is_good null names = Err usage
 request_by (Ok given) quiet None form are_jobs is_good null names = Err BadPart
 request_by (Ok given) quiet (Some shard) None are_jobs is_good null names = Err BadForm
 request_by (Ok given) quiet (Some shard) (Some form) false is_good null names = Err BadJobs
 request_by (Ok given) quiet (Some shard) (Some form) true false null names = Err NamesTwice
 request_by (Ok given) quiet (Some shard) (Some form) true true null names =
-    Ok (record { job = record { given = given; quiet = quiet; shard = shard; form = form }; null = null; names = names })
+    Ok (record { job = record { given = given; quiet = quiet; shard = shard; form = form };
+    null = null; names = names })
 
 abbrev pub request_with : List Row → List Name → Result Request Usage
 request_with rows names =
-    request_by (given_of_rows rows) (is_given (codes "quiet") rows) (shard_given (first_of (codes "shard") rows)) (form_given (first_of (codes "format") rows)) (are_jobs_good rows) (is_good (is_given (codes "null") rows) (length names))
+    request_by (given_of_rows rows) (is_given (codes "quiet") rows)
+    (shard_given (first_of (codes "shard") rows)) (form_given (first_of (codes "format") rows))
+    (are_jobs_good rows) (is_good (is_given (codes "null") rows) (length names))
     (is_given (codes "null") rows) names
 
 -- what is said of the rule that `--explain` names
 abbrev pub explain_request : Text → Usage
-explain_request name = option_map_or Explain (find (λ rule. bytes_eq (rule_name rule) name) all_rules) UnknownExplained
+explain_request name =
+    option_map_or Explain (find (λ rule. bytes_eq (rule_name rule) name) all_rules) UnknownExplained
 
 -- a line that asks for a text asks for nothing else, whatever stands beside that
 abbrev pub text_requested : List Row → Option Usage
 text_requested rows =
     if is_given (codes "version") rows then Some Version
-    else (if is_given (codes "list-rules") rows then Some ListRules else option_map explain_request (first_of (codes "explain") rows))
+    else (if is_given (codes "list-rules") rows then Some ListRules
+    else option_map explain_request (first_of (codes "explain") rows))
 
 -- the names of a line are those that clap finds, and then the other ones
 abbrev pub request_of_rows : List Name → List Row → Result Request Usage
-request_of_rows others rows = option_map_or Err (text_requested rows) (request_with rows (texts_of (codes "file") rows ++ others))
+request_of_rows others rows =
+    option_map_or Err (text_requested rows) (request_with rows (texts_of (codes "file") rows
+    ++ others))
 
 -- what these texts ask for, and these names beside them, unless memory runs out
 abbrev pub request_of_texts : List Text → List Name → Result Request Usage
 request_of_texts texts others =
-    unless_fault (usage_by OutOfMemory Help BadLine) (fault_of tfrules_all texts) (request_of_rows others (matches_of tfrules_all texts))
+    unless_fault (usage_by OutOfMemory Help BadLine) (fault_of tfrules_all texts)
+    (request_of_rows others (matches_of tfrules_all texts))
 
 -- whether what is asked for needs names from standard input
 abbrev pub reads_names : Result Request Usage → Bool

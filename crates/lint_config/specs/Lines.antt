@@ -32,7 +32,8 @@ bare line = trim (before_first (λ b. b == 35) line)
 -- cut at the first of a byte, or other parts without one
 abbrev pub cut_or : ℕ → List ℕ → List ℕ × List ℕ → List ℕ × List ℕ
 cut_or c text others =
-    if nat_lt (position_or_len (λ b. b == c) text) (length text) then (trim (before_first (λ b. b == c) text), trim (after_first (λ b. b == c) text))
+    if nat_lt (position_or_len (λ b. b == c) text) (length text)
+    then (trim (before_first (λ b. b == c) text), trim (after_first (λ b. b == c) text))
     else others
 
 -- `NAME=VALUE`, `NAME VALUE`, or `NAME` with an empty value
@@ -42,7 +43,8 @@ parts text = cut_or 61 text (cut_or 32 text (cut_or 9 text (text, [])))
 -- ---- the options that a line adds, or what is wrong with it
 
 -- an option is given once
-abbrev pub with_value : {A : Type 0} → Option A → Result A ConfigFault → (A → Options) → Result Options ConfigFault
+abbrev pub with_value : {A : Type 0} → Option A → Result A ConfigFault → (A → Options)
+    → Result Options ConfigFault
 with_value (Some a) value put = Err GivenTwice
 with_value None (Err fault) put = Err fault
 with_value None (Ok a) put = Ok (put a)
@@ -54,14 +56,23 @@ rules_or_fault (Err list.NoneLeft) = Err NoRuleLeft
 
 abbrev pub with_option : Options → List ℕ → List ℕ → Result Options ConfigFault
 with_option said name value =
-    if bytes_eq name (codes "--rules") then with_value said.rules (rules_or_fault (rules_in value)) (λ rules. record said { rules = Some rules })
-    else (if bytes_eq name (codes "--naming") then with_value said.naming (ok_or (naming_of_text value) UnknownNaming) (λ naming. record said { naming = Some naming })
+    if bytes_eq name (codes "--rules")
+    then with_value said.rules (rules_or_fault (rules_in value))
+    (λ rules. record said { rules = Some rules })
+    else (if bytes_eq name (codes "--naming")
+    then with_value said.naming (ok_or (naming_of_text value) UnknownNaming)
+    (λ naming. record said { naming = Some naming })
     else (if bytes_eq name (codes "--minimum-failure-severity")
-    then with_value said.minimum (ok_or (severity_of_text value) UnknownSeverity) (λ minimum. record said { minimum = Some minimum })
-    else (if bytes_eq name (codes "--force") && length value == 0 then (if said.force then Err GivenTwice else Ok (record said { force = true }))
-    else (if bytes_eq name (codes "--check-comments") && length value == 0 then (if said.checks then Err GivenTwice else Ok (record said { checks = true }))
+    then with_value said.minimum (ok_or (severity_of_text value) UnknownSeverity)
+    (λ minimum. record said { minimum = Some minimum })
+    else (if bytes_eq name (codes "--force") && length value == 0
+    then (if said.force then Err GivenTwice else Ok (record said { force = true }))
+    else (if bytes_eq name (codes "--check-comments") && length value == 0
+    then (if said.checks then Err GivenTwice else Ok (record said { checks = true }))
     else Err UnknownOption))))
 
 -- THE OPTIONS after another line: an empty one adds nothing
 abbrev pub with_line : Options → List ℕ → Result Options ConfigFault
-with_line said line = if length (bare line) == 0 then Ok said else with_option said (parts (bare line)).0 (parts (bare line)).1
+with_line said line =
+    if length (bare line) == 0 then Ok said
+    else with_option said (parts (bare line)).0 (parts (bare line)).1

@@ -22,7 +22,8 @@ tflint_head = print (begin_object ∷ key (codes "issues") ∷ begin_array ∷ [
 abbrev pub form_head : Form → List ℕ → List ℕ
 form_head Json version = tflint_head
 form_head Sarif version = print (sarif_head version)
-form_head Checkstyle version = codes "<?xml version=\"1.0\" encoding=\"UTF-8\"?>\n<checkstyle version=\"4.3\">\n"
+form_head Checkstyle version =
+    codes "<?xml version=\"1.0\" encoding=\"UTF-8\"?>\n<checkstyle version=\"4.3\">\n"
 form_head Junit version = codes "<?xml version=\"1.0\" encoding=\"UTF-8\"?>\n<testsuites>\n"
 form_head Gitlab version = print (begin_array ∷ [])
 form_head Github version = []
@@ -38,15 +39,18 @@ module_text Github is_after rs = flat_map github_line rs
 
 abbrev pub tflint_foot : List Remark → List ℕ
 tflint_foot rs =
-    print (end_array ∷ key (codes "errors") ∷ begin_array ∷ []) ++ (array_text false (map error_json rs) ++ print (end_array ∷ end_object ∷ []))
+    print (end_array ∷ key (codes "errors") ∷ begin_array ∷ [])
+    ++ (array_text false (map error_json rs) ++ print (end_array ∷ end_object ∷ []))
 
 -- the last output, in a run of a status, after issues or without any: why files are refused
 abbrev pub form_foot : Form → ℕ → Bool → List Remark → List ℕ
 form_foot Json status is_after rs = tflint_foot rs
-form_foot Sarif status is_after rs = array_text is_after (map result_json (entries rs)) ++ print (sarif_foot status)
+form_foot Sarif status is_after rs =
+    array_text is_after (map result_json (entries rs)) ++ print (sarif_foot status)
 form_foot Checkstyle status is_after rs = flat_map checkstyle_file rs ++ codes "</checkstyle>\n"
 form_foot Junit status is_after rs = last_suite is_after rs ++ codes "</testsuites>\n"
-form_foot Gitlab status is_after rs = array_text is_after (map quality_json (entries rs)) ++ print (end_array ∷ [])
+form_foot Gitlab status is_after rs =
+    array_text is_after (map quality_json (entries rs)) ++ print (end_array ∷ [])
 form_foot Github status is_after rs = flat_map github_line rs
 
 -- ---- the whole
@@ -58,8 +62,11 @@ is_some (r ∷ rs) = true
 -- the issues of modules, in turn
 abbrev pub modules_text : Form → Bool → List (List Remark) → List ℕ
 modules_text form is_after [] = []
-modules_text form is_after (rs ∷ ms) = module_text form is_after rs ++ modules_text form (is_after || is_some rs) ms
+modules_text form is_after (rs ∷ ms) =
+    module_text form is_after rs ++ modules_text form (is_after || is_some rs) ms
 
 -- THE TEXT of a run in which these are the issues of modules, and the refusals
 abbrev pub whole : Form → List ℕ → ℕ → List (List Remark) → List Remark → List ℕ
-whole form version status ms rs = form_head form version ++ (modules_text form false ms ++ form_foot form status (list_any is_some ms) rs)
+whole form version status ms rs =
+    form_head form version
+    ++ (modules_text form false ms ++ form_foot form status (list_any is_some ms) rs)

@@ -8,13 +8,16 @@ use Rattle.lint_forms.specs.Words.{quality_word, rule_id}
 
 abbrev pub spot_json : Remark → Json
 spot_json r =
-    object (member (codes "path") (string r.file) (member (codes "lines") (object (member (codes "begin") (number (decimal r.line)) no_members)) no_members))
+    object (member (codes "path") (string r.file) (member (codes "lines") (object (member (codes
+    "begin") (number (decimal r.line)) no_members)) no_members))
 
 -- an entry by a rule of this name and severity
 abbrev pub quality_by : List ℕ → List ℕ → Entry → Json
 quality_by name severity e =
-    object (member (codes "description") (string e.said.text) (member (codes "check_name") (string name) (member (codes "fingerprint") (string e.mark)
-    (member (codes "severity") (string severity) (member (codes "location") (spot_json e.said) no_members)))))
+    object (member (codes "description") (string e.said.text) (member (codes "check_name") (string
+    name) (member (codes "fingerprint") (string e.mark)
+    (member (codes "severity") (string severity)
+    (member (codes "location") (spot_json e.said) no_members)))))
 
 -- AN ENTRY
 abbrev pub quality_json : Entry → Json

@@ -19,14 +19,19 @@ pub record HasSmallNumbers (r : Remark) : Type 0 where
 -- JSON as the document of all of them
 abbrev pub ReadsBack : Form → (List ℕ → ℕ → List (List Remark) → List Remark → JsonValue) → Type 0
 ReadsBack form meant =
-    (version : List ℕ) (status : ℕ) (ms : List (List Remark)) (rs : List Remark) → status < 2 ^ 64 → All (All HasSmallNumbers) ms → All HasSmallNumbers rs
+    (version : List ℕ) (status : ℕ) (ms : List (List Remark)) (rs : List Remark) → status < 2 ^ 64
+    → All (All HasSmallNumbers) ms → All HasSmallNumbers rs
     → document (whole form version status ms rs) ≡ Some (meant version status ms rs)
 
 abbrev pub TflintReadsBack : Type 0
-TflintReadsBack = ReadsBack Json (λ version status ms rs. tflint_json (flat_map (λ issues. issues) ms) rs)
+TflintReadsBack =
+    ReadsBack Json (λ version status ms rs. tflint_json (flat_map (λ issues. issues) ms) rs)
 
 abbrev pub SarifReadsBack : Type 0
-SarifReadsBack = ReadsBack Sarif (λ version status ms rs. sarif_json version status (flat_map entries ms ++ entries rs))
+SarifReadsBack =
+    ReadsBack Sarif (λ version status ms rs. sarif_json version status (flat_map entries ms
+    ++ entries rs))
 
 abbrev pub GitlabReadsBack : Type 0
-GitlabReadsBack = ReadsBack Gitlab (λ version status ms rs. gitlab_json (flat_map entries ms ++ entries rs))
+GitlabReadsBack =
+    ReadsBack Gitlab (λ version status ms rs. gitlab_json (flat_map entries ms ++ entries rs))

@@ -14,4 +14,6 @@ pub record Remark : Type 0 where
 
 -- a remark in the code's terms
 abbrev pub said_by : code.Remark → Remark
-said_by r = record { file = r.file.now; line = r.line; column = r.column; subject = r.subject; text = r.text.now }
+said_by r =
+    record { file = r.file.now; line = r.line; column = r.column; subject = r.subject;
+    text = r.text.now }

@@ -25,23 +25,32 @@ abbrev pub configuration_json : List ℕ → Json
 configuration_json level = object (member (codes "level") (string level) no_members)
 
 abbrev pub help_json : List ℕ → List ℕ → Json
-help_json text markdown = object (member (codes "text") (string text) (member (codes "markdown") (string markdown) no_members))
+help_json text markdown =
+    object (member (codes "text") (string text) (member (codes "markdown") (string markdown)
+    no_members))
 
 -- a rule of this name: its reports, its reports with the reason, the reason, its page, and its level
 abbrev pub described_rule : List ℕ → List ℕ → List ℕ → List ℕ → List ℕ → List ℕ → Json
 described_rule name short full why page level =
-    object (member (codes "id") (string name) (member (codes "shortDescription") (text_json short) (member (codes "fullDescription") (text_json full)
-    (member (codes "help") (help_json full why) (member (codes "helpUri") (string page) (member (codes "defaultConfiguration") (configuration_json level) no_members))))))
+    object (member (codes "id") (string name) (member (codes "shortDescription") (text_json short)
+    (member (codes "fullDescription") (text_json full)
+    (member (codes "help") (help_json full why)
+    (member (codes "helpUri") (string page)
+    (member (codes "defaultConfiguration") (configuration_json level) no_members))))))
 
 abbrev pub full_text : List ℕ → List ℕ → List ℕ
 full_text short why = codes "Reports " ++ (short ++ (codes ". " ++ why))
 
 -- TFLint's page on the rule
 abbrev pub page_of : List ℕ → List ℕ
-page_of name = codes "https://github.com/terraform-linters/tflint-ruleset-terraform/blob/main/docs/rules/" ++ (name ++ codes ".md")
+page_of name =
+    codes "https://github.com/terraform-linters/tflint-ruleset-terraform/blob/main/docs/rules/"
+    ++ (name ++ codes ".md")
 
 abbrev pub rule_json : Rule → Json
-rule_json rule = described_rule (rule_name rule) (reports rule) (full_text (reports rule) (reason rule)) (reason rule) (page_of (rule_name rule)) (level_word (subject.Rule rule))
+rule_json rule =
+    described_rule (rule_name rule) (reports rule) (full_text (reports rule) (reason rule))
+    (reason rule) (page_of (rule_name rule)) (level_word (subject.Rule rule))
 
 -- the substitute for a rule, with less text: its name and its text
 abbrev pub briefly : List ℕ → List ℕ → Json
@@ -53,7 +62,8 @@ abbrev pub refusal_json : Json
 refusal_json = briefly (rule_id subject.Refusal) (codes "files that can't be linted")
 
 abbrev pub comment_json : Json
-comment_json = briefly (rule_id subject.Comment) (codes "comments that are meant to silence a rule and don't")
+comment_json =
+    briefly (rule_id subject.Comment) (codes "comments that are meant to silence a rule and don't")
 
 -- ---- results
 
@@ -67,44 +77,57 @@ region_json r = object (member (codes "startLine") (number (decimal r.line)) no_
 
 abbrev pub location_json : List ℕ → Remark → Json
 location_json uri r =
-    object (member (codes "physicalLocation") (object (member (codes "artifactLocation") (object (member (codes "uri") (string uri) no_members))
+    object (member (codes "physicalLocation") (object (member (codes "artifactLocation") (object
+    (member (codes "uri") (string uri) no_members))
     (member (codes "region") (region_json r) no_members))) no_members)
 
 abbrev pub marks_json : List ℕ → Json
-marks_json mark = object (member (codes "primaryLocationLineHash") (string mark) (member (codes "tfrulesIssue/v1") (string mark) no_members))
+marks_json mark =
+    object (member (codes "primaryLocationLineHash") (string mark) (member (codes "tfrulesIssue/v1")
+    (string mark) no_members))
 
 -- a result by a rule of this name, number and level, in the file of this URI
 abbrev pub result_by : List ℕ → ℕ → List ℕ → List ℕ → Entry → Json
 result_by name index level uri e =
-    object (member (codes "ruleId") (string name) (member (codes "ruleIndex") (number (decimal index)) (member (codes "level") (string level)
-    (member (codes "message") (text_json e.said.text) (member (codes "locations") (array (item (location_json uri e.said) no_items))
+    object (member (codes "ruleId") (string name) (member (codes "ruleIndex") (number (decimal
+    index)) (member (codes "level") (string level)
+    (member (codes "message") (text_json e.said.text)
+    (member (codes "locations") (array (item (location_json uri e.said) no_items))
     (member (codes "partialFingerprints") (marks_json e.mark) no_members))))))
 
 -- A RESULT
 abbrev pub result_json : Entry → Json
-result_json e = result_by (rule_id e.said.subject) (rule_index e.said.subject) (level_word e.said.subject) (uri e.said.file) e
+result_json e =
+    result_by (rule_id e.said.subject) (rule_index e.said.subject) (level_word e.said.subject)
+    (uri e.said.file) e
 
 -- ---- the document
 
 abbrev pub tool_json : List ℕ → Json
 tool_json version =
-    object (member (codes "driver") (object (member (codes "name") (string (codes "tfrules")) (member (codes "version") (string version)
-    (member (codes "rules") (array (json_items (map rule_json all_rules ++ refusal_json ∷ comment_json ∷ []))) no_members)))) no_members)
+    object (member (codes "driver") (object (member (codes "name") (string (codes "tfrules"))
+    (member (codes "version") (string version)
+    (member (codes "rules") (array (json_items (map rule_json all_rules
+    ++ refusal_json ∷ comment_json ∷ []))) no_members)))) no_members)
 
 -- the end of the run: if something failed, its status is 1
 abbrev pub invocation_json : ℕ → Json
 invocation_json status =
-    object (member (codes "executionSuccessful") (boolean (not (status == 1))) (member (codes "exitCode") (number (decimal status)) no_members))
+    object (member (codes "executionSuccessful") (boolean (not (status == 1))) (member (codes
+    "exitCode") (number (decimal status)) no_members))
 
 abbrev pub run_json : List ℕ → ℕ → List Entry → Json
 run_json version status es =
-    object (member (codes "tool") (tool_json version) (member (codes "results") (array (json_items (map result_json es)))
+    object (member (codes "tool") (tool_json version) (member (codes "results") (array (json_items
+    (map result_json es)))
     (member (codes "invocations") (array (item (invocation_json status) no_items)) no_members)))
 
 -- THE DOCUMENT of the remarks on all modules, by the program of a version in a run of a status
 abbrev pub sarif_json : List ℕ → ℕ → List Entry → Json
 sarif_json version status es =
-    object (member (codes "$schema") (string (codes "https://json.schemastore.org/sarif-2.1.0.json")) (member (codes "version") (string (codes "2.1.0"))
+    object (member (codes "$schema") (string (codes
+    "https://json.schemastore.org/sarif-2.1.0.json"))
+    (member (codes "version") (string (codes "2.1.0"))
     (member (codes "runs") (array (item (run_json version status es) no_items)) no_members)))
 
 -- ---- its parts
@@ -112,11 +135,15 @@ sarif_json version status es =
 -- the tokens before the results
 abbrev pub sarif_head : List ℕ → List Token
 sarif_head version =
-    begin_object ∷ key (codes "$schema") ∷ Token.string (codes "https://json.schemastore.org/sarif-2.1.0.json") ∷ key (codes "version") ∷ Token.string (codes "2.1.0")
-    ∷ key (codes "runs") ∷ begin_array ∷ begin_object ∷ key (codes "tool") ∷ (json_tokens (tool_json version)
+    begin_object ∷ key (codes "$schema")
+    ∷ Token.string (codes "https://json.schemastore.org/sarif-2.1.0.json") ∷ key (codes "version")
+    ∷ Token.string (codes "2.1.0")
+    ∷ key (codes "runs") ∷ begin_array ∷ begin_object ∷ key (codes "tool")
+    ∷ (json_tokens (tool_json version)
     ++ key (codes "results") ∷ begin_array ∷ [])
 
 -- and those after them
 abbrev pub sarif_foot : ℕ → List Token
 sarif_foot status =
-    end_array ∷ key (codes "invocations") ∷ begin_array ∷ (json_tokens (invocation_json status) ++ end_array ∷ end_object ∷ end_array ∷ end_object ∷ [])
+    end_array ∷ key (codes "invocations") ∷ begin_array
+    ∷ (json_tokens (invocation_json status) ++ end_array ∷ end_object ∷ end_array ∷ end_object ∷ [])

@@ -31,12 +31,15 @@ by_severity notice warning error Error = error
 
 -- TFLint's and Checkstyle's
 abbrev pub severity_word : Subject → List ℕ
-severity_word subject = by_severity (codes "info") (codes "warning") (codes "error") (severity_of subject)
+severity_word subject =
+    by_severity (codes "info") (codes "warning") (codes "error") (severity_of subject)
 
 -- SARIF's
 abbrev pub level_word : Subject → List ℕ
-level_word subject = by_severity (codes "note") (codes "warning") (codes "error") (severity_of subject)
+level_word subject =
+    by_severity (codes "note") (codes "warning") (codes "error") (severity_of subject)
 
 -- GitLab's
 abbrev pub quality_word : Subject → List ℕ
-quality_word subject = by_severity (codes "info") (codes "minor") (codes "major") (severity_of subject)
+quality_word subject =
+    by_severity (codes "info") (codes "minor") (codes "major") (severity_of subject)

@@ -9,13 +9,16 @@ use Rattle.lint_forms.specs.declared.subject.Subject.{Subject}
 
 -- characters that XML can't have become U+FFFD: most control characters, U+FFFE and U+FFFF
 abbrev pub kept_or_replaced : ℕ → List ℕ
-kept_or_replaced c = if nat_lt c 32 || (c == 65534 || c == 65535) then 239 ∷ 191 ∷ 189 ∷ [] else encode_utf8 c
+kept_or_replaced c =
+    if nat_lt c 32 || (c == 65534 || c == 65535) then 239 ∷ 191 ∷ 189 ∷ [] else encode_utf8 c
 
 -- a character between quotes
 abbrev pub attribute_char : ℕ → List ℕ
 attribute_char c =
-    if c == 38 then codes "&amp;" else if c == 60 then codes "&lt;" else if c == 62 then codes "&gt;" else if c == 34 then codes "&quot;"
-    else if c == 9 then codes "&#9;" else if c == 10 then codes "&#10;" else if c == 13 then codes "&#13;" else kept_or_replaced c
+    if c == 38 then codes "&amp;" else if c == 60 then codes "&lt;" else if c == 62
+    then codes "&gt;" else if c == 34 then codes "&quot;"
+    else if c == 9 then codes "&#9;" else if c == 10 then codes "&#10;" else if c == 13
+    then codes "&#13;" else kept_or_replaced c
 
 abbrev pub attribute_text : List ℕ → List ℕ
 attribute_text text = flat_map attribute_char (chars text)
@@ -24,13 +27,17 @@ attribute_text text = flat_map attribute_char (chars text)
 
 abbrev pub file_head : Remark → List ℕ
 file_head r =
-    codes "<file name=\"" ++ (attribute_text r.file ++ (codes "\"><error line=\"" ++ (decimal r.line ++ (codes "\" column=\"" ++ decimal r.column))))
+    codes "<file name=\""
+    ++ (attribute_text r.file
+    ++ (codes "\"><error line=\""
+    ++ (decimal r.line ++ (codes "\" column=\"" ++ decimal r.column))))
 
 abbrev pub file_middle : Remark → List ℕ
 file_middle r = codes "\" severity=\"" ++ (severity_word r.subject ++ codes "\" message=\"")
 
 abbrev pub file_tail : Remark → List ℕ
-file_tail r = attribute_text r.text ++ codes "\" source=\"" ++ rule_id r.subject ++ codes "\"/></file>\n"
+file_tail r =
+    attribute_text r.text ++ codes "\" source=\"" ++ rule_id r.subject ++ codes "\"/></file>\n"
 
 -- THE ERROR, with its file
 abbrev pub checkstyle_file : Remark → List ℕ
@@ -47,11 +54,17 @@ abbrev pub spot : Remark → List ℕ
 spot r = attribute_text r.file ++ (codes ":" ++ (decimal r.line ++ (codes ":" ++ decimal r.column)))
 
 abbrev pub case_head : Remark → List ℕ
-case_head r = codes "<testcase classname=\"" ++ (rule_id r.subject ++ (codes "\" name=\"" ++ (spot r ++ (codes "\"><" ++ outcome_word r.subject))))
+case_head r =
+    codes "<testcase classname=\""
+    ++ (rule_id r.subject
+    ++ (codes "\" name=\"" ++ (spot r ++ (codes "\"><" ++ outcome_word r.subject))))
 
 abbrev pub case_tail : Remark → List ℕ
 case_tail r =
-    codes " type=\"" ++ (severity_text (severity_of r.subject) ++ (codes "\" message=\"" ++ (spot r ++ (codes ": " ++ (attribute_text r.text ++ codes "\"/></testcase>\n")))))
+    codes " type=\""
+    ++ (severity_text (severity_of r.subject)
+    ++ (codes "\" message=\""
+    ++ (spot r ++ (codes ": " ++ (attribute_text r.text ++ codes "\"/></testcase>\n")))))
 
 -- THE TEST that failed
 abbrev pub junit_case : Remark → List ℕ
@@ -64,7 +77,8 @@ abbrev pub suite_head : List Remark → List ℕ
 suite_head rs =
     codes "<testsuite name=\"tfrules\" tests=\"" ++ (decimal (length rs)
     ++ (codes "\" failures=\"" ++ (decimal (length (filter (λ r. is_issue r.subject) rs))
-    ++ (codes "\" errors=\"" ++ (decimal (length (filter (λ r. not (is_issue r.subject)) rs)) ++ codes "\">\n")))))
+    ++ (codes "\" errors=\""
+    ++ (decimal (length (filter (λ r. not (is_issue r.subject)) rs)) ++ codes "\">\n")))))
 
 -- THE SUITE of remarks, if there are any
 abbrev pub junit_suite : List Remark → List ℕ
@@ -73,7 +87,9 @@ junit_suite (r ∷ rs) = suite_head (r ∷ rs) ++ (flat_map junit_case (r ∷ rs
 
 -- a suite with a test that passed, if there are no remarks: some forges reject a report without tests
 abbrev pub passed_suite : List ℕ
-passed_suite = codes "<testsuite name=\"tfrules\" tests=\"1\" failures=\"0\" errors=\"0\">\n<testcase classname=\"tfrules\" name=\"no issue\"/>\n" ++ suite_end
+passed_suite =
+    codes
+    "<testsuite name=\"tfrules\" tests=\"1\" failures=\"0\" errors=\"0\">\n<testcase classname=\"tfrules\" name=\"no issue\"/>\n" ++ suite_end
 
 -- the last one, after others or as the first
 abbrev pub last_suite : Bool → List Remark → List ℕ

@@ -23,15 +23,22 @@ use Rattle.module_config.specs.declared.governor.Placed.{Placed}
 
 -- the contents of a file, which are these bytes if the device tells them
 abbrev pub IsRead : Files → Name → Faults → Faults → ConfigText → Type 0
-IsRead files name was is (Says config) = (is ≡ was) × ((text : List ℕ) × Tells (bytes_of_name files name) text × IsText text × (read_of config ≡ read_text text))
-IsRead files name was is (Refused fault) = (is ≡ was) × ((bytes : List ℕ) × Tells (bytes_of_name files name) bytes × IsLoadFault bytes fault)
+IsRead files name was is (Says config) =
+    (is ≡ was)
+    × ((text : List ℕ) × Tells (bytes_of_name files name) text × IsText text
+    × (read_of config ≡ read_text text))
+IsRead files name was is (Refused fault) =
+    (is ≡ was)
+    × ((bytes : List ℕ) × Tells (bytes_of_name files name) bytes × IsLoadFault bytes fault)
 IsRead files name was is (Unread fault) = is ≡ with_fault was (Some fault)
 
 abbrev pub AreRead : Files → List Found → List ConfigFile → Faults → Faults → Type 0
 AreRead files [] [] was is = is ≡ was
 AreRead files [] (c ∷ cs) was is = ⊥
 AreRead files (f ∷ fs) [] was is = ⊥
-AreRead files (f ∷ fs) (c ∷ cs) was is = (between : Faults) × (c.name.items ≡ f.name.items) × IsRead files c.name.items was between c.text × AreRead files fs cs between is
+AreRead files (f ∷ fs) (c ∷ cs) was is =
+    (between : Faults) × (c.name.items ≡ f.name.items)
+    × IsRead files c.name.items was between c.text × AreRead files fs cs between is
 
 -- these names in their order, each once, and why one can't be looked at
 abbrev pub noted_of : Found → Name × Option TreeFault
@@ -52,7 +59,8 @@ failure_in _ = []
 
 -- THE KNOWN OPTIONS of these modules, with these on the line: each governing file was read once, and each failed call
 -- is noted. The modules whose options aren't known are counted, and the others are linted.
-pub record Configures (files : Files) (line : Options) (reads : Bool) (modules : List Module) (was is : Faults) (c : Configured) : Type 0 where
+pub record Configures (files : Files) (line : Options) (reads : Bool) (modules : List Module)
+    (was is : Faults) (c : Configured) : Type 0 where
   pub begun : Faults
   pub start : IsStart files (reads && list_any wants modules) was begun c.start
   pub placed : List Placed

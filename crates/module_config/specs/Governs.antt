@@ -8,7 +8,8 @@ use Rattle.file_tree.specs.declared.kind.Kind.{Kind}
 -- the folders that end before the n-th byte of a path, the nearest first
 abbrev pub ups_to : Name → ℕ → List Name
 ups_to path zero = []
-ups_to path (suc n) = if get_or path n 0 == 47 then take (suc n) path ∷ ups_to path n else ups_to path n
+ups_to path (suc n) =
+    if get_or path n 0 == 47 then take (suc n) path ∷ ups_to path n else ups_to path n
 
 -- a folder and those above it
 abbrev pub ups : Name → List Name
@@ -18,16 +19,19 @@ ups folder = ups_to folder (length folder)
 pub record IsFirst (files : Files) (entry : Name) (folders : List Name) (n : ℕ) : Type 0 where
   pub within : n ≤ length folders
   pub lack : All (λ folder. files.entry (folder ++ entry) ≡ None) (take n folders)
-  pub has : n < length folders → (kind : Kind) × Tells (files.entry (get_or folders n [] ++ entry)) kind
+  pub has : n < length folders → (kind : Kind)
+      × Tells (files.entry (get_or folders n [] ++ entry)) kind
 
 -- the folders whose `.tfrules` counts: up to the top of the repository, which is the first that has `.git`; if none
 -- has, the folder itself, and those that aren't above the current one
 abbrev pub counted_folders : Name → List Name → ℕ → List Name
 counted_folders current folders top =
-    if nat_lt top (length folders) then take (top + 1) folders else filter (λ folder. bytes_eq folder (get_or folders 0 []) || begins current folder) folders
+    if nat_lt top (length folders) then take (top + 1) folders
+    else filter (λ folder. bytes_eq folder (get_or folders 0 []) || begins current folder) folders
 
 abbrev pub file_at : List Name → ℕ → Option Name
-file_at folders n = if nat_lt n (length folders) then Some (get_or folders n [] ++ codes ".tfrules") else None
+file_at folders n =
+    if nat_lt n (length folders) then Some (get_or folders n [] ++ codes ".tfrules") else None
 
 -- THE FILE THAT GOVERNS the modules of a folder, if one does: that of the nearest folder that has one and counts
 pub record Governs (files : Files) (current folder : Name) (governor : Option Name) : Type 0 where

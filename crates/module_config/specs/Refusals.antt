@@ -19,11 +19,14 @@ abbrev pub line_number : ℕ → ℕ
 line_number line = min line 4294967295
 
 abbrev pub line_refusal : Name → BadLine → Refusal
-line_refusal name bad = record { name = name; at = Some (record { line = line_number bad.line; column = 1 }); text = string_bytes bad.text; snippet = [] }
+line_refusal name bad =
+    record { name = name; at = Some (record { line = line_number bad.line; column = 1 });
+    text = string_bytes bad.text; snippet = [] }
 
 abbrev pub text_refusals : Name → ConfigText → List Refusal
 text_refusals name (Says config) = map (line_refusal name) config.faults.items
-text_refusals name (Refused fault) = record { name = name; at = Some fault.at; text = fault_text fault.kind; snippet = [] } ∷ []
+text_refusals name (Refused fault) =
+    record { name = name; at = Some fault.at; text = fault_text fault.kind; snippet = [] } ∷ []
 text_refusals name (Unread fault) = refusal_of name (tree_fault_text fault) ∷ []
 
 abbrev pub config_refusals : Start → ConfigFile → List Refusal
@@ -38,4 +41,6 @@ failure_refusals start f = fault_refusals (shown_from start f.name.items) f.faul
 
 -- ALL OF THEM
 abbrev pub configured_refusals : Configured → List Refusal
-configured_refusals c = flat_map (failure_refusals c.start) c.failures.items ++ flat_map (config_refusals c.start) c.files.items
+configured_refusals c =
+    flat_map (failure_refusals c.start) c.failures.items
+    ++ flat_map (config_refusals c.start) c.files.items

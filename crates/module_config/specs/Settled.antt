@@ -30,7 +30,9 @@ pub record Wanted : Type 0 where
   pub checks : Bool
 
 abbrev pub wanted_of : Policy → Wanted
-wanted_of policy = record { asked = asked_of policy.settings; minimum = policy.minimum; force = policy.force; checks = policy.checks }
+wanted_of policy =
+    record { asked = asked_of policy.settings; minimum = policy.minimum; force = policy.force;
+    checks = policy.checks }
 
 abbrev pub first_said : {A : Type 0} → Option A → Option A → A → A
 first_said (Some line) own default = line
@@ -41,7 +43,9 @@ default_rules = filter is_recommended all_rules
 
 abbrev pub policy_of : Options → Options → Wanted
 policy_of line own = record {
-  asked = record { rules = first_said line.rules own.rules default_rules; naming = first_said line.naming own.naming SnakeCase };
+  asked =
+      record { rules = first_said line.rules own.rules default_rules;
+      naming = first_said line.naming own.naming SnakeCase };
   minimum = first_said line.minimum own.minimum Notice;
   force = line.force || own.force;
   checks = line.checks || own.checks;
@@ -49,7 +53,8 @@ policy_of line own = record {
 
 -- the options in a file, unless a line of it is bad or it isn't text
 abbrev pub good_text : ConfigText → Option Options
-good_text (Says config) = if length config.faults.items == 0 then Some (options_of config.said) else None
+good_text (Says config) =
+    if length config.faults.items == 0 then Some (options_of config.said) else None
 good_text _ = None
 
 abbrev pub good_file : Option ConfigFile → Option Options

@@ -26,7 +26,9 @@ bad_line name bad = error tree_linter (quoted name ++ line_words bad)
 -- what is wrong with a file
 abbrev pub text_lines : Name → ConfigText → List ℕ
 text_lines name (Says config) = flat_map (bad_line name) config.faults.items
-text_lines name (Refused fault) = refusal_line (record { name = name; at = Some fault.at; text = fault_text fault.kind; snippet = [] })
+text_lines name (Refused fault) =
+    refusal_line (record { name = name; at = Some fault.at; text = fault_text fault.kind;
+    snippet = [] })
 text_lines name (Unread fault) = refusal_line (refusal_of name (tree_fault_text fault))
 
 abbrev pub config_lines : Start → ConfigFile → List ℕ
@@ -41,10 +43,13 @@ abbrev pub failure_lines : Start → Found → List ℕ
 failure_lines start f = fault_line (shown_from start f.name.items) f.fault
 
 abbrev pub configured_words : Configured → List ℕ
-configured_words c = flat_map (failure_lines c.start) c.failures.items ++ flat_map (config_lines c.start) c.files.items
+configured_words c =
+    flat_map (failure_lines c.start) c.failures.items
+    ++ flat_map (config_lines c.start) c.files.items
 
 -- how many modules aren't linted, if any
 abbrev pub unlinted_line : ℕ → List ℕ
 unlinted_line n =
     if n == 0 then []
-    else (if n == 1 then codes "1 module not linted: its options aren't known\n" else decimal n ++ codes " modules not linted: their options aren't known\n")
+    else (if n == 1 then codes "1 module not linted: its options aren't known\n"
+    else decimal n ++ codes " modules not linted: their options aren't known\n")

@@ -100,7 +100,8 @@ lost_of f = if is_lost f && not (is_gone_by f.fault f.name.items) then f ∷ [] 
 -- why the entry under this name is no file of a module that can be linted, if it can't be
 abbrev pub name_fault : Option FoundFile → Name → Option TreeFault
 name_fault None name = if is_module_file name then Some NotAFile else None
-name_fault (Some file) name = if is_module_file name && not (is_utf8 name) then Some NotUtf8 else None
+name_fault (Some file) name =
+    if is_module_file name && not (is_utf8 name) then Some NotUtf8 else None
 
 abbrev pub fault_by : Option TreeFault → Option FoundFile → Name → Option TreeFault
 fault_by None file name = name_fault file name
@@ -133,7 +134,8 @@ abbrev pub told_in : Found → List Found
 told_in f = lost_in (judged f)
 
 -- the module of a folder with these entries: its files, and whether it is whole; and the reports for the folder
-pub record IsModuleOf (name : Name) (found : List Found) (m : Module) (told : List Found) : Type 0 where
+pub record IsModuleOf (name : Name) (found : List Found) (m : Module) (told : List Found) : Type 0
+    where
   pub folder : m.folder.items ≡ name
   pub files : map string_bytes m.files.items ≡ flat_map file_in found
   pub whole : m.is_whole ≡ list_all is_sound found
@@ -142,17 +144,25 @@ pub record IsModuleOf (name : Name) (found : List Found) (m : Module) (told : Li
 -- the entries of a folder: it was listed before, or it is now, and then the device has these faults before and after
 abbrev pub StandsIn : Files → List ListedFolder → Name → List Found → Faults → Faults → Type 0
 StandsIn files looked folder found was is =
-    ((is ≡ was) × ((l : ListedFolder) × Contains looked l × (l.folder.items ≡ folder) × (l.found.items ≡ found)))
+    ((is ≡ was)
+    × ((l : ListedFolder) × Contains looked l × (l.folder.items ≡ folder)
+    × (l.found.items ≡ found)))
     ⊎ (FindsIn files folder found × AreHeard was is found)
 
 -- A MODULE has the entries of its folder
-abbrev pub IsModule : Files → List ListedFolder → Name → Module → List Found → Faults → Faults → Type 0
-IsModule files looked folder m told was is = (found : List Found) × StandsIn files looked folder found was is × IsModuleOf folder found m told
+abbrev pub IsModule : Files → List ListedFolder → Name → Module → List Found → Faults → Faults
+    → Type 0
+IsModule files looked folder m told was is =
+    (found : List Found) × StandsIn files looked folder found was is
+    × IsModuleOf folder found m told
 
 -- THE MODULES of folders, and all reports for these
-abbrev pub AreModules : Files → List ListedFolder → List Found → List Module → List Found → Faults → Faults → Type 0
+abbrev pub AreModules : Files → List ListedFolder → List Found → List Module → List Found → Faults
+    → Faults → Type 0
 AreModules files looked [] [] told was is = (told ≡ []) × (is ≡ was)
 AreModules files looked [] (m ∷ ms) told was is = ⊥
 AreModules files looked (d ∷ ds) [] told was is = ⊥
 AreModules files looked (d ∷ ds) (m ∷ ms) told was is =
-    (here rest : List Found) × (between : Faults) × (told ≡ here ++ rest) × IsModule files looked d.name.items m here was between × AreModules files looked ds ms rest between is
+    (here rest : List Found) × (between : Faults) × (told ≡ here ++ rest)
+    × IsModule files looked d.name.items m here was between
+    × AreModules files looked ds ms rest between is

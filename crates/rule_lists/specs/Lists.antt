@@ -32,14 +32,17 @@ is_known_part part = list_any (stands_for (part_name part)) all_rules
 
 -- A RULE IS REQUESTED by the parts in turn: the last that covers it decides
 abbrev pub is_asked_after : Rule → Bool → List ℕ → Bool
-is_asked_after rule before part = if stands_for (part_name part) rule then not (takes_away part) else before
+is_asked_after rule before part =
+    if stands_for (part_name part) rule then not (takes_away part) else before
 
 abbrev pub is_asked : List (List ℕ) → Rule → Bool
 is_asked parts rule = fold (is_asked_after rule) false parts
 
 abbrev pub rules_of_parts : List (List ℕ) → Result (List Rule) ListFault
 rules_of_parts parts =
-    if list_all is_known_part parts then (if list_any (is_asked parts) all_rules then Ok (filter (is_asked parts) all_rules) else Err NoneLeft)
+    if list_all is_known_part parts
+    then (if list_any (is_asked parts) all_rules then Ok (filter (is_asked parts) all_rules)
+    else Err NoneLeft)
     else Err UnknownRule
 
 -- THE RULES of a list, in the order of their names
@@ -48,7 +51,10 @@ rules_in list = rules_of_parts (slice_split (λ b. b == 44) list)
 
 -- THE NAME that is reported if a text isn't a list: the first that isn't a rule's
 abbrev pub unknown_in : List ℕ → List ℕ
-unknown_in list = unwrap_or (option_map part_name (find (λ part. not (is_known_part part)) (slice_split (λ b. b == 44) list))) []
+unknown_in list =
+    unwrap_or
+    (option_map part_name
+    (find (λ part. not (is_known_part part)) (slice_split (λ b. b == 44) list))) []
 
 -- the rules of a set that represents a list
 abbrev pub rules_found : Result RuleSet ListFault → Result (List Rule) ListFault

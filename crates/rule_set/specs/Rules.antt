@@ -28,7 +28,10 @@ severity _ = Warning
 
 -- in the order of the names
 abbrev pub all_rules : List Rule
-all_rules = CommentSyntax ∷ DeprecatedIndex ∷ DeprecatedInterpolation ∷ DocumentedOutputs ∷ DocumentedVariables ∷ ModulePinnedSource ∷ ModuleVersion ∷ NamingConvention ∷ TypedVariables ∷ UnusedDeclarations ∷ []
+all_rules =
+    CommentSyntax ∷ DeprecatedIndex ∷ DeprecatedInterpolation ∷ DocumentedOutputs
+    ∷ DocumentedVariables ∷ ModulePinnedSource ∷ ModuleVersion ∷ NamingConvention ∷ TypedVariables
+    ∷ UnusedDeclarations ∷ []
 
 -- the same rule, since no two have one name
 abbrev pub is_rule : Rule → Rule → Bool

@@ -21,7 +21,9 @@ nth_line number text = before_first (λ b. b == 10) (after_lines (number - 1) te
 
 -- a terminal may treat it as more than a character: a control, a line end, or one that turns the direction of writing
 abbrev pub is_hidden : ℕ → Bool
-is_hidden c = nat_lt c 32 || is_in_range 127 159 c || is_in_range 0x2028 0x202E c || is_in_range 0x2066 0x2069 c
+is_hidden c =
+    nat_lt c 32 || is_in_range 127 159 c || is_in_range 0x2028 0x202E c
+    || is_in_range 0x2066 0x2069 c
 
 -- the character that is shown for one: a blank for a hidden one
 abbrev pub shown_char : ℕ → ℕ
@@ -41,11 +43,15 @@ blanks_below part = replicate (str_width false (chars (visible part))) 32
 
 -- a line, and below it a caret at a column
 abbrev pub with_caret : ℕ → List ℕ → List ℕ
-with_caret column line = codes "  " ++ (visible line ++ (codes "\n  " ++ (blanks_below (before_column column line) ++ codes "^\n")))
+with_caret column line =
+    codes "  "
+    ++ (visible line ++ (codes "\n  " ++ (blanks_below (before_column column line) ++ codes "^\n")))
 
 -- that snippet for a line that is shown: it has a character or more, and not too many
 abbrev pub snippet_of_line : ℕ → List ℕ → List ℕ
-snippet_of_line column line = if length line == 0 || nat_lt longest_line (length (chars line)) then [] else with_caret column line
+snippet_of_line column line =
+    if length line == 0 || nat_lt longest_line (length (chars line)) then []
+    else with_caret column line
 
 abbrev pub snippet : List ℕ → Position → List ℕ
 snippet text at = snippet_of_line at.column (nth_line at.line text)

@@ -45,7 +45,9 @@ pub record Attribute : Type 0 where
   pub end : ℕ
 
 abbrev pub attribute : List Numbered → Item → Option Attribute
-attribute ts (item.Attribute level name first end) = if level == 1 then Some (record { name = text_of ts name; token = name; first = first; end = end }) else None
+attribute ts (item.Attribute level name first end) =
+    if level == 1
+    then Some (record { name = text_of ts name; token = name; first = first; end = end }) else None
 attribute ts _ = None
 
 -- the labels of a block, where `rest` follows it
@@ -60,7 +62,9 @@ with_attribute (Some a) attributes = a ∷ attributes
 -- the attributes directly in its body
 abbrev pub attributes_in : List Numbered → List Item → List Attribute
 attributes_in ts [] = []
-attributes_in ts (i ∷ rest) = let more = attributes_in ts rest in if is_inside i then with_attribute (attribute ts i) more else []
+attributes_in ts (i ∷ rest) =
+    let more =
+    attributes_in ts rest in if is_inside i then with_attribute (attribute ts i) more else []
 
 abbrev pub has : List ℕ → List Attribute → Bool
 has name attributes = list_any (λ a. bytes_eq a.name name) attributes
@@ -73,13 +77,19 @@ pub record PlainText : Type 0 where
 
 -- a quote with at most one literal
 abbrev pub plain_text : List Numbered → Option PlainText
-plain_text (q ∷ c ∷ []) = if is QuoteOpen q.kind && is QuoteClose c.kind then Some (record { quote = q.number; text = [] }) else None
-plain_text (q ∷ l ∷ c ∷ []) = if is QuoteOpen q.kind && is Lit l.kind && is QuoteClose c.kind then Some (record { quote = q.number; text = l.text }) else None
+plain_text (q ∷ c ∷ []) =
+    if is QuoteOpen q.kind && is QuoteClose c.kind
+    then Some (record { quote = q.number; text = [] }) else None
+plain_text (q ∷ l ∷ c ∷ []) =
+    if is QuoteOpen q.kind && is Lit l.kind && is QuoteClose c.kind
+    then Some (record { quote = q.number; text = l.text }) else None
 plain_text _ = None
 
 -- the tokens of an attribute's value without comments and newlines
 abbrev pub value_of : List Numbered → Attribute → List Numbered
-value_of ts a = filter (λ t. not (is_comment t.kind) && not (is Newline t.kind)) (take (a.end - a.first) (drop a.first ts))
+value_of ts a =
+    filter (λ t. not (is_comment t.kind)
+    && not (is Newline t.kind)) (take (a.end - a.first) (drop a.first ts))
 
 abbrev pub source_of_plain_text : Option PlainText → Option (SourceAt ℕ)
 source_of_plain_text = option_map (λ p. record { source = source_of p.text; at = p.quote })
@@ -89,7 +99,8 @@ source_of_attribute ts = option_and_then (λ a. source_of_plain_text (plain_text
 
 -- by the first attribute `source`
 abbrev pub module_source : List Numbered → List Attribute → Option (SourceAt ℕ)
-module_source ts attributes = source_of_attribute ts (find (λ a. bytes_eq a.name (codes "source")) attributes)
+module_source ts attributes =
+    source_of_attribute ts (find (λ a. bytes_eq a.name (codes "source")) attributes)
 
 -- ---- declarations
 
@@ -103,7 +114,8 @@ declarer word =
     if bytes_eq word (codes "variable") then Some (record { kind = declares.Variable; labels = 1 })
     else if bytes_eq word (codes "output") then Some (record { kind = declares.Output; labels = 1 })
     else if bytes_eq word (codes "module") then Some (record { kind = declares.Module; labels = 1 })
-    else if bytes_eq word (codes "resource") then Some (record { kind = declares.Resource; labels = 2 })
+    else if bytes_eq word (codes "resource")
+    then Some (record { kind = declares.Resource; labels = 2 })
     else if bytes_eq word (codes "data") then Some (record { kind = declares.Data; labels = 2 })
     else None
 
@@ -111,7 +123,8 @@ declarer word =
 abbrev pub is_kind : DeclarationKind → DeclarationKind → Bool
 is_kind = (derived.ghosts).eq
 
-abbrev pub by_declarer : List Numbered → ℕ → List (List ℕ) → List Attribute → Option Declarer → List (Declaration ℕ)
+abbrev pub by_declarer : List Numbered → ℕ → List (List ℕ) → List Attribute → Option Declarer
+    → List (Declaration ℕ)
 by_declarer ts token names attributes None = []
 by_declarer ts token names attributes (Some d) =
     if length names == d.labels then
@@ -127,7 +140,9 @@ by_declarer ts token names attributes (Some d) =
     else []
 
 abbrev pub of_local : Attribute → Declaration ℕ
-of_local a = record { kind = declares.Local; names = a.name ∷ []; at = a.token; described = false; typed = false; versioned = false; source = None }
+of_local a =
+    record { kind = declares.Local; names = a.name ∷ []; at = a.token; described = false;
+    typed = false; versioned = false; source = None }
 
 abbrev pub is_empty : List (List ℕ) → Bool
 is_empty [] = true
@@ -136,12 +151,14 @@ is_empty (x ∷ xs) = false
 -- what a top-level block declares
 abbrev pub of_block : List Numbered → ℕ → List (List ℕ) → List Attribute → List (Declaration ℕ)
 of_block ts token names attributes =
-    if bytes_eq (text_of ts token) (codes "locals") then (if is_empty names then map of_local attributes else [])
+    if bytes_eq (text_of ts token) (codes "locals")
+    then (if is_empty names then map of_local attributes else [])
     else by_declarer ts token names attributes (declarer (text_of ts token))
 
 -- what an item declares, where `rest` follows it in the list of items
 abbrev pub of_item : List Numbered → Item → List Item → List (Declaration ℕ)
-of_item ts (item.Block level token end) rest = if is_closed level then of_block ts token (labels_in ts rest) (attributes_in ts rest) else []
+of_item ts (item.Block level token end) rest =
+    if is_closed level then of_block ts token (labels_in ts rest) (attributes_in ts rest) else []
 of_item ts _ rest = []
 
 abbrev pub of_items : List Numbered → List Item → List (Declaration ℕ)

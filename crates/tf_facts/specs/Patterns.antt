@@ -14,7 +14,9 @@ is_index _ = false
 -- what follows the closer of what is open, where so many more are open
 abbrev pub after_closer : ℕ → List Numbered → List Numbered
 after_closer depth [] = []
-after_closer depth (t ∷ ts) = if is_closed depth && (closer_count t.kind == 1) then ts else after_closer (deepen depth t.kind) ts
+after_closer depth (t ∷ ts) =
+    if is_closed depth && (closer_count t.kind == 1) then ts
+    else after_closer (deepen depth t.kind) ts
 
 abbrev pub begins_with_close : List Numbered → Bool
 begins_with_close [] = false
@@ -22,7 +24,8 @@ begins_with_close (t ∷ ts) = is kind.QuoteClose t.kind
 
 -- a quote that holds one interpolation and nothing else
 abbrev pub is_wrapped : List Numbered → Bool
-is_wrapped (q ∷ i ∷ rest) = is kind.QuoteOpen q.kind && is kind.InterpOpen i.kind && begins_with_close (after_closer 0 rest)
+is_wrapped (q ∷ i ∷ rest) =
+    is kind.QuoteOpen q.kind && is kind.InterpOpen i.kind && begins_with_close (after_closer 0 rest)
 is_wrapped _ = false
 
 -- the numbers of the tokens from which on the test holds

@@ -44,7 +44,8 @@ by_name word name rest = option_and_then (λ n. reference_of word n.text rest) n
 -- the reference with which these tokens begin
 abbrev pub reference_at : List Numbered → Option (List ℕ)
 reference_at [] = None
-reference_at (w ∷ ts) = if is kind.Ident w.kind then by_name w.text (name_after ts) (drop 2 ts) else None
+reference_at (w ∷ ts) =
+    if is kind.Ident w.kind then by_name w.text (name_after ts) (drop 2 ts) else None
 
 -- where a variable is declared, and as what
 pub record VariableSpan : Type 0 where
@@ -66,24 +67,29 @@ variable_blocks_of_item ts _ rest = []
 
 abbrev pub variable_blocks_of_items : List Numbered → List Item → List VariableSpan
 variable_blocks_of_items ts [] = []
-variable_blocks_of_items ts (i ∷ rest) = variable_blocks_of_item ts i rest ++ variable_blocks_of_items ts rest
+variable_blocks_of_items ts (i ∷ rest) =
+    variable_blocks_of_item ts i rest ++ variable_blocks_of_items ts rest
 
 abbrev pub variable_blocks : List Numbered → List VariableSpan
 variable_blocks ts = variable_blocks_of_items ts (items_of ts)
 
 -- the token stands in the block of the variable to which this text refers
 abbrev pub is_self_reference : List VariableSpan → ℕ → List ℕ → Bool
-is_self_reference own number text = list_any (λ o. nat_le o.first number && nat_lt number o.end && bytes_eq (variable_reference o.name) text) own
+is_self_reference own number text =
+    list_any (λ o. nat_le o.first number && nat_lt number o.end
+    && bytes_eq (variable_reference o.name) text) own
 
 abbrev pub unless_self_reference : List VariableSpan → ℕ → Option (List ℕ) → List (List ℕ)
 unless_self_reference own number None = []
-unless_self_reference own number (Some text) = if is_self_reference own number text then [] else text ∷ []
+unless_self_reference own number (Some text) =
+    if is_self_reference own number text then [] else text ∷ []
 
 -- the references of significant tokens, where a dot stands before them or not
 abbrev pub references_from : List VariableSpan → Bool → List Numbered → List (List ℕ)
 references_from own after_dot [] = []
 references_from own after_dot (t ∷ ts) =
-    (if after_dot then [] else unless_self_reference own t.number (reference_at (t ∷ ts))) ++ references_from own (is kind.Dot t.kind) ts
+    (if after_dot then [] else unless_self_reference own t.number (reference_at (t ∷ ts)))
+    ++ references_from own (is kind.Dot t.kind) ts
 
 -- THE REFERENCES of numbered tokens, in order, repeats included
 abbrev pub references : List Numbered → List (List ℕ)

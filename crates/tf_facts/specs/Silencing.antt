@@ -32,7 +32,10 @@ comment_words text = without_front is_blank (without_mark text)
 
 -- the parts between commas of what follows the keyword, up to a `#`
 abbrev pub parts : List ℕ → List (List ℕ)
-parts rest = if begins keyword rest then slice_split (λ b. b == 44) (before_first (λ b. b == 35) (drop (length keyword) rest)) else []
+parts rest =
+    if begins keyword rest
+    then slice_split (λ b. b == 44) (before_first (λ b. b == 35) (drop (length keyword) rest))
+    else []
 
 abbrev pub names : Rule → List ℕ → Bool
 names rule part = bytes_eq part (codes "all") || bytes_eq part (rule_name rule)

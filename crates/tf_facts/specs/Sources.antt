@@ -16,7 +16,9 @@ pub data Source : Type 0 where
 -- ---- git and Mercurial
 
 abbrev pub is_git : List ℕ → Bool
-is_git text = begins (codes "git::") text || begins (codes "git@") text || begins (codes "github.com/") text || begins (codes "bitbucket.org/") text
+is_git text =
+    begins (codes "git::") text || begins (codes "git@") text || begins (codes "github.com/") text
+    || begins (codes "bitbucket.org/") text
 
 abbrev pub is_mercurial : List ℕ → Bool
 is_mercurial text = begins (codes "hg::") text
@@ -38,10 +40,12 @@ abbrev pub revision : List ℕ → List ℕ → List ℕ
 revision front text = value_after front (find (begins front) (parameters text))
 
 abbrev pub is_default_branch : List ℕ → Bool
-is_default_branch r = list_any (bytes_eq r) (codes "master" ∷ codes "main" ∷ codes "default" ∷ codes "develop" ∷ [])
+is_default_branch r =
+    list_any (bytes_eq r) (codes "master" ∷ codes "main" ∷ codes "default" ∷ codes "develop" ∷ [])
 
 abbrev pub pinned_to : List ℕ → Source
-pinned_to r = if length r == 0 then NotPinned else if is_default_branch r then DefaultBranch r else Other
+pinned_to r =
+    if length r == 0 then NotPinned else if is_default_branch r then DefaultBranch r else Other
 
 -- ---- addresses in a registry
 
@@ -75,7 +79,8 @@ is_address (h ∷ n ∷ m ∷ p ∷ []) = is_host h && is_part n && is_part m &&
 is_address _ = false
 
 abbrev pub is_registry : List ℕ → Bool
-is_registry text = not (is_local text) && is_address (slice_split (λ b. b == 47) (before_slashes text))
+is_registry text =
+    not (is_local text) && is_address (slice_split (λ b. b == 47) (before_slashes text))
 
 -- WHAT THE SOURCE IS
 abbrev pub source_of : List ℕ → Source

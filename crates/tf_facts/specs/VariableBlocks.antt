@@ -18,7 +18,8 @@ Apart from (o ∷ own) = (from ≤ o.first) × Apart (max o.first o.end) own
 
 -- from a token on the first blocks don't count
 pub record ArePassed (own : List VariableSpan) (next number : ℕ) : Type 0 where
-  pub same : (m : ℕ) (text : List ℕ) → number ≤ m → is_self_reference (drop next own) m text ≡ is_self_reference own m text
+  pub same : (m : ℕ) (text : List ℕ) → number ≤ m
+      → is_self_reference (drop next own) m text ≡ is_self_reference own m text
 
 -- the block ends after the token
 abbrev pub IsAhead : List VariableBlock → ℕ → ℕ → Type 0

@@ -16,11 +16,13 @@ shown_issue i = record { file = i.place.file; at = i.place.at; rule = i.rule; me
 abbrev pub text_of_parts : MessageParts → List ℕ
 text_of_parts (Whole text) = text.now
 text_of_parts (Named front name rest) = front.now ++ (name.now ++ rest.now)
-text_of_parts (NamedTwice front name between other rest) = front.now ++ (name.now ++ (between.now ++ (other.now ++ rest.now)))
+text_of_parts (NamedTwice front name between other rest) =
+    front.now ++ (name.now ++ (between.now ++ (other.now ++ rest.now)))
 
 -- the same issue, where a list gives it with its message in pieces
 abbrev pub listed_issue : ListedIssue → Issue
-listed_issue i = record { file = i.file; at = i.at; rule = i.rule; message = text_of_parts i.message }
+listed_issue i =
+    record { file = i.file; at = i.at; rule = i.rule; message = text_of_parts i.message }
 
 -- the number of a file is below another's
 abbrev pub IsBelow : File → File → Type 0

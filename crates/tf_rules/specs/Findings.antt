@@ -64,8 +64,10 @@ abbrev pub says_of : {P : Type 0} → List ℕ → P → Finding P
 says_of message at = record { at = at; message = message }
 
 abbrev pub unpinned_findings_by : {P : Type 0} → Declaration P → P → Source → List (Finding P)
-unpinned_findings_by d quote NotPinned = says_of (about d (codes " source is not pinned")) quote ∷ []
-unpinned_findings_by d quote (DefaultBranch branch) = says_of (about d (codes " source uses a default branch: " ++ branch)) quote ∷ []
+unpinned_findings_by d quote NotPinned =
+    says_of (about d (codes " source is not pinned")) quote ∷ []
+unpinned_findings_by d quote (DefaultBranch branch) =
+    says_of (about d (codes " source uses a default branch: " ++ branch)) quote ∷ []
 unpinned_findings_by d quote Other = []
 unpinned_findings_by d quote Registry = []
 
@@ -87,15 +89,23 @@ slash_findings c = says_if c.slashes c.at (codes "line comments should begin wit
 
 -- what a rule reports of one declaration, where all files have these references
 abbrev pub finding : {P : Type 0} → Naming → List (List ℕ) → Rule → Declaration P → List (Finding P)
-finding naming used DocumentedOutputs d = says_if (is_kind declares.Output d.kind && not d.described) d.at (about d (codes " has no description"))
-finding naming used DocumentedVariables d = says_if (is_kind declares.Variable d.kind && not d.described) d.at (about d (codes " has no description"))
+finding naming used DocumentedOutputs d =
+    says_if (is_kind declares.Output d.kind
+    && not d.described) d.at (about d (codes " has no description"))
+finding naming used DocumentedVariables d =
+    says_if (is_kind declares.Variable d.kind
+    && not d.described) d.at (about d (codes " has no description"))
 finding naming used ModulePinnedSource d = unpinned_findings d d.source
-finding naming used ModuleVersion d = says_if (from_registry d.source && not d.versioned) d.at (about d (codes " has no version"))
+finding naming used ModuleVersion d =
+    says_if (from_registry d.source && not d.versioned) d.at (about d (codes " has no version"))
 finding naming used NamingConvention d =
-    says_if (not (matches_naming naming (last_of d.names))) d.at (kind_text d.kind ++ (codes " name" ++ quoting (last_of d.names) (codes " must match " ++ naming_text naming)))
-finding naming used TypedVariables d = says_if (is_kind declares.Variable d.kind && not d.typed) d.at (about d (codes " has no type"))
+    says_if (not (matches_naming naming (last_of d.names))) d.at (kind_text d.kind
+    ++ (codes " name" ++ quoting (last_of d.names) (codes " must match " ++ naming_text naming)))
+finding naming used TypedVariables d =
+    says_if (is_kind declares.Variable d.kind && not d.typed) d.at (about d (codes " has no type"))
 finding naming used UnusedDeclarations d =
-    says_if (is_unused used (uses_of d.kind d.names)) d.at (kind_text d.kind ++ both_quoted d.names (codes " is declared but not used"))
+    says_if (is_unused used (uses_of d.kind d.names)) d.at (kind_text d.kind
+    ++ both_quoted d.names (codes " is declared but not used"))
 finding naming used CommentSyntax d = []
 finding naming used DeprecatedIndex d = []
 finding naming used DeprecatedInterpolation d = []
@@ -103,6 +113,8 @@ finding naming used DeprecatedInterpolation d = []
 -- WHAT A RULE REPORTS
 abbrev pub findings : {P : Type 0} → Naming → List (List ℕ) → Facts P → Rule → List (Finding P)
 findings naming used facts CommentSyntax = flat_map slash_findings facts.comments
-findings naming used facts DeprecatedIndex = map (says_of (codes "list items should be accessed using square brackets")) facts.indexes
-findings naming used facts DeprecatedInterpolation = map (says_of (codes "interpolation-only expressions are deprecated")) facts.interpolations
+findings naming used facts DeprecatedIndex =
+    map (says_of (codes "list items should be accessed using square brackets")) facts.indexes
+findings naming used facts DeprecatedInterpolation =
+    map (says_of (codes "interpolation-only expressions are deprecated")) facts.interpolations
 findings naming used facts rule = flat_map (finding naming used rule) facts.declarations

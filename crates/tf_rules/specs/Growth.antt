@@ -17,7 +17,9 @@ places_of d = d.at ∷ source_places d.source
 abbrev pub entries : Kept → ℕ
 entries kept =
     length kept.facts.comments
-    + (length kept.facts.indexes + (length kept.facts.interpolations + (length (flat_map places_of kept.facts.declarations) + length kept.references)))
+    + (length kept.facts.indexes +
+    (length kept.facts.interpolations +
+    (length (flat_map places_of kept.facts.declarations) + length kept.references)))
 
 -- ---- and how long
 

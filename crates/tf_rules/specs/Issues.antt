@@ -48,7 +48,9 @@ tokens_of file = numbered file.source.tokens
 
 -- the place of the token of this number
 abbrev pub place_in : File → ℕ → Place
-place_in file n = record { file = file.number; token = n; at = place file.source.text (start_of file.source.tokens n) }
+place_in file n =
+    record { file = file.number; token = n;
+    at = place file.source.text (start_of file.source.tokens n) }
 
 -- the references of all files
 abbrev pub all_references : List File → List (List ℕ)
@@ -59,11 +61,13 @@ issue_in file rule f = record { place = place_in file f.at; rule = rule; message
 
 -- what a rule reports in a file of the module
 abbrev pub issues_in : Asked → List (List ℕ) → Rule → File → List Issue
-issues_in asked used rule file = map (issue_in file rule) (findings asked.naming used (facts_of (tokens_of file)) rule)
+issues_in asked used rule file =
+    map (issue_in file rule) (findings asked.naming used (facts_of (tokens_of file)) rule)
 
 -- all that the rules report, silenced or not
 abbrev pub reported_issues : Asked → List File → List Issue
-reported_issues asked files = flat_map (λ rule. flat_map (issues_in asked (all_references files) rule) files) asked.rules
+reported_issues asked files =
+    flat_map (λ rule. flat_map (issues_in asked (all_references files) rule) files) asked.rules
 
 -- ---- silencing
 
@@ -72,7 +76,8 @@ comment_at f c = record { at = f c.at; slashes = c.slashes; silences = c.silence
 
 -- the comments of all files
 abbrev pub all_comments : List File → List (Comment Place)
-all_comments files = flat_map (λ file. map (comment_at (place_in file)) (comments (tokens_of file))) files
+all_comments files =
+    flat_map (λ file. map (comment_at (place_in file)) (comments (tokens_of file))) files
 
 -- the line is the comment's own, or the one below
 abbrev pub is_beside : ℕ → ℕ → Bool
@@ -80,14 +85,16 @@ is_beside own line = (own == line) || (own + 1 == line)
 
 -- the comment silences the rule on a line of a file
 abbrev pub covers : ℕ → ℕ → Rule → Comment Place → Bool
-covers file line rule c = (c.at.file == file) && is_beside c.at.at.line line && list_any (is_rule rule) c.silences
+covers file line rule c =
+    (c.at.file == file) && is_beside c.at.at.line line && list_any (is_rule rule) c.silences
 
 abbrev pub is_silenced : List (Comment Place) → Issue → Bool
 is_silenced comments i = list_any (covers i.place.file i.place.at.line i.rule) comments
 
 -- THE SET of issues, rule by rule
 abbrev pub issues : Asked → List File → List Issue
-issues asked files = filter (λ i. not (is_silenced (all_comments files) i)) (reported_issues asked files)
+issues asked files =
+    filter (λ i. not (is_silenced (all_comments files) i)) (reported_issues asked files)
 
 -- what the order goes by
 pub record Key : Type 0 where
@@ -100,7 +107,9 @@ key_of i = record { file = i.place.file; token = i.place.token; rank = rank i.ru
 
 -- in a lower file; or in the same file at an earlier token; or at the same token, by a rule whose name comes first
 abbrev pub Precedes : Key → Key → Type 0
-Precedes a b = (a.file < b.file) ⊎ ((a.file ≡ b.file) × ((a.token < b.token) ⊎ ((a.token ≡ b.token) × (a.rank < b.rank))))
+Precedes a b =
+    (a.file < b.file)
+    ⊎ ((a.file ≡ b.file) × ((a.token < b.token) ⊎ ((a.token ≡ b.token) × (a.rank < b.rank))))
 
 abbrev pub Before : Issue → Issue → Type 0
 Before a b = Precedes (key_of a) (key_of b)

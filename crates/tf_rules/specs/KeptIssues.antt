@@ -6,7 +6,10 @@ use Rattle.tf_rules.specs.Issues.{Issue, Asked, is_silenced}
 use Rattle.tf_rules.specs.Kept.{Kept, issue_at}
 
 abbrev pub reported_of_kept : Asked → Kept → List Issue
-reported_of_kept asked kept = flat_map (λ rule. map (issue_at rule) (findings asked.naming kept.references kept.facts rule)) asked.rules
+reported_of_kept asked kept =
+    flat_map (λ rule. map (issue_at rule) (findings asked.naming kept.references kept.facts rule))
+    asked.rules
 
 abbrev pub issues_of_kept : Asked → Kept → List Issue
-issues_of_kept asked kept = filter (λ i. not (is_silenced kept.facts.comments i)) (reported_of_kept asked kept)
+issues_of_kept asked kept =
+    filter (λ i. not (is_silenced kept.facts.comments i)) (reported_of_kept asked kept)

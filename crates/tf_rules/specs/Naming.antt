@@ -23,7 +23,8 @@ begins_with_letter naming (b ∷ bs) = is_letter naming b
 
 -- THE SET of texts of a naming
 abbrev pub matches_naming : Naming → List ℕ → Bool
-matches_naming naming name = begins_with_letter naming name && list_all (is_word naming) (slice_split (λ b. b == 95) name)
+matches_naming naming name =
+    begins_with_letter naming name && list_all (is_word naming) (slice_split (λ b. b == 95) name)
 
 abbrev pub naming_text : Naming → List ℕ
 naming_text SnakeCase = codes "snake_case"

@@ -26,7 +26,8 @@ refusal_row fault = record { out = []; err = fault_line fault; status = 2 }
 abbrev pub row_of_file : FmtOptions → Scanned → Row
 row_of_file options s =
     if nat_lt max_source (length (print s.tokens)) then refusal_row print_too_large
-    else (if options.check then record { out = []; err = []; status = if bytes_eq (print s.tokens) s.text then 0 else 3 }
+    else (if options.check
+    then record { out = []; err = []; status = if bytes_eq (print s.tokens) s.text then 0 else 3 }
     else record { out = print s.tokens; err = []; status = 0 })
 
 abbrev pub row_by : FmtOptions → Result Scanned Fault → Row
@@ -35,11 +36,14 @@ row_by options (Err fault) = refusal_row fault
 
 -- the row of a source, by the verdict on it
 abbrev pub IsTextAnswer : FmtOptions → List ℕ → Row → Type 0
-IsTextAnswer options text row = (v : Result Scanned Fault) × IsTextVerdict text v × (row ≡ row_by options v)
+IsTextAnswer options text row =
+    (v : Result Scanned Fault) × IsTextVerdict text v × (row ≡ row_by options v)
 
 -- the row of an input: that of its one load fault, or that of its text
 abbrev pub IsFileAnswer : FmtOptions → List ℕ → Row → Type 0
-IsFileAnswer options input row = ((fault : Fault) × IsLoadFault input fault × (row ≡ refusal_row fault)) ⊎ (IsText input × IsTextAnswer options input row)
+IsFileAnswer options input row =
+    ((fault : Fault) × IsLoadFault input fault × (row ≡ refusal_row fault))
+    ⊎ (IsText input × IsTextAnswer options input row)
 
 abbrev pub usage_line : List ℕ
 usage_line = line (codes "usage: tffmt [--check] [--help]")

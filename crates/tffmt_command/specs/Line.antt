@@ -18,4 +18,6 @@ options_in rows = Ok (record { check = is_set (codes "check") rows })
 
 -- the answer to a line, unless memory runs out
 abbrev pub options_of : List Text → Result FmtOptions Usage
-options_of words = unless_fault (usage_by OutOfMemory Help BadLine) (fault_of tffmt words) (options_in (matches_of tffmt words))
+options_of words =
+    unless_fault (usage_by OutOfMemory Help BadLine) (fault_of tffmt words)
+    (options_in (matches_of tffmt words))

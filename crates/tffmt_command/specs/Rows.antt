@@ -16,4 +16,5 @@ OfInput (Some input) P = P input
 -- the row for a failed read, that for running out of memory, or one of the input's
 abbrev pub IsRow : (List ℕ → Row → Type 0) → Bool → Option (List ℕ) → Row → Type 0
 IsRow answer true left row = row ≡ read_failed
-IsRow answer false left row = OrOutOfMemory formatter (λ r. OfInput left (λ input. answer input r)) row
+IsRow answer false left row =
+    OrOutOfMemory formatter (λ r. OfInput left (λ input. answer input r)) row

@@ -19,24 +19,29 @@ linter = record { name = codes "tfrules"; failure = 1 }
 
 -- `tfrules: error: FILE:LINE:COLUMN: TEXT`
 abbrev pub refusal_row : List ℕ → Fault → Row
-refusal_row name fault = record { out = []; err = error linter (name ++ (codes ":" ++ fault_words fault)); status = 1 }
+refusal_row name fault =
+    record { out = []; err = error linter (name ++ (codes ":" ++ fault_words fault)); status = 1 }
 
 -- `tfrules: error: FILE: TEXT`
 abbrev pub file_error : List ℕ → List ℕ → Row
-file_error name text = record { out = []; err = error linter (name ++ (codes ": " ++ line text)); status = 1 }
+file_error name text =
+    record { out = []; err = error linter (name ++ (codes ": " ++ line text)); status = 1 }
 
 abbrev pub too_large : List ℕ → Row
 too_large name = file_error name (codes "module too large")
 
 abbrev pub usage_line : List ℕ
-usage_line = line (codes "usage: tfrules [--rules LIST] [--naming snake_case|mixed_snake_case] [--minimum-failure-severity error|warning|notice] [--force] [--help] FILE...")
+usage_line =
+    line (codes
+    "usage: tfrules [--rules LIST] [--naming snake_case|mixed_snake_case] [--minimum-failure-severity error|warning|notice] [--force] [--help] FILE...")
 
 -- ---- the answer
 
 -- after files with this many bytes, this file ends the run with the row
 abbrev pub IsRefused : ℕ → NamedFile → Row → Type 0
 IsRefused size file row =
-    ((fault : Fault) × IsFault size file.bytes fault × (row ≡ refusal_row file.name fault)) ⊎ (IsTooMuch size file.bytes × (row ≡ too_large file.name))
+    ((fault : Fault) × IsFault size file.bytes fault × (row ≡ refusal_row file.name fault))
+    ⊎ (IsTooMuch size file.bytes × (row ≡ too_large file.name))
 
 -- all files are accepted, and the row is that of their issues
 pub record IsReported (asking : Request) (files : List NamedFile) (row : Row) : Type 0 where
@@ -62,11 +67,13 @@ names_of files = map (λ file. file.name) files
 -- THE ANSWER to the request of a line and the files that it names, each once, in order. Running out of memory is the
 -- usage of no line.
 abbrev pub IsAnswerBy : Result Request Usage → List NamedFile → Row → Type 0
-IsAnswerBy (Ok asking) files row = (names_of files ≡ asking.files) × (IsReported asking files row ⊎ IsRefusedFirst files row)
+IsAnswerBy (Ok asking) files row =
+    (names_of files ≡ asking.files) × (IsReported asking files row ⊎ IsRefusedFirst files row)
 IsAnswerBy (Err usage.Help) files row = row ≡ record { out = usage_line; err = []; status = 0 }
 IsAnswerBy (Err usage.BadLine) files row = row ≡ record { out = []; err = usage_line; status = 1 }
 IsAnswerBy (Err usage.UnknownRule) files row = row ≡ fails_with linter (codes "unknown rule")
 IsAnswerBy (Err usage.BadNaming) files row = row ≡ fails_with linter (codes "unknown naming")
 IsAnswerBy (Err usage.BadSeverity) files row = row ≡ fails_with linter (codes "unknown severity")
-IsAnswerBy (Err usage.TooManyFiles) files row = row ≡ fails_with linter (codes "more than 256 files")
+IsAnswerBy (Err usage.TooManyFiles) files row =
+    row ≡ fails_with linter (codes "more than 256 files")
 IsAnswerBy (Err usage.OutOfMemory) files row = ⊥

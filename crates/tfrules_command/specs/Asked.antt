@@ -6,7 +6,8 @@ use Rattle.tfrules_command.specs.declared.options.LintOptions.{LintOptions}
 use Rattle.tfrules_command.specs.declared.usage.Usage.{Usage}
 
 abbrev pub request_of : LintOptions → Request
-request_of o = record { asked = asked_of o.settings; minimum = o.minimum; force = o.force; files = o.files }
+request_of o =
+    record { asked = asked_of o.settings; minimum = o.minimum; force = o.force; files = o.files }
 
 abbrev pub result_request : Result LintOptions Usage → Result Request Usage
 result_request (Ok o) = Ok (request_of o)

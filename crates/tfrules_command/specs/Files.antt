@@ -34,7 +34,9 @@ IsTooMuch size bytes = IsText bytes × (max_module < size + length bytes)
 
 -- after files with this many bytes this is the fault for which the bytes are refused
 abbrev pub IsFault : ℕ → List ℕ → Fault → Type 0
-IsFault size bytes fault = IsLoadFault bytes fault ⊎ (IsText bytes × (size + length bytes ≤ max_module) × IsTextVerdict bytes (Err fault))
+IsFault size bytes fault =
+    IsLoadFault bytes fault
+    ⊎ (IsText bytes × (size + length bytes ≤ max_module) × IsTextVerdict bytes (Err fault))
 
 -- the files as the rules see them, with rising numbers
 abbrev pub numbered_files : ℕ → List Scanned → List File

@@ -15,8 +15,11 @@ use Rattle.tfrules_command.specs.declared.stop.Stop.TheVariants as stop
 
 -- the answer of scanning a text after others of this many bytes
 abbrev pub ScansFile : List ℕ → ℕ → Result ScannedFile Stop → Type 0
-ScansFile text size (Ok file) = (file.tokens.text ≡ text) × Scans text file.tokens.tokens × (file.all ≡ size + length text) × (file.all ≤ max_module)
-ScansFile text size (Err (stop.Refused fault)) = (size + length text ≤ max_module) × IsTextVerdict text (Err fault)
+ScansFile text size (Ok file) =
+    (file.tokens.text ≡ text) × Scans text file.tokens.tokens × (file.all ≡ size + length text)
+    × (file.all ≤ max_module)
+ScansFile text size (Err (stop.Refused fault)) =
+    (size + length text ≤ max_module) × IsTextVerdict text (Err fault)
 ScansFile text size (Err stop.TooLarge) = max_module < size + length text
 ScansFile text size (Err stop.NotOpened) = ⊥
 ScansFile text size (Err stop.NotRead) = ⊥
@@ -25,7 +28,8 @@ ScansFile text size (Err stop.OutOfMemory) = Unit {0}
 -- the answer of keeping scanned tokens, with which the files have this many bytes
 abbrev pub KeepsTokens : Scanned → ℕ → ℕ → Kept → Kept → Result ℕ Stop → Type 0
 KeepsTokens scanned number all old new (Ok more) =
-    (source : Scanned) × (Ok source ≡ verdict scanned) × (more ≡ all) × (new ≡ with_file old (record { number = number; source = source }))
+    (source : Scanned) × (Ok source ≡ verdict scanned) × (more ≡ all)
+    × (new ≡ with_file old (record { number = number; source = source }))
 KeepsTokens scanned number all old new (Err (stop.Refused fault)) = Err fault ≡ verdict scanned
 KeepsTokens scanned number all old new (Err stop.TooLarge) = ⊥
 KeepsTokens scanned number all old new (Err stop.NotOpened) = ⊥
@@ -35,15 +39,18 @@ KeepsTokens scanned number all old new (Err stop.OutOfMemory) = Unit {0}
 -- the answer of keeping a text after others of this many bytes
 abbrev pub Keeps : List ℕ → ℕ → ℕ → Kept → Kept → Result ℕ Stop → Type 0
 Keeps text size number old new (Ok more) =
-    (source : Scanned) × IsTextVerdict text (Ok source) × (more ≡ size + length text) × (more ≤ max_module) × (new ≡ with_file old (record { number = number; source = source }))
-Keeps text size number old new (Err (stop.Refused fault)) = (size + length text ≤ max_module) × IsTextVerdict text (Err fault)
+    (source : Scanned) × IsTextVerdict text (Ok source) × (more ≡ size + length text)
+    × (more ≤ max_module) × (new ≡ with_file old (record { number = number; source = source }))
+Keeps text size number old new (Err (stop.Refused fault)) =
+    (size + length text ≤ max_module) × IsTextVerdict text (Err fault)
 Keeps text size number old new (Err stop.TooLarge) = max_module < size + length text
 Keeps text size number old new (Err stop.NotOpened) = ⊥
 Keeps text size number old new (Err stop.NotRead) = ⊥
 Keeps text size number old new (Err stop.OutOfMemory) = Unit {0}
 
 -- a file was read and kept
-pub record Added (told : Option (List ℕ)) (size number : ℕ) (old new : Kept) (more : ℕ) : Type 0 where
+pub record Added (told : Option (List ℕ)) (size number : ℕ) (old new : Kept) (more : ℕ) : Type 0
+    where
   pub bytes : List ℕ
   pub is : Tells told bytes
   pub text : IsText bytes
@@ -54,7 +61,8 @@ pub record Added (told : Option (List ℕ)) (size number : ℕ) (old new : Kept)
   pub kept : new ≡ with_file old (record { number = number; source = source })
 
 -- the files of these names were accepted and kept
-pub record Reached (told : List ℕ → Option (List ℕ)) (names : List (List ℕ)) (size : ℕ) (kept : Kept) : Type 0 where
+pub record Reached (told : List ℕ
+    → Option (List ℕ)) (names : List (List ℕ)) (size : ℕ) (kept : Kept) : Type 0 where
   pub files : List NamedFile
   pub named : names_of files ≡ names
   pub are : AreFiles told files

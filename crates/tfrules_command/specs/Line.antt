@@ -36,7 +36,11 @@ file_rule = record (new_rule (codes "file")) { action = Some Append; required = 
 -- `tfrules [--rules LIST] [--naming NAMING] [--minimum-failure-severity SEVERITY] [--force] [--help] FILE...`
 abbrev pub tfrules : App
 tfrules =
-    with_rule (with_rule (with_rule (with_rule (with_rule (new_app (codes "tfrules")) (option_rule (codes "rules"))) (option_rule (codes "naming")))
+    with_rule
+    (with_rule
+    (with_rule
+    (with_rule (with_rule (new_app (codes "tfrules")) (option_rule (codes "rules")))
+    (option_rule (codes "naming")))
     (option_rule (codes "minimum-failure-severity"))) (flag_rule (codes "force"))) file_rule
 
 -- ---- the values of the options
@@ -47,7 +51,8 @@ has_name text rule = bytes_eq (rule_name rule) text
 -- the rules of these names, if each is a rule's
 abbrev pub rules_named : List Text → Option (List Rule)
 rules_named names =
-    if list_all (λ name. list_any (has_name name) all_rules) names then Some (filter (λ rule. list_any (λ name. has_name name rule) names) all_rules)
+    if list_all (λ name. list_any (has_name name) all_rules) names
+    then Some (filter (λ rule. list_any (λ name. has_name name rule) names) all_rules)
     else None
 
 -- `default`, `all`, or names of rules with commas between them
@@ -73,7 +78,8 @@ severity_of_text text =
 -- ---- the names of files
 
 abbrev pub with_name : List Text → Text → List Text
-with_name names name = if list_any (λ known. bytes_eq known name) names then names else names ++ name ∷ []
+with_name names name =
+    if list_any (λ known. bytes_eq known name) names then names else names ++ name ∷ []
 
 -- each once, in the order of their first mention
 abbrev pub each_once : List Text → List Text
@@ -94,25 +100,31 @@ abbrev pub value_or : Text → Text → List Row → Text
 value_or default id rows = unwrap_or (first_of id rows) default
 
 -- the rules are checked first, then the naming, the severity, and the number of files as given
-abbrev pub asking_for : Bool → List Text → Option (List Rule) → Option Naming → Option Severity → Result Request Usage
+abbrev pub asking_for : Bool → List Text → Option (List Rule) → Option Naming → Option Severity
+    → Result Request Usage
 asking_for force files None naming minimum = Err UnknownRule
 asking_for force files (Some rules) None minimum = Err BadNaming
 asking_for force files (Some rules) (Some naming) None = Err BadSeverity
 asking_for force files (Some rules) (Some naming) (Some minimum) =
     if nat_lt max_files (length files) then Err TooManyFiles
-    else Ok (record { asked = record { rules = rules; naming = naming }; minimum = minimum; force = force; files = each_once files })
+    else Ok (record { asked = record { rules = rules; naming = naming }; minimum = minimum;
+    force = force; files = each_once files })
 
 -- without a file it is a bad line
 abbrev pub request_with : List Row → Option (List Text) → Result Request Usage
 request_with rows None = Err BadLine
 request_with rows (Some []) = Err BadLine
 request_with rows (Some (f ∷ fs)) =
-    asking_for (is_set (codes "force") rows) (f ∷ fs) (rules_asked (value_or (codes "default") (codes "rules") rows))
-    (naming_of_text (value_or (codes "snake_case") (codes "naming") rows)) (severity_of_text (value_or (codes "notice") (codes "minimum-failure-severity") rows))
+    asking_for (is_set (codes "force") rows) (f
+    ∷ fs) (rules_asked (value_or (codes "default") (codes "rules") rows))
+    (naming_of_text (value_or (codes "snake_case") (codes "naming") rows))
+    (severity_of_text (value_or (codes "notice") (codes "minimum-failure-severity") rows))
 
 abbrev pub request_of_rows : List Row → Result Request Usage
 request_of_rows rows = request_with rows (all_of (codes "file") rows)
 
 -- THE OPTIONS of a line, unless memory runs out
 abbrev pub options_of : List Text → Result Request Usage
-options_of words = unless_fault (usage_by OutOfMemory Help BadLine) (fault_of tfrules words) (request_of_rows (matches_of tfrules words))
+options_of words =
+    unless_fault (usage_by OutOfMemory Help BadLine) (fault_of tfrules words)
+    (request_of_rows (matches_of tfrules words))

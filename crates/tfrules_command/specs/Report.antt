@@ -11,8 +11,10 @@ use Rattle.tfrules_command.specs.Line.{Request}
 -- `FILE:LINE:COLUMN: Severity - message (rule)`
 abbrev pub issue_line : List (List ℕ) → Issue → List ℕ
 issue_line names i =
-    get_or names i.file [] ++ (codes ":" ++ (decimal i.at.line ++ (codes ":" ++ (decimal i.at.column ++ (codes ": "
-    ++ (severity_text (severity i.rule) ++ (codes " - " ++ (i.message ++ (codes " (" ++ (rule_name i.rule ++ line (codes ")")))))))))))
+    get_or names i.file []
+    ++ (codes ":" ++ (decimal i.at.line ++ (codes ":" ++ (decimal i.at.column ++ (codes ": "
+    ++ (severity_text (severity i.rule)
+    ++ (codes " - " ++ (i.message ++ (codes " (" ++ (rule_name i.rule ++ line (codes ")")))))))))))
 
 -- how many issues there are, and an empty line
 abbrev pub issue_count : ℕ → List ℕ
@@ -43,4 +45,5 @@ status asking issues = if not asking.force && list_any (weighs asking.minimum) i
 
 -- the row of a module with these issues
 abbrev pub report_row : Request → List Issue → Row
-report_row asking issues = record { out = report asking.files issues; err = []; status = status asking issues }
+report_row asking issues =
+    record { out = report asking.files issues; err = []; status = status asking issues }

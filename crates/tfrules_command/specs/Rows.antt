@@ -13,7 +13,8 @@ abbrev pub AreFiles : (List ℕ → Option (List ℕ)) → List NamedFile → Ty
 AreFiles told files = All (λ file. Tells (told file.name) file.bytes) files
 
 -- all files before one are accepted, and the row reports this for the next one
-pub record IsUnread (text : List ℕ) (told : List ℕ → Option (List ℕ)) (asking : Request) (row : Row) : Type 0 where
+pub record IsUnread (text : List ℕ) (told : List ℕ
+    → Option (List ℕ)) (asking : Request) (row : Row) : Type 0 where
   pub before : List NamedFile
   pub name : List ℕ
   pub after : List (List ℕ)
@@ -30,7 +31,8 @@ IsUnreadBy text told (Err usage) row = ⊥
 
 -- the answer to some files, as the device tells them
 abbrev pub IsAnswerTo : (List ℕ → Option (List ℕ)) → Result Request Usage → Row → Type 0
-IsAnswerTo told options row = (files : List NamedFile) × AreFiles told files × IsAnswerBy options files row
+IsAnswerTo told options row =
+    (files : List NamedFile) × AreFiles told files × IsAnswerBy options files row
 
 -- the row for a failed open, for a failed read, or of an answer
 abbrev pub IsRowBy : (List ℕ → Option (List ℕ)) → Result Request Usage → Bool → Bool → Row → Type 0
@@ -40,4 +42,5 @@ IsRowBy told options false false = IsAnswerTo told options
 
 -- or that for running out of memory
 abbrev pub IsRow : (List ℕ → Option (List ℕ)) → Result Request Usage → Bool → Bool → Row → Type 0
-IsRow told options open_failed read_failed = OrOutOfMemory linter (IsRowBy told options open_failed read_failed)
+IsRow told options open_failed read_failed =
+    OrOutOfMemory linter (IsRowBy told options open_failed read_failed)

@@ -28,7 +28,8 @@ read_failed = fails_with formatter (codes "read failed")
 
 -- what is said at the end of a run of which this is the tally: how many files there were, unless it is to be quiet
 abbrev pub words_at_end : Bool → Mode → Bool → Tally → List ℕ
-words_at_end quiet mode out_failed tally = if out_failed then write_failed formatter else (if quiet then [] else end_line mode tally)
+words_at_end quiet mode out_failed tally =
+    if out_failed then write_failed formatter else (if quiet then [] else end_line mode tally)
 
 abbrev pub last_words : Bool → Mode → Bool → List Outcome → List ℕ
 last_words quiet mode out_failed answers = words_at_end quiet mode out_failed (tally_of answers)
@@ -37,38 +38,51 @@ last_words quiet mode out_failed answers = words_at_end quiet mode out_failed (t
 -- as it is of the part; what can't be looked at is there since a call failed
 abbrev pub IsPartOf : Files → Faults → Faults → Part → List Name → List Found → Type 0
 IsPartOf files was walked part paths found =
-    (all : List Found) × Finds files part.chosen paths all × AreReal files part.chosen paths was walked all × ((once : List Found) × KeepsOnce all once × (found ≡ picked_of part.shard once))
+    (all : List Found) × Finds files part.chosen paths all
+    × AreReal files part.chosen paths was walked all
+    × ((once : List Found) × KeepsOnce all once × (found ≡ picked_of part.shard once))
 
 -- THE FILES WERE FOUND that these paths stand for, and then each was looked at. Where what is said is read on a terminal, the
 -- lines of faults are shown.
-pub record Formats (shows quiet : Bool) (mode : Mode) (part : Part) (paths : List Name) (before after : State) (end : End) : Type 0 where
+pub record Formats (shows quiet : Bool) (mode : Mode) (part : Part) (paths : List Name)
+    (before after : State) (end : End) : Type 0 where
   pub found : List Found
   pub walked : Faults  -- those of calls up to the end of the walk
   pub finds : IsPartOf before.files before.faults walked part paths found
-  pub run : IsRun shows mode found (last_words quiet mode end.out.failed) (record before { faults = walked }) after end
+  pub run : IsRun shows mode found (last_words quiet mode end.out.failed)
+      (record before { faults = walked }) after end
   -- unless something failed, nothing is left to do for a file that was found
-  pub done : end.status ≢ 4 → All (λ f. Settled mode (before.files.told (before.files.real f.name.items)) (after.files.told (before.files.real f.name.items))) found
+  pub done : end.status ≢ 4
+      → All (λ f. Settled mode (before.files.told (before.files.real f.name.items))
+      (after.files.told (before.files.real f.name.items))) found
   -- a file to which no name that was found leads keeps its bytes
-  pub untouched : (name : Name) → All (λ f. name ≢ before.files.real f.name.items) found → after.files.told name ≡ before.files.told name
+  pub untouched : (name : Name) → All (λ f. name ≢ before.files.real f.name.items) found
+      → after.files.told name ≡ before.files.told name
 
 -- nothing was changed or asked to be, and there is nothing but this row
 abbrev pub SaysOnly : Row → State → State → End → Type 0
-SaysOnly row before after end = (after.files ≡ before.files) × (after.asked ≡ before.asked) × Shows formatter row end
+SaysOnly row before after end =
+    (after.files ≡ before.files) × (after.asked ≡ before.asked) × Shows formatter row end
 
 -- memory ran out before a file was looked at, or the files were formatted
 abbrev pub FormatsOr : Bool → Bool → Mode → Part → List Name → State → State → End → Type 0
-FormatsOr shows quiet mode part paths before after end = SaysOnly (out_of_memory formatter) before after end ⊎ Formats shows quiet mode part paths before after end
+FormatsOr shows quiet mode part paths before after end =
+    SaysOnly (out_of_memory formatter) before after end
+    ⊎ Formats shows quiet mode part paths before after end
 
 -- the same where the paths are those of the line
 abbrev pub FormatsNamed : Bool → Bool → Mode → Part → List Name → State → State → End → Type 0
-FormatsNamed shows quiet mode part names before after end = FormatsOr shows quiet mode part (paths_of_line names) before after end
+FormatsNamed shows quiet mode part names before after end =
+    FormatsOr shows quiet mode part (paths_of_line names) before after end
 
 -- the same where they are read from standard input, which has these bytes where it tells them, unless its read failed
-abbrev pub ReadsAndFormats : Bool → Bool → Mode → Part → Bool → Option (List ℕ) → State → State → End → Type 0
+abbrev pub ReadsAndFormats : Bool → Bool → Mode → Part → Bool → Option (List ℕ) → State → State
+    → End → Type 0
 ReadsAndFormats shows quiet mode part failed input before after end =
     SaysOnly (out_of_memory formatter) before after end
     ⊎ (((failed ≡ true) × SaysOnly read_failed before after end)
-    ⊎ ((failed ≡ false) × (bytes : List ℕ) × Tells input bytes × Formats shows quiet mode part (paths_of_input bytes) before after end))
+    ⊎ ((failed ≡ false) × (bytes : List ℕ) × Tells input bytes
+    × Formats shows quiet mode part (paths_of_input bytes) before after end))
 
 -- ---- runs that look at no file
 
@@ -76,43 +90,62 @@ abbrev pub version_line : List ℕ
 version_line = codes "tffmt-all 0.3.0\n"
 
 abbrev pub help_text : List ℕ
-help_text = codes "usage: tffmt-all [--check | --diff | --list] [--in-place] [--sync] [--quiet]\n                 [--shard K/N] [--exclude PATH]... [--any-name] [--null] [--]\n                 [FILE|FOLDER]...\n\nFormats files in place and prints the names of those that it changed.\n\nA folder stands for the .tf, .tfvars, .tofu, .tftest.hcl, .tfmock.hcl,\n.tfquery.hcl and .tofutest.hcl files in it and below. Files and folders whose\nnames begin with a dot or end with ~, and those named #...#, are passed over.\nWithout an operand it is the current folder. A file that is named is taken if\nit is called like these, or if its name ends with .hcl.\n\n  --check          change nothing; report each file that isn't formatted\n  --diff           change nothing; show what would change; --check may stand\n                   beside it\n  --list           change nothing; print the names of the files that would\n                   change\n  --in-place       write over a file where no new one can be put in its place\n  --sync           have each new file on the disk before the next one is\n                   looked at\n  --quiet          say nothing of the run as a whole: no count of the files\n                   at its end\n  --exclude PATH   pass over what has this name or this path, and all that is\n                   below; may be given again\n  --any-name       take a file that is named whatever it is called\n  --shard K/N      take the K-th of N parts of the files\n  -0, --null       read names, each ended by NUL, from standard input\n  -j, --jobs N     taken, and of no use: files are worked on one after the\n                   other\n  -h, --help       print this\n  --version        print the version\n\nStatus: 0  all files are formatted, or are now\n        2  a file was refused, or the command line is wrong\n        3  with --check, --diff or --list: a file isn't formatted, and nothing\n           is worse\n        4  a file could not be read or written\n"
+help_text =
+    codes
+    "usage: tffmt-all [--check | --diff | --list] [--in-place] [--sync] [--quiet]\n                 [--shard K/N] [--exclude PATH]... [--any-name] [--null] [--]\n                 [FILE|FOLDER]...\n\nFormats files in place and prints the names of those that it changed.\n\nA folder stands for the .tf, .tfvars, .tofu, .tftest.hcl, .tfmock.hcl,\n.tfquery.hcl and .tofutest.hcl files in it and below. Files and folders whose\nnames begin with a dot or end with ~, and those named #...#, are passed over.\nWithout an operand it is the current folder. A file that is named is taken if\nit is called like these, or if its name ends with .hcl.\n\n  --check          change nothing; report each file that isn't formatted\n  --diff           change nothing; show what would change; --check may stand\n                   beside it\n  --list           change nothing; print the names of the files that would\n                   change\n  --in-place       write over a file where no new one can be put in its place\n  --sync           have each new file on the disk before the next one is\n                   looked at\n  --quiet          say nothing of the run as a whole: no count of the files\n                   at its end\n  --exclude PATH   pass over what has this name or this path, and all that is\n                   below; may be given again\n  --any-name       take a file that is named whatever it is called\n  --shard K/N      take the K-th of N parts of the files\n  -0, --null       read names, each ended by NUL, from standard input\n  -j, --jobs N     taken, and of no use: files are worked on one after the\n                   other\n  -h, --help       print this\n  --version        print the version\n\nStatus: 0  all files are formatted, or are now\n        2  a file was refused, or the command line is wrong\n        3  with --check, --diff or --list: a file isn't formatted, and nothing\n           is worse\n        4  a file could not be read or written\n"
 
 -- THE ROW of these texts where they ask for a text, or are no line of this program's
 abbrev pub usage_row : List Text → Usage → Row
 usage_row texts Help = output_row help_text 0
 usage_row texts Version = output_row version_line 0
 usage_row texts BadLine = message_row (bad_line_words formatter_words texts) 2
-usage_row texts TwoModes = message_row (codes "tffmt-all: error: --list takes neither --check nor --diff beside it\n") 2
-usage_row texts BadPart = message_row (codes "tffmt-all: error: --shard takes K/N, with K from 1 to N, at most 99999\n") 2
-usage_row texts BadJobs = message_row (codes "tffmt-all: error: --jobs takes a number from 1 to 9999\n") 2
-usage_row texts NamesTwice = message_row (codes "tffmt-all: error: --null takes no names on the command line\n") 2
+usage_row texts TwoModes =
+    message_row (codes "tffmt-all: error: --list takes neither --check nor --diff beside it\n") 2
+usage_row texts BadPart =
+    message_row (codes "tffmt-all: error: --shard takes K/N, with K from 1 to N, at most 99999\n") 2
+usage_row texts BadJobs =
+    message_row (codes "tffmt-all: error: --jobs takes a number from 1 to 9999\n") 2
+usage_row texts NamesTwice =
+    message_row (codes "tffmt-all: error: --null takes no names on the command line\n") 2
 usage_row texts OutOfMemory = out_of_memory formatter
 
 -- it is shown, or that memory ran out
 abbrev pub ShowsUsage : List Text → Usage → End → Type 0
-ShowsUsage texts usage end = Shows formatter (out_of_memory formatter) end ⊎ Shows formatter (usage_row texts usage) end
+ShowsUsage texts usage end =
+    Shows formatter (out_of_memory formatter) end ⊎ Shows formatter (usage_row texts usage) end
 
 -- ---- all runs
 
 -- how a run ends that was asked for this
-abbrev pub EndsBy : Bool → Bool → Bool → Mode → Part → List Name → Bool → Option (List ℕ) → State → State → End → Type 0
-EndsBy shows true quiet mode part names failed input before after end = ReadsAndFormats shows quiet mode part failed input before after end
-EndsBy shows false quiet mode part names failed input before after end = FormatsNamed shows quiet mode part names before after end
+abbrev pub EndsBy : Bool → Bool → Bool → Mode → Part → List Name → Bool → Option (List ℕ) → State
+    → State → End → Type 0
+EndsBy shows true quiet mode part names failed input before after end =
+    ReadsAndFormats shows quiet mode part failed input before after end
+EndsBy shows false quiet mode part names failed input before after end =
+    FormatsNamed shows quiet mode part names before after end
 
 abbrev pub EndsByRequest : Bool → Request → Bool → Option (List ℕ) → State → State → End → Type 0
-EndsByRequest shows asking failed input before after end = EndsBy shows asking.given.null asking.given.quiet asking.mode (part_of asking) asking.given.names failed input before after end
+EndsByRequest shows asking failed input before after end =
+    EndsBy shows asking.given.null asking.given.quiet asking.mode (part_of asking)
+    asking.given.names failed input before after end
 
-abbrev pub EndsFor : Bool → List Text → Result Request Usage → Bool → Option (List ℕ) → State → State → End → Type 0
-EndsFor shows texts (Ok asking) failed input before after end = EndsByRequest shows asking failed input before after end
-EndsFor shows texts (Err usage) failed input before after end = SaysOnly (usage_row texts usage) before after end
+abbrev pub EndsFor : Bool → List Text → Result Request Usage → Bool → Option (List ℕ) → State
+    → State → End → Type 0
+EndsFor shows texts (Ok asking) failed input before after end =
+    EndsByRequest shows asking failed input before after end
+EndsFor shows texts (Err usage) failed input before after end =
+    SaysOnly (usage_row texts usage) before after end
 
 -- the end of a run with these texts, and these names beside them
-abbrev pub IsEndOf : Bool → List Text → List Name → Bool → Option (List ℕ) → State → State → End → Type 0
+abbrev pub IsEndOf : Bool → List Text → List Name → Bool → Option (List ℕ) → State → State → End
+    → Type 0
 IsEndOf shows texts others failed input before after end =
-    SaysOnly (out_of_memory formatter) before after end ⊎ EndsFor shows texts (request_of_texts texts others) failed input before after end
+    SaysOnly (out_of_memory formatter) before after end
+    ⊎ EndsFor shows texts (request_of_texts texts others) failed input before after end
 
 -- THE END of a run with these words, where standard input has these bytes: what the words ask for; or memory ran out before
 -- a file was looked at
 abbrev pub IsEnd : Bool → List (List ℕ) → Bool → Option (List ℕ) → State → State → End → Type 0
-IsEnd shows words failed input before after end = IsEndOf shows (texts_in (codes "tffmt-all") words) (others_in words) failed input before after end
+IsEnd shows words failed input before after end =
+    IsEndOf shows (texts_in (codes "tffmt-all") words) (others_in words) failed input before after
+    end

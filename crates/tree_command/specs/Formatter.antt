@@ -7,4 +7,6 @@ formatter = record { name = codes "tffmt-all"; failure = 4 }
 
 -- what lines it has
 abbrev pub usage_line : List ℕ
-usage_line = codes "usage: tffmt-all [--check | --diff | --list] [--in-place] [--sync] [--quiet]\n                 [--shard K/N] [--exclude PATH]... [--any-name] [--null] [--]\n                 [FILE|FOLDER]...\n"
+usage_line =
+    codes
+    "usage: tffmt-all [--check | --diff | --list] [--in-place] [--sync] [--quiet]\n                 [--shard K/N] [--exclude PATH]... [--any-name] [--null] [--]\n                 [FILE|FOLDER]...\n"

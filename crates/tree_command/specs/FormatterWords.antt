@@ -14,6 +14,7 @@ formatter_words = record {
       record { option = codes "-recursive"; hint = codes "; folders are always walked whole" }
       ∷ record { option = codes "--recursive"; hint = codes "; folders are always walked whole" }
       ∷ record { option = codes "-write=false"; hint = codes "; write --list, --check or --diff" }
-      ∷ record { option = codes "--write=false"; hint = codes "; write --list, --check or --diff" } ∷ [];
+      ∷ record { option = codes "--write=false"; hint = codes "; write --list, --check or --diff" }
+      ∷ [];
   usage = usage_line;
 }

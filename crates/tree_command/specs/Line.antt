@@ -38,21 +38,25 @@ pub record Part : Type 0 where
   pub chosen : Chosen
 
 abbrev pub part_of : Request → Part
-part_of asking = record { shard = asking.shard; chosen = chosen_by asking.given.any_name asking.given.excluded }
+part_of asking =
+    record { shard = asking.shard; chosen = chosen_by asking.given.any_name asking.given.excluded }
 
 -- ---- the command
 
 -- `--exclude TEXT`, which may be given more than once
 abbrev pub exclude_rule : Rule
-exclude_rule = record (new_rule (codes "exclude")) { long = Some (codes "exclude"); action = Some Append }
+exclude_rule =
+    record (new_rule (codes "exclude")) { long = Some (codes "exclude"); action = Some Append }
 
 -- `tffmt-all [--check | --diff | --list] [--in-place] [--sync] [--quiet] [--shard K/N] [--exclude PATH]... [--any-name] [--jobs NUMBER]
 -- [--null] [--version] [--] [FILE|FOLDER]...`
 abbrev pub tffmt_all : App
 tffmt_all =
     fold with_rule (new_app (codes "tffmt-all"))
-    (count_rule (codes "check") ∷ count_rule (codes "diff") ∷ count_rule (codes "list") ∷ count_rule (codes "in-place") ∷ count_rule (codes "sync")
-    ∷ count_rule (codes "quiet") ∷ count_rule (codes "any-name") ∷ count_rule (codes "version") ∷ null_rule ∷ option_rule (codes "shard") ∷ exclude_rule
+    (count_rule (codes "check") ∷ count_rule (codes "diff") ∷ count_rule (codes "list")
+    ∷ count_rule (codes "in-place") ∷ count_rule (codes "sync")
+    ∷ count_rule (codes "quiet") ∷ count_rule (codes "any-name") ∷ count_rule (codes "version")
+    ∷ null_rule ∷ option_rule (codes "shard") ∷ exclude_rule
     ∷ jobs_rule ∷ file_rule ∷ [])
 
 -- ---- what is to be done
@@ -72,7 +76,8 @@ ending_by null = if null then Null else Line
 
 abbrev pub mode_asked : List Row → Option Mode
 mode_asked rows =
-    mode_by (is_given (codes "check") rows) (is_given (codes "diff") rows) (is_given (codes "list") rows) (ending_by (is_given (codes "null") rows))
+    mode_by (is_given (codes "check") rows) (is_given (codes "diff") rows)
+    (is_given (codes "list") rows) (ending_by (is_given (codes "null") rows))
     (record { in_place = is_given (codes "in-place") rows; sync = is_given (codes "sync") rows })
 
 -- ---- the line
@@ -85,7 +90,9 @@ abbrev pub request_by : Option Mode → Option (Option Shard) → Bool → Given
 request_by None shard are_jobs given = Err TwoModes
 request_by (Some mode) None are_jobs given = Err BadPart
 request_by (Some mode) (Some shard) false given = Err BadJobs
-request_by (Some mode) (Some shard) true given = if has_names_twice given then Err NamesTwice else Ok (record { mode = mode; shard = shard; given = given })
+request_by (Some mode) (Some shard) true given =
+    if has_names_twice given then Err NamesTwice
+    else Ok (record { mode = mode; shard = shard; given = given })
 
 -- the names of a line are those that clap finds, and then the other ones
 abbrev pub given_by : List Name → List Row → Given
@@ -99,15 +106,19 @@ given_by others rows = record {
 
 abbrev pub request_with : List Row → Given → Result Request Usage
 request_with rows given =
-    request_by (mode_asked rows) (shard_given (first_of (codes "shard") rows)) (are_jobs_good rows) given
+    request_by (mode_asked rows) (shard_given (first_of (codes "shard") rows)) (are_jobs_good rows)
+    given
 
 abbrev pub request_of_rows : List Name → List Row → Result Request Usage
-request_of_rows others rows = if is_given (codes "version") rows then Err Version else request_with rows (given_by others rows)
+request_of_rows others rows =
+    if is_given (codes "version") rows then Err Version
+    else request_with rows (given_by others rows)
 
 -- what these texts ask for, and these names beside them, unless memory runs out
 abbrev pub request_of_texts : List Text → List Name → Result Request Usage
 request_of_texts texts others =
-    unless_fault (usage_by OutOfMemory Help BadLine) (fault_of tffmt_all texts) (request_of_rows others (matches_of tffmt_all texts))
+    unless_fault (usage_by OutOfMemory Help BadLine) (fault_of tffmt_all texts)
+    (request_of_rows others (matches_of tffmt_all texts))
 
 -- what they ask to be done with files, where clap finds no fault in them
 abbrev pub mode_of_texts : List Text → Option Mode

@@ -9,7 +9,8 @@ use Rattle.tree_devices.specs.declared.stored.Stored.{Stored}
 
 -- the first text that is stored under a name
 abbrev pub text_in : List Stored → Name → Option (List ℕ)
-text_in stored name = option_map (λ s. s.bytes.items) (find (λ s. bytes_eq name s.name.items) stored)
+text_in stored name =
+    option_map (λ s. s.bytes.items) (find (λ s. bytes_eq name s.name.items) stored)
 
 -- where a name leads: to the target of its link, or to the name itself
 abbrev pub real_in : List Stored → Name → Name

@@ -22,21 +22,30 @@ faults_of (Some fault) = fault ∷ []
 
 -- the tree told the fault of this answer as the one fault of its calls, or none if memory ran out
 abbrev pub NotesOne : Faults → Outcome → Type 0
-NotesOne told answer = (told ≡ Some (faults_of (failure_of answer))) ⊎ ((failure_of answer ≡ Some OutOfMemory) × (told ≡ Some []))
+NotesOne told answer =
+    (told ≡ Some (faults_of (failure_of answer)))
+    ⊎ ((failure_of answer ≡ Some OutOfMemory) × (told ≡ Some []))
 
 -- if this run has status 4 and no writer failed, one of its looks failed
 abbrev pub FailsByALook : Mode → List Found → State → State → End → Type 0
 FailsByALook mode found before after end =
-    end.status ≡ 4 → (end.out.failed || end.err.failed) ≡ false → (run : IsRun false mode found (λ answers. []) before after end) × (list_any is_failed run.answers ≡ true)
+    end.status ≡ 4 → (end.out.failed || end.err.failed) ≡ false
+    → (run : IsRun false mode found (λ answers. []) before after end)
+    × (list_any is_failed run.answers ≡ true)
 
 -- the tree tells the bytes of the file to which a name leads, which have a format or a fault
 abbrev pub IsToldIn : Files → Name → Type 0
-IsToldIn files name = (bytes : List ℕ) × (files.told (files.real name) ≡ Some bytes) × HasFormatOrFault bytes
+IsToldIn files name =
+    (bytes : List ℕ) × (files.told (files.real name) ≡ Some bytes) × HasFormatOrFault bytes
 
 -- nothing prevents a look at a file that is to be written, if no lines of faults are shown
 abbrev pub IsReadyIn : Files → Found → Type 0
-IsReadyIn files f = (writing : Writing) → (f.fault ≡ None) × IsReady false (Write writing) f.name.items (files.told (files.real f.name.items))
+IsReadyIn files f =
+    (writing : Writing) → (f.fault ≡ None)
+    × IsReady false (Write writing) f.name.items (files.told (files.real f.name.items))
 
 -- there is a run over these files in which nothing fails
 abbrev pub HasGoodRun : List Found → State → Type 0
-HasGoodRun found before = (writing : Writing) → (after : State) × (end : End) × (run : IsRun false (Write writing) found (λ answers. []) before after end) × (end.status ≢ 4)
+HasGoodRun found before =
+    (writing : Writing) → (after : State) × (end : End)
+    × (run : IsRun false (Write writing) found (λ answers. []) before after end) × (end.status ≢ 4)

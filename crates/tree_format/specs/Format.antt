@@ -18,7 +18,8 @@ pub record IsFormat (bytes formatted : List ℕ) : Type 0 where
 abbrev pub IsTextFault : List ℕ → Fault → Type 0
 IsTextFault text fault =
     IsTextVerdict text (Err fault)
-    ⊎ ((source : Scanned) × IsTextVerdict text (Ok source) × (max_source < length (print source.tokens)) × (fault ≡ print_too_large))
+    ⊎ ((source : Scanned) × IsTextVerdict text (Ok source)
+    × (max_source < length (print source.tokens)) × (fault ≡ print_too_large))
 
 -- THE FAULT for which bytes have no format
 abbrev pub IsFault : List ℕ → Fault → Type 0

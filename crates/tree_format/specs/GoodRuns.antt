@@ -14,7 +14,8 @@ use Rattle.tree_format.specs.declared.outcome.Outcome.TheVariants as outcome
 
 -- each file has a format, or a fault
 abbrev pub HasFormatOrFault : List ℕ → Type 0
-HasFormatOrFault bytes = ((formatted : List ℕ) × IsFormat bytes formatted) ⊎ ((fault : Fault) × IsFault bytes fault)
+HasFormatOrFault bytes =
+    ((formatted : List ℕ) × IsFormat bytes formatted) ⊎ ((fault : Fault) × IsFault bytes fault)
 
 -- the device tells the bytes of each file to which a name leads
 abbrev pub AreTold : Files → List Found → Type 0
@@ -33,20 +34,27 @@ abbrev pub HasRoom : Mode → Name → List ℕ → Type 0
 HasRoom (Write writing) name bytes = Unit {0}
 HasRoom Check name bytes = Unit {0}
 HasRoom (Listed ending) name bytes = Unit {0}
-HasRoom Diff name bytes = (formatted : List ℕ) → IsFormat bytes formatted → formatted ≢ bytes → (answer : Outcome) × Holds answer (shown_diff name bytes formatted)
+HasRoom Diff name bytes =
+    (formatted : List ℕ) → IsFormat bytes formatted → formatted ≢ bytes → (answer : Outcome)
+    × Holds answer (shown_diff name bytes formatted)
 
 -- where the line of a fault is to be shown, there is room for it
 abbrev pub HasLineRoom : Bool → List ℕ → Type 0
 HasLineRoom false bytes = Unit {0}
-HasLineRoom true bytes = (fault : Fault) → IsFault bytes fault → (answer : Outcome) × Holds answer (shown_line true bytes fault)
+HasLineRoom true bytes =
+    (fault : Fault) → IsFault bytes fault → (answer : Outcome)
+    × Holds answer (shown_line true bytes fault)
 
 -- the bytes of a file are told, and nothing stands in the way of a look at it
 abbrev pub IsReady : Bool → Mode → Name → Option (List ℕ) → Type 0
 IsReady shows mode name None = ⊥
-IsReady shows mode name (Some bytes) = HasFormatOrFault bytes × HasRoom mode name bytes × HasLineRoom shows bytes
+IsReady shows mode name (Some bytes) =
+    HasFormatOrFault bytes × HasRoom mode name bytes × HasLineRoom shows bytes
 
 abbrev pub AreReady : Bool → Mode → Files → List Found → Type 0
-AreReady shows mode files found = All (λ f. (f.fault ≡ None) × IsReady shows mode f.name.items (files.told (files.real f.name.items))) found
+AreReady shows mode files found =
+    All (λ f. (f.fault ≡ None)
+    × IsReady shows mode f.name.items (files.told (files.real f.name.items))) found
 
 -- a file was written whose group couldn't be kept
 abbrev pub is_narrowed : Outcome → Bool

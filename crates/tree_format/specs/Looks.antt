@@ -31,15 +31,19 @@ pub record Changes (mode : Mode) (old new : Files) (name : Name) (bytes : List �
 
 -- WHAT CHANGES in a file of this name, as it is shown: the name stands in the heads below `old/` and `new/`
 abbrev pub shown_diff : Name → List ℕ → List ℕ → List ℕ
-shown_diff given bytes formatted = diff_of (shown_head (codes "old/" ++ given)) (shown_head (codes "new/" ++ given)) bytes formatted
+shown_diff given bytes formatted =
+    diff_of (shown_head (codes "old/" ++ given)) (shown_head (codes "new/"
+    ++ given)) bytes formatted
 
 -- What a look at bytes of a file answers, of this real name, that was named so, and what the files are then. Where what changes
 -- is to be shown, it is; so is the line of a fault, where what is said is read on a terminal.
 abbrev pub Looks : Bool → Mode → Files → Files → Name → Name → List ℕ → Outcome → Type 0
 Looks shows mode old new given name bytes outcome.Formatted = IsFormat bytes bytes × (new ≡ old)
-Looks shows mode old new given name bytes (outcome.Changed how) = (mode ≢ Diff) × Changes mode old new name bytes
+Looks shows mode old new given name bytes (outcome.Changed how) =
+    (mode ≢ Diff) × Changes mode old new name bytes
 Looks shows mode old new given name bytes (outcome.Differs text) =
-    (mode ≡ Diff) × (changes : Changes Diff old new name bytes) × (text.items ≡ shown_diff given bytes changes.formatted)
+    (mode ≡ Diff) × (changes : Changes Diff old new name bytes)
+    × (text.items ≡ shown_diff given bytes changes.formatted)
 Looks shows mode old new given name bytes (outcome.Refused fault snippet) =
     IsFault bytes fault × (new ≡ old) × (snippet_text snippet ≡ shown_line shows bytes fault)
 Looks shows mode old new given name bytes (outcome.Failed fault) = new ≡ old
@@ -47,7 +51,9 @@ Looks shows mode old new given name bytes (outcome.Failed fault) = new ≡ old
 -- the same for a file that is read: some bytes, and those that the device tells
 abbrev pub Visits : Bool → Mode → Files → Files → Name → Name → Outcome → Type 0
 Visits shows mode old new given name (outcome.Failed fault) = new ≡ old
-Visits shows mode old new given name answer = (bytes : List ℕ) × Tells (old.told name) bytes × Looks shows mode old new given name bytes answer
+Visits shows mode old new given name answer =
+    (bytes : List ℕ) × Tells (old.told name) bytes
+    × Looks shows mode old new given name bytes answer
 
 -- why a look failed, if it did
 abbrev pub failure_of : Outcome → Option TreeFault
@@ -57,21 +63,27 @@ failure_of _ = None
 -- A FAILURE IS REAL: it is that of the one call of the device that failed, or memory ran out. Where a look doesn't fail, no
 -- call failed.
 pub record Notes (before after : Faults) (answer : Outcome) : Type 0 where
-  pub is : (after ≡ with_fault before (failure_of answer)) ⊎ ((failure_of answer ≡ Some OutOfMemory) × (after ≡ before))
+  pub is : (after ≡ with_fault before (failure_of answer))
+      ⊎ ((failure_of answer ≡ Some OutOfMemory) × (after ≡ before))
 
 -- one file was to be replaced: this one, in place of the bytes that it has, by the format of these, in this way; and this
 -- was answered
-pub record AsksFor (writing : Writing) (given : Name) (told : Option (List ℕ)) (before after : Asked) (answer : Result Replaced TreeFault) : Type 0 where
+pub record AsksFor (writing : Writing) (given : Name) (told : Option (List ℕ))
+    (before after : Asked) (answer : Result Replaced TreeFault) : Type 0 where
   pub bytes : List ℕ
   pub tells : Tells told bytes
   pub formatted : List ℕ
   pub is : IsFormat bytes formatted
   pub changed : formatted ≢ bytes
-  pub asked : after ≡ with_asked before (record { name = given; old = bytes; new = formatted; writing = writing; answer = answer })
+  pub asked : after
+      ≡ with_asked before (record { name = given; old = bytes; new = formatted; writing = writing;
+      answer = answer })
 
 -- the same where files are to be written, and nothing otherwise
-abbrev pub AsksIn : Mode → Name → Option (List ℕ) → Asked → Asked → Result Replaced TreeFault → Type 0
-AsksIn (Write writing) given told before after answer = AsksFor writing given told before after answer
+abbrev pub AsksIn : Mode → Name → Option (List ℕ) → Asked → Asked → Result Replaced TreeFault
+    → Type 0
+AsksIn (Write writing) given told before after answer =
+    AsksFor writing given told before after answer
 AsksIn mode given told before after answer = after ≡ before
 
 -- WHAT A LOOK ASKS FOR, at a file of which the device tells these bytes: where it is to be written and isn't formatted, that it
@@ -79,7 +91,9 @@ AsksIn mode given told before after answer = after ≡ before
 -- A look that fails may have asked for that too, and then has the fault that was answered.
 abbrev pub Asks : Mode → Name → Option (List ℕ) → Asked → Asked → Outcome → Type 0
 Asks mode given told before after outcome.Formatted = after ≡ before
-Asks mode given told before after (outcome.Changed how) = AsksIn mode given told before after (Ok how)
+Asks mode given told before after (outcome.Changed how) =
+    AsksIn mode given told before after (Ok how)
 Asks mode given told before after (outcome.Differs text) = after ≡ before
 Asks mode given told before after (outcome.Refused fault snippet) = after ≡ before
-Asks mode given told before after (outcome.Failed fault) = (after ≡ before) ⊎ AsksIn mode given told before after (Err fault)
+Asks mode given told before after (outcome.Failed fault) =
+    (after ≡ before) ⊎ AsksIn mode given told before after (Err fault)

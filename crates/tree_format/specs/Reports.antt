@@ -42,8 +42,10 @@ rights_words Narrowed name = about name narrowed_text
 
 -- a file isn't formatted, or wasn't before
 abbrev pub changed_report : Mode → Replaced → Name → Report
-changed_report (Write writing) how name = record { out = line (quoted name); err = rights_words how name; status = 0 }
-changed_report Check how name = record { out = []; err = about name (codes "not formatted"); status = 3 }
+changed_report (Write writing) how name =
+    record { out = line (quoted name); err = rights_words how name; status = 0 }
+changed_report Check how name =
+    record { out = []; err = about name (codes "not formatted"); status = 3 }
 changed_report (Listed ending) how name = record { out = listed ending name; err = []; status = 3 }
 changed_report Diff how name = record { out = line (quoted name); err = []; status = 3 }
 
@@ -60,12 +62,15 @@ abbrev pub report_of : Mode → Name → Outcome → Report
 report_of mode name outcome.Formatted = record { out = []; err = []; status = 0 }
 report_of mode name (outcome.Changed how) = changed_report mode how name
 report_of mode name (outcome.Differs text) = record { out = text.items; err = []; status = 3 }
-report_of mode name (outcome.Refused fault snippet) = record { out = []; err = refused_words name fault (snippet_text snippet); status = 2 }
-report_of mode name (outcome.Failed fault) = record { out = []; err = about name (tree_fault_text fault); status = 4 }
+report_of mode name (outcome.Refused fault snippet) =
+    record { out = []; err = refused_words name fault (snippet_text snippet); status = 2 }
+report_of mode name (outcome.Failed fault) =
+    record { out = []; err = about name (tree_fault_text fault); status = 4 }
 
 -- 4 is worse than 2, 2 is worse than 3, and 3 than 0
 abbrev pub worse_status : ℕ → ℕ → ℕ
-worse_status one other = if one == 4 || other == 4 then 4 else (if one == 2 || other == 2 then 2 else max one other)
+worse_status one other =
+    if one == 4 || other == 4 then 4 else (if one == 2 || other == 2 then 2 else max one other)
 
 abbrev pub worst_status : List ℕ → ℕ
 worst_status statuses = fold worse_status 0 statuses

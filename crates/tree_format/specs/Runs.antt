@@ -18,7 +18,9 @@ use Rattle.tree_format.specs.declared.outcome.Outcome.TheVariants as outcome
 -- a file is as it was, or has the format of the bytes that it had
 abbrev pub IsSafe : Option (List ℕ) → Option (List ℕ) → Type 0
 IsSafe None after = after ≡ None
-IsSafe (Some bytes) after = (after ≡ Some bytes) ⊎ ((formatted : List ℕ) × IsFormat bytes formatted × (after ≡ Some formatted))
+IsSafe (Some bytes) after =
+    (after ≡ Some bytes)
+    ⊎ ((formatted : List ℕ) × IsFormat bytes formatted × (after ≡ Some formatted))
 
 -- what a run may make of a file: only where files are to be written it may get its format
 abbrev pub MayBecome : Mode → Option (List ℕ) → Option (List ℕ) → Type 0
@@ -35,16 +37,19 @@ is_failed _ = false
 abbrev pub Settled : Mode → Option (List ℕ) → Option (List ℕ) → Type 0
 Settled (Write writing) None after = Unit {0}
 Settled (Write writing) (Some bytes) after =
-    ((formatted : List ℕ) × IsFormat bytes formatted × (after ≡ Some formatted)) ⊎ ((fault : Fault) × IsFault bytes fault × (after ≡ Some bytes))
+    ((formatted : List ℕ) × IsFormat bytes formatted × (after ≡ Some formatted))
+    ⊎ ((fault : Fault) × IsFault bytes fault × (after ≡ Some bytes))
 Settled mode before after = Unit {0}
 
 -- ---- the run
 
 -- a look at a name that was found: it is at the file to which the name leads, unless there is a fault for which it can't be
 abbrev pub SeesBy : Bool → Mode → Name → Option TreeFault → Outcome → State → State → Type 0
-SeesBy shows mode name (Some fault) answer before after = (answer ≡ outcome.Failed fault) × (after ≡ before)
+SeesBy shows mode name (Some fault) answer before after =
+    (answer ≡ outcome.Failed fault) × (after ≡ before)
 SeesBy shows mode name None answer before after =
-    Visits shows mode before.files after.files name (before.files.real name) answer × Notes before.faults after.faults answer
+    Visits shows mode before.files after.files name (before.files.real name) answer
+    × Notes before.faults after.faults answer
     × Asks mode name (before.files.told (before.files.real name)) before.asked after.asked answer
 
 abbrev pub Sees : Bool → Mode → Found → Outcome → State → State → Type 0
@@ -55,10 +60,13 @@ abbrev pub LooksAtAll : Bool → Mode → List Found → List Outcome → State 
 LooksAtAll shows mode [] [] before after = after ≡ before
 LooksAtAll shows mode [] (answer ∷ answers) before after = ⊥
 LooksAtAll shows mode (found ∷ more) [] before after = ⊥
-LooksAtAll shows mode (found ∷ more) (answer ∷ answers) before after = (between : State) × Sees shows mode found answer before between × LooksAtAll shows mode more answers between after
+LooksAtAll shows mode (found ∷ more) (answer ∷ answers) before after =
+    (between : State) × Sees shows mode found answer before between
+    × LooksAtAll shows mode more answers between after
 
 abbrev pub reports_of : Mode → List Found → List Outcome → List Report
-reports_of mode (found ∷ more) (answer ∷ answers) = report_of mode found.name.items answer ∷ reports_of mode more answers
+reports_of mode (found ∷ more) (answer ∷ answers) =
+    report_of mode found.name.items answer ∷ reports_of mode more answers
 reports_of mode (found ∷ more) [] = []
 reports_of mode [] answers = []
 
@@ -81,7 +89,8 @@ pub record AreWhole (out err : Writer) (reports : List Report) : Type 0 where
 -- THE RUN over names that were found: each is looked at and reported, up to one whose report can't be written, and then the
 -- last words are said, which may rest on what was answered. Each writer took what was reported to it, or a part from the front
 -- where it failed, and the status is the worst one, or 4 where a writer failed.
-pub record IsRun (shows : Bool) (mode : Mode) (found : List Found) (last : List Outcome → List ℕ) (before after : State) (end : End) : Type 0 where
+pub record IsRun (shows : Bool) (mode : Mode) (found : List Found) (last : List Outcome
+    → List ℕ) (before after : State) (end : End) : Type 0 where
   pub seen : List Found
   pub rest : List Found
   pub all : found ≡ seen ++ rest
@@ -89,6 +98,9 @@ pub record IsRun (shows : Bool) (mode : Mode) (found : List Found) (last : List 
   pub answers : List Outcome
   pub looks : LooksAtAll shows mode seen answers before after
   pub output : Took end.out (concat (map (λ r. r.out) (reports_of mode seen answers)))
-  pub message : Took end.err (concat (map (λ r. r.err) (reports_of mode seen answers)) ++ last answers)
+  pub message : Took end.err (concat (map (λ r. r.err) (reports_of mode seen answers))
+      ++ last answers)
   pub stops : AreWhole end.out end.err (reports_of mode seen answers)
-  pub exit : end.status ≡ (if end.out.failed || end.err.failed then 4 else worst_status (map (λ r. r.status) (reports_of mode seen answers)))
+  pub exit : end.status
+      ≡ (if end.out.failed || end.err.failed then 4
+      else worst_status (map (λ r. r.status) (reports_of mode seen answers)))

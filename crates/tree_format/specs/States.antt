@@ -10,4 +10,5 @@ pub record State : Type 0 where
 
 -- the same in the words of its trait
 abbrev pub state_of : {D R : Type 0} → Ghosts D R → D → State
-state_of tree device = record { files = tree.files device; faults = tree.faults device; asked = tree.asked device }
+state_of tree device =
+    record { files = tree.files device; faults = tree.faults device; asked = tree.asked device }

@@ -42,7 +42,9 @@ changed_words (Write writing) = codes " formatted, "
 changed_words mode = codes " not formatted, "
 
 abbrev pub counts_words : Mode → Tally → List ℕ
-counts_words mode t = decimal t.changed ++ (files_word t.changed ++ (changed_words mode ++ (decimal t.unchanged ++ codes " unchanged")))
+counts_words mode t =
+    decimal t.changed
+    ++ (files_word t.changed ++ (changed_words mode ++ (decimal t.unchanged ++ codes " unchanged")))
 
 -- `, N WORD`, or nothing where there are none
 abbrev pub part : ℕ → List ℕ → List ℕ
@@ -65,4 +67,5 @@ end_line mode t = if is_empty t then codes "no files found\n" else tally_line mo
 
 -- a run over these names with nothing said at its end, and the tally of its answers
 abbrev pub Tallies : Bool → Mode → List Found → State → State → End → Tally → Type 0
-Tallies shows mode found before after end tally = (run : IsRun shows mode found (λ answers. []) before after end) × (tally ≡ tally_of run.answers)
+Tallies shows mode found before after end tally =
+    (run : IsRun shows mode found (λ answers. []) before after end) × (tally ≡ tally_of run.answers)

@@ -48,7 +48,8 @@ issues_words c =
 abbrev pub modules_words : Counts → List ℕ
 modules_words c =
     if c.refused == 0 then decimal c.modules ++ (modules_word c.modules ++ codes "\n")
-    else decimal c.modules ++ (modules_word c.modules ++ (codes ", " ++ (decimal c.refused ++ codes " refused\n")))
+    else decimal c.modules
+    ++ (modules_word c.modules ++ (codes ", " ++ (decimal c.refused ++ codes " refused\n")))
 
 abbrev pub some_line : Counts → List ℕ
 some_line c = issues_words c ++ modules_words c

@@ -31,7 +31,9 @@ refusal_view r = record { name = r.name.now; at = r.at; text = r.text.now; snipp
 -- what follows the name, to the end of the line
 abbrev pub refusal_words : Option Position → List ℕ → List ℕ
 refusal_words None text = codes ": " ++ line text
-refusal_words (Some at) text = codes ":" ++ (decimal at.line ++ (codes ":" ++ (decimal at.column ++ (codes ": " ++ line text))))
+refusal_words (Some at) text =
+    codes ":"
+    ++ (decimal at.line ++ (codes ":" ++ (decimal at.column ++ (codes ": " ++ line text))))
 
 -- `NAME: TEXT`, or `NAME:LINE:COLUMN: TEXT`, and below it what is shown of the file
 abbrev pub named_words : Refusal → List ℕ

@@ -38,7 +38,9 @@ shown_issue names texts i = issue_line names i ++ snippet (get_or texts i.file [
 
 -- the report of what is found in files of these names: that of `tfrules`, with those lines where they are shown
 abbrev pub report_of : Bool → List Name → Linted → List ℕ
-report_of shows names linted = if shows then report_by (shown_issue names linted.texts) linted.issues else report names linted.issues
+report_of shows names linted =
+    if shows then report_by (shown_issue names linted.texts) linted.issues
+    else report names linted.issues
 
 -- that of a module, with the names as they are shown
 abbrev pub module_report : Bool → Module → Linted → List ℕ
@@ -46,18 +48,25 @@ module_report shows m linted = report_of shows (map quoted (names_in m)) linted
 
 -- an issue in the file of its number, as a remark
 abbrev pub issue_remark : List Name → Issue → Remark
-issue_remark names i = record { file = get_or names i.file []; line = i.at.line; column = i.at.column; subject = subject.Rule i.rule; text = i.message }
+issue_remark names i =
+    record { file = get_or names i.file []; line = i.at.line; column = i.at.column;
+    subject = subject.Rule i.rule; text = i.message }
 
 abbrev pub comment_remark : List Name → CommentFault → Remark
-comment_remark names f = record { file = get_or names f.file []; line = f.at.line; column = f.at.column; subject = subject.Comment; text = f.text }
+comment_remark names f =
+    record { file = get_or names f.file []; line = f.at.line; column = f.at.column;
+    subject = subject.Comment; text = f.text }
 
 abbrev pub remarks_by : List Name → Linted → List Remark
-remarks_by names linted = map (issue_remark names) linted.issues ++ map (comment_remark names) linted.comments
+remarks_by names linted =
+    map (issue_remark names) linted.issues ++ map (comment_remark names) linted.comments
 
 -- how what is found is written, after that of others or as the first: as a report of its issues, or in a form
 abbrev pub linted_output : Option Form → Bool → Bool → Module → Linted → List ℕ
-linted_output None shows is_after m linted = after_empty_line is_after (module_report shows m linted)
-linted_output (Some form) shows is_after m linted = module_text form is_after (remarks_by (names_in m) linted)
+linted_output None shows is_after m linted =
+    after_empty_line is_after (module_report shows m linted)
+linted_output (Some form) shows is_after m linted =
+    module_text form is_after (remarks_by (names_in m) linted)
 
 -- whether that isn't empty
 abbrev pub has_output : Option Form → Linted → Bool
@@ -66,11 +75,14 @@ has_output (Some form) linted = is_some linted.issues || is_some linted.comments
 
 -- a comment that silences nothing is told as a refusal is, by its file and its place, with the line of its text where that is shown
 abbrev pub comment_line : Bool → List Name → List (List ℕ) → CommentFault → List ℕ
-comment_line shows names texts f = refusal_line (record { name = get_or names f.file []; at = Some f.at; text = f.text; snippet = snippet_if shows (get_or texts f.file []) f.at })
+comment_line shows names texts f =
+    refusal_line (record { name = get_or names f.file []; at = Some f.at; text = f.text;
+    snippet = snippet_if shows (get_or texts f.file []) f.at })
 
 -- what goes to standard output
 abbrev pub verdict_output : Manner → Bool → Module → Verdict → List ℕ
-verdict_output manner is_after m (Ok linted) = linted_output manner.form manner.terminals.out is_after m linted
+verdict_output manner is_after m (Ok linted) =
+    linted_output manner.form manner.terminals.out is_after m linted
 verdict_output manner is_after m (Err refusals) = []
 
 -- whether any of it does
@@ -80,7 +92,8 @@ is_shown form (Err refusals) = false
 
 -- what goes to standard error
 abbrev pub verdict_message : Bool → Module → Verdict → List ℕ
-verdict_message shows m (Ok linted) = flat_map (comment_line shows (names_in m) linted.texts) linted.comments
+verdict_message shows m (Ok linted) =
+    flat_map (comment_line shows (names_in m) linted.texts) linted.comments
 verdict_message shows m (Err refusals) = flat_map refusal_line refusals
 
 -- why the module is refused, if it is
@@ -90,11 +103,15 @@ refusals_of (Err refusals) = refusals
 
 -- by what an issue fails the run
 abbrev pub failing_under : Policy → Request
-failing_under policy = record { asked = asked_of policy.settings; minimum = policy.minimum; force = policy.force; files = [] }
+failing_under policy =
+    record { asked = asked_of policy.settings; minimum = policy.minimum; force = policy.force;
+    files = [] }
 
 -- that of `tfrules`; a comment that silences nothing fails the run, whatever the severity from which on an issue does
 abbrev pub verdict_status : Policy → Verdict → ℕ
-verdict_status policy (Ok linted) = if not policy.force && is_some linted.comments then 2 else status (failing_under policy) linted.issues
+verdict_status policy (Ok linted) =
+    if not policy.force && is_some linted.comments then 2
+    else status (failing_under policy) linted.issues
 verdict_status policy (Err refusals) = 1
 
 -- ---- all modules
@@ -104,11 +121,15 @@ abbrev pub AreJudged : Files → Terminals → List Governed → List Verdict �
 AreJudged files terminals [] [] was is = is ≡ was
 AreJudged files terminals [] (v ∷ vs) was is = ⊥
 AreJudged files terminals (m ∷ ms) [] was is = ⊥
-AreJudged files terminals (m ∷ ms) (v ∷ vs) was is = (between : Faults) × IsVerdict files terminals m.policy m.module was between v × AreJudged files terminals ms vs between is
+AreJudged files terminals (m ∷ ms) (v ∷ vs) was is =
+    (between : Faults) × IsVerdict files terminals m.policy m.module was between v
+    × AreJudged files terminals ms vs between is
 
 -- the issues of modules, one module after another: an empty line stands between two reports
 abbrev pub reports_after : Manner → Bool → List Governed → List Verdict → List ℕ
-reports_after manner is_after (m ∷ ms) (v ∷ vs) = verdict_output manner is_after m.module v ++ reports_after manner (is_after || is_shown manner.form v) ms vs
+reports_after manner is_after (m ∷ ms) (v ∷ vs) =
+    verdict_output manner is_after m.module v
+    ++ reports_after manner (is_after || is_shown manner.form v) ms vs
 reports_after manner is_after _ _ = []
 
 -- what is said of modules
@@ -128,14 +149,16 @@ abbrev pub worst_status : List ℕ → ℕ
 worst_status statuses = fold worse_status 0 statuses
 
 -- what was found in all: its numbers, whether any of it went to standard output, and the refusals
-pub record IsFound (form : Option Form) (modules : List Governed) (verdicts : List Verdict) (ran : RunEnd) : Type 0 where
+pub record IsFound (form : Option Form) (modules : List Governed) (verdicts : List Verdict)
+    (ran : RunEnd) : Type 0 where
   pub counts : ran.counts ≡ counts_of modules verdicts
   pub output : ran.has_output ≡ list_any (is_shown form) verdicts
   pub refusals : HoldsAll ran.kept (flat_map refusals_of verdicts)
 
 -- THE RUN over modules: each is judged, up to one of which nothing more can be written. Each writer took what is said of them, or
 -- a part from the front where it failed, and the status is the worst one. If none failed, these are its numbers and its refusals.
-pub record IsLintRun (files : Files) (manner : Manner) (head : List ℕ) (modules : List Governed) (was is : Faults) (end : End) (ran : RunEnd) : Type 0 where
+pub record IsLintRun (files : Files) (manner : Manner) (head : List ℕ) (modules : List Governed)
+    (was is : Faults) (end : End) (ran : RunEnd) : Type 0 where
   pub seen : List Governed
   pub rest : List Governed
   pub all : modules ≡ seen ++ rest
@@ -144,5 +167,6 @@ pub record IsLintRun (files : Files) (manner : Manner) (head : List ℕ) (module
   pub judged : AreJudged files manner.terminals seen verdicts was is
   pub output : Took end.out (head ++ reports_after manner false seen verdicts)
   pub message : Took end.err (messages manner.terminals.err seen verdicts)
-  pub exit : end.status ≡ (if end.out.failed || end.err.failed then 1 else worst_status (statuses seen verdicts))
+  pub exit : end.status
+      ≡ (if end.out.failed || end.err.failed then 1 else worst_status (statuses seen verdicts))
   pub found : (end.out.failed || end.err.failed) ≡ false → IsFound manner.form seen verdicts ran

@@ -56,7 +56,9 @@ abbrev pub texts_shown : Bool → List NamedFile → List (List ℕ)
 texts_shown shows files = if shows then map (λ file. file.bytes) files else []
 
 -- all files of these names are accepted, and this is found in them
-pub record HaveFound (told : Name → Option (List ℕ)) (terminals : Terminals) (policy : Policy) (names : List Name) (linted : Linted) : Type 0 where
+pub record HaveFound (told : Name
+    → Option (List ℕ)) (terminals : Terminals) (policy : Policy) (names : List Name)
+    (linted : Linted) : Type 0 where
   pub files : List NamedFile
   pub named : names_of files ≡ names
   pub are : AreFiles told files
@@ -71,17 +73,24 @@ pub record HaveFound (told : Name → Option (List ℕ)) (terminals : Terminals)
 abbrev pub IsShownFault : Bool → ℕ → List ℕ → Fault → List ℕ → Type 0
 IsShownFault shows size bytes fault line =
     (IsLoadFault bytes fault × (line ≡ []))
-    ⊎ (IsText bytes × (size + length bytes ≤ max_module) × IsTextVerdict bytes (Err fault) × (line ≡ snippet_if shows bytes fault.at))
+    ⊎ (IsText bytes × (size + length bytes ≤ max_module) × IsTextVerdict bytes (Err fault)
+    × (line ≡ snippet_if shows bytes fault.at))
 
 -- why a file isn't kept after others of so many bytes, where the device has had these faults before and after: it has a fault
 -- or is too much, or the one call that failed says why, or memory ran out
 abbrev pub StopsBy : Bool → Option (List ℕ) → ℕ → Faults → Faults → Stop → Type 0
-StopsBy shows told size was is (stop.Refused fault line) = (is ≡ was) × ((bytes : List ℕ) × Tells told bytes × IsShownFault shows size bytes fault line.items)
-StopsBy shows told size was is stop.TooLarge = (is ≡ was) × ((bytes : List ℕ) × Tells told bytes × IsTooMuch size bytes)
-StopsBy shows told size was is (stop.Failed fault) = (is ≡ with_fault was (Some fault)) ⊎ ((fault ≡ OutOfMemory) × (is ≡ was))
+StopsBy shows told size was is (stop.Refused fault line) =
+    (is ≡ was)
+    × ((bytes : List ℕ) × Tells told bytes × IsShownFault shows size bytes fault line.items)
+StopsBy shows told size was is stop.TooLarge =
+    (is ≡ was) × ((bytes : List ℕ) × Tells told bytes × IsTooMuch size bytes)
+StopsBy shows told size was is (stop.Failed fault) =
+    (is ≡ with_fault was (Some fault)) ⊎ ((fault ≡ OutOfMemory) × (is ≡ was))
 
 -- all files before this one are accepted, and it isn't kept
-pub record StopsAt (shows : Bool) (told : Name → Option (List ℕ)) (names : List Name) (was is : Faults) (name : Name) (why : Stop) : Type 0 where
+pub record StopsAt (shows : Bool) (told : Name
+    → Option (List ℕ)) (names : List Name) (was is : Faults) (name : Name) (why : Stop) : Type 0
+    where
   pub before : List NamedFile
   pub after : List Name
   pub split : names ≡ names_of before ++ name ∷ after
@@ -92,7 +101,8 @@ pub record StopsAt (shows : Bool) (told : Name → Option (List ℕ)) (names : L
 
 -- what is said of it
 abbrev pub stop_refusal : Name → Stop → Refusal
-stop_refusal name (stop.Refused fault line) = record { name = name; at = Some fault.at; text = fault_text fault.kind; snippet = line.items }
+stop_refusal name (stop.Refused fault line) =
+    record { name = name; at = Some fault.at; text = fault_text fault.kind; snippet = line.items }
 stop_refusal name stop.TooLarge = refusal_of name (codes "module too large")
 stop_refusal name (stop.Failed fault) = refusal_of name (tree_fault_text fault)
 
@@ -117,8 +127,12 @@ CanBeRead m = (m.is_whole ≡ true) × (length m.files.items ≤ max_files)
 abbrev pub IsRefused : Files → Bool → Module → Faults → Faults → List Refusal → Type 0
 IsRefused files shows m was is refusals =
     ((m.is_whole ≡ false) × (is ≡ was) × (refusals ≡ []))
-    ⊎ (((m.is_whole ≡ true) × (max_files < length m.files.items) × (is ≡ was) × (refusals ≡ too_many m ∷ []))
-    ⊎ ((CanBeRead m × ((name : Name) × (why : Stop) × StopsAt shows (bytes_of_name files) (names_in m) was is name why × (refusals ≡ stop_refusal name why ∷ [])))
+    ⊎ (((m.is_whole ≡ true) × (max_files < length m.files.items) × (is ≡ was)
+    × (refusals ≡ too_many m ∷ []))
+    ⊎ ((CanBeRead m
+    × ((name : Name) × (why : Stop)
+    × StopsAt shows (bytes_of_name files) (names_in m) was is name why
+    × (refusals ≡ stop_refusal name why ∷ [])))
     ⊎ (CanBeRead m × (is ≡ was) × (refusals ≡ no_memory m ∷ []))))
 
 abbrev pub Verdict : Type 0
@@ -126,5 +140,7 @@ Verdict = Result Linted (List Refusal)
 
 -- WHAT BECOMES OF A MODULE, by these rules, where the device has had these faults before and after. No call failed that isn't told
 abbrev pub IsVerdict : Files → Terminals → Policy → Module → Faults → Faults → Verdict → Type 0
-IsVerdict files terminals policy m was is (Ok linted) = CanBeRead m × (is ≡ was) × HaveFound (bytes_of_name files) terminals policy (names_in m) linted
-IsVerdict files terminals policy m was is (Err refusals) = IsRefused files terminals.err m was is refusals
+IsVerdict files terminals policy m was is (Ok linted) =
+    CanBeRead m × (is ≡ was) × HaveFound (bytes_of_name files) terminals policy (names_in m) linted
+IsVerdict files terminals policy m was is (Err refusals) =
+    IsRefused files terminals.err m was is refusals

@@ -19,7 +19,9 @@ count_rule name = record (new_rule name) { long = Some name; action = Some Count
 
 -- `-0` and `--null`
 abbrev pub null_rule : Rule
-null_rule = record (new_rule (codes "null")) { long = Some (codes "null"); short = Some 48; action = Some Count }
+null_rule =
+    record (new_rule (codes "null")) { long = Some (codes "null"); short = Some 48;
+    action = Some Count }
 
 abbrev pub file_rule : Rule
 file_rule = record (new_rule (codes "file")) { action = Some Append }
@@ -38,7 +40,10 @@ most_digits = 5
 -- decimal digits, of which the first isn't 0
 abbrev pub is_number : Text → Bool
 is_number text =
-    nat_lt 0 (length text) && (nat_le (length text) most_digits && (not (option_map_or (λ b. b == 48) (slice_get text 0) false) && list_all is_ascii_digit text))
+    nat_lt 0 (length text)
+    && (nat_le (length text) most_digits
+    && (not (option_map_or (λ b. b == 48) (slice_get text 0) false)
+    && list_all is_ascii_digit text))
 
 abbrev pub number_in : Text → Option ℕ
 number_in text = if is_number text then Some (digits_value 10 text) else None
@@ -48,11 +53,15 @@ number_in text = if is_number text then Some (digits_value 10 text) else None
 abbrev pub shard_by : Option ℕ → Option ℕ → Option Shard
 shard_by None count = None
 shard_by (Some number) None = None
-shard_by (Some number) (Some count) = if nat_le 1 number && nat_le number count then Some (record { number = number; count = count }) else None
+shard_by (Some number) (Some count) =
+    if nat_le 1 number && nat_le number count then Some (record { number = number; count = count })
+    else None
 
 -- `K/N`
 abbrev pub shard_in : Text → Option Shard
-shard_in text = shard_by (number_in (before_first (λ b. b == 47) text)) (number_in (after_first (λ b. b == 47) text))
+shard_in text =
+    shard_by (number_in (before_first (λ b. b == 47) text))
+    (number_in (after_first (λ b. b == 47) text))
 
 -- no part where there is no text, and nothing where it names none
 abbrev pub shard_given : Option Text → Option (Option Shard)
@@ -63,7 +72,9 @@ shard_given (Some text) = option_map Some (shard_in text)
 
 -- `-j NUMBER` and `--jobs NUMBER`, which may be given more than once
 abbrev pub jobs_rule : Rule
-jobs_rule = record (new_rule (codes "jobs")) { long = Some (codes "jobs"); short = Some 106; action = Some Append }
+jobs_rule =
+    record (new_rule (codes "jobs")) { long = Some (codes "jobs"); short = Some 106;
+    action = Some Append }
 
 abbrev pub max_jobs : ℕ
 max_jobs = 9999

@@ -32,7 +32,9 @@ hides_nothing _ = false
 
 -- WHAT A PART HAS: the names of its sum. What can't be looked at, and may have files of any part below it, is in each.
 abbrev pub is_of : Shard → Found → Bool
-is_of shard found = option_map_or (λ fault. not (hides_nothing fault)) found.fault false || has_name shard found.name.items
+is_of shard found =
+    option_map_or (λ fault. not (hides_nothing fault)) found.fault false
+    || has_name shard found.name.items
 
 abbrev pub picked_of : Option Shard → List Found → List Found
 picked_of None found = found

@@ -43,7 +43,8 @@ is_letter v byte = list_any (λ letter. letter == byte) v.letters
 abbrev pub is_wrong : Vocabulary → Text → Bool
 is_wrong v word =
     option_map_or (λ option. not (is_name v option.0)) (long_of word)
-    (option_map_or (λ letters. not (option_map_or (is_letter v) (slice_get letters 0) false)) (short_of word) false)
+    (option_map_or (λ letters. not (option_map_or (is_letter v) (slice_get letters 0) false))
+    (short_of word) false)
 
 -- after this word all others are names
 abbrev pub is_end : Text → Bool
@@ -54,7 +55,8 @@ unless_end word = if is_end word then None else Some word
 
 -- THE WRONG WORD of a line: the first one, unless all words from an earlier one on are names
 abbrev pub wrong_word : Vocabulary → List Text → Option Text
-wrong_word v texts = option_and_then unless_end (find (λ word. is_end word || is_wrong v word) (drop 1 texts))
+wrong_word v texts =
+    option_and_then unless_end (find (λ word. is_end word || is_wrong v word) (drop 1 texts))
 
 -- ---- what is said of it
 

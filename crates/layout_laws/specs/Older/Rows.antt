@@ -22,7 +22,9 @@ was_row s m t = if is_path_sign t.class then none else row s m t
 
 abbrev pub was_turn : ℕ → List Marked → Lookahead → Effect
 was_turn count [] t = stop (UnexpectedToken t.number)
-was_turn count (s at m ∷ ss) t = if drops m t.class then on count (s at m ∷ ss) else row_effect count (was_row s m t) ss (was_turn count ss t) t
+was_turn count (s at m ∷ ss) t =
+    if drops m t.class then on count (s at m ∷ ss)
+    else row_effect count (was_row s m t) ss (was_turn count ss t) t
 
 abbrev pub was_run : ℕ → List Marked → List Lookahead → Option Refusal
 was_run count ss [] = ending ss

@@ -10,12 +10,15 @@ use Rattle.hcl_tokens.specs.declared.token.Kind.{Kind}
 use Rattle.hcl_tokens.specs.declared.token.Kind.TheVariants.{ColonColon, Dot}
 
 abbrev pub WasSpelling : List Opener → Bool → Kind → List ℕ → List ℕ → Type 0
-WasSpelling opens after_dot kind text rest = (kind ≢ ColonColon) × IsSpelling opens after_dot kind text rest
+WasSpelling opens after_dot kind text rest =
+    (kind ≢ ColonColon) × IsSpelling opens after_dot kind text rest
 
-pub record WasLongest (opens : List Opener) (after_dot : Bool) (seen : List ℕ) (kind : Kind) (text rest : List ℕ) : Type 0 where
+pub record WasLongest (opens : List Opener) (after_dot : Bool) (seen : List ℕ) (kind : Kind)
+    (text rest : List ℕ) : Type 0 where
   pub whole : text ++ rest ≡ seen
   pub spelled : WasSpelling opens after_dot kind text rest
-  pub longest : (other : Kind) (longer left : List ℕ) → longer ++ left ≡ seen → length text < length longer → ¬ WasSpelling opens after_dot other longer left
+  pub longest : (other : Kind) (longer left : List ℕ) → longer ++ left ≡ seen
+      → length text < length longer → ¬ WasSpelling opens after_dot other longer left
 
 pub record WasRead (s : State) (t : Lexeme) (next : State) : Type 0 where
   pub rest : List ℕ
