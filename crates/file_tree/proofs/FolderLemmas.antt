@@ -1,7 +1,7 @@
 -- The files of one folder.
 use Rattle.std.proofs.Common.{◌≡◌, ◌⊎◌, ◌++◌, ◌∷◌, [], ℕ, suc, Bool, true, false, List, Option, Some, None, Contains, arith, inl, inr, refl, subst, sym}
 use Rattle.std.proofs.lemmas.List.Elements.{Contains-push_cases}
-use Rattle.file_tree.specs.Below.{IsEntry, IsFileFor, IsSpecial, Says, names_in_listing}
+use Rattle.file_tree.specs.Below.{IsEntry, IsFileFor, IsSpecial, Says, maybe, names_in_listing}
 use Rattle.file_tree.specs.Choices.{Chosen, whole}
 use Rattle.file_tree.specs.Files.{Files, Name}
 use Rattle.file_tree.specs.Finds.{IsEntryBy}
@@ -37,37 +37,37 @@ module _ (files : Files) (folder : Name) where
           subst (λ (x : Found). IsInBy files folder x.name.items x.fault x.file) e
           (subst (λ n. IsInBy files folder n h.f.fault h.f.file) (sym h.name_is) (subst (λ o. IsInBy files folder name o h.f.file) (sym h.fault_is) (subst (λ o. IsInBy files folder name fault o) (sym h.file_is) of')))
 
-  in_report : (name : Name) (fault : TreeFault) (old new : Reached) → IsEntry false files whole folder name → Adds (folder ++ name) (Some fault) None old new → In old → In new
+  in_report : (name : Name) (fault : TreeFault) (old new : Reached) → IsEntry maybe files whole folder name → Adds (folder ++ name) (Some fault) None old new → In old → In new
   in_report name fault old new entry h before = in_adds (folder ++ name) (Some fault) None old new h (inr (name, entry, refl)) before
 
-  in_file : (name : Name) (file : Option FoundFile) (old new : Reached) → true ≡ is_taken name → IsEntry false files whole folder name → IsFileFor false files whole (folder ++ name)
+  in_file : (name : Name) (file : Option FoundFile) (old new : Reached) → true ≡ is_taken name → IsEntry maybe files whole folder name → IsFileFor maybe files whole (folder ++ name)
       → IsEntryBy files whole (folder ++ name) file → Adds (folder ++ name) None file old new → In old → In new
   in_file name file old new e entry kind known h before = in_adds (folder ++ name) None file old new h (name, (entry, kind, sym e), refl, known) before
 
-  in_if : (name : Name) (v : Bool) (identity : Identity) (old new : Reached) → v ≡ is_taken name → IsEntry false files whole folder name → Says false (files.entry (folder ++ name)) (File identity)
+  in_if : (name : Name) (v : Bool) (identity : Identity) (old new : Reached) → v ≡ is_taken name → IsEntry maybe files whole folder name → Says maybe (files.entry (folder ++ name)) (File identity)
       → TakesIf v (folder ++ name) identity old new → In old → In new
   in_if name true identity old new e entry tells h before = in_file name (Some (file_by false identity)) old new e entry (inl (inl (identity, tells))) tells h before
   in_if name false identity old new e entry tells h before = in_same old new h before
 
-  in_special : (name : Name) (v : Bool) (old new : Reached) → (v ≡ true → true ≡ is_taken name) → IsEntry false files whole folder name → IsSpecial false files (folder ++ name)
+  in_special : (name : Name) (v : Bool) (old new : Reached) → (v ≡ true → true ≡ is_taken name) → IsEntry maybe files whole folder name → IsSpecial maybe files (folder ++ name)
       → TakesSpecial v (folder ++ name) old new → In old → In new
   in_special name true old new e entry is h before = in_file name None old new (e refl) entry (inr (refl, is)) (refl, is) h before
   in_special name false old new e entry is h before = in_same old new h before
 
-  in_linked : (kind : Kind) (name : Name) (old new : Reached) → true ≡ is_taken name → IsEntry false files whole folder name → Says false (files.entry (folder ++ name)) Link
-      → Says false (files.kind (folder ++ name)) kind → TakesLinked true kind (folder ++ name) old new → In old → In new
+  in_linked : (kind : Kind) (name : Name) (old new : Reached) → true ≡ is_taken name → IsEntry maybe files whole folder name → Says maybe (files.entry (folder ++ name)) Link
+      → Says maybe (files.kind (folder ++ name)) kind → TakesLinked true kind (folder ++ name) old new → In old → In new
   in_linked Folder name old new e entry link leads h before = in_same old new h before
   in_linked (File identity) name old new e entry link leads h before = in_file name (Some (file_by true identity)) old new e entry (inl (inr (link, (identity, leads)))) (link, leads) h before
   in_linked Link name old new e entry link leads h before = in_same old new h before
   in_linked Other name old new e entry link leads h before = in_special name true old new (λ _. e) entry (inr (link, leads)) h before
 
-  in_link : (name : Name) (v : Bool) (old new : Reached) → v ≡ is_taken name → IsEntry false files whole folder name → Says false (files.entry (folder ++ name)) Link
+  in_link : (name : Name) (v : Bool) (old new : Reached) → v ≡ is_taken name → IsEntry maybe files whole folder name → Says maybe (files.entry (folder ++ name)) Link
       → TakesLink v true files (folder ++ name) old new → In old → In new
   in_link name true old new e entry tells (inl h) before = in_report name h.0 old new entry h.1 before
   in_link name true old new e entry tells (inr h) before = in_linked h.0 name old new e entry tells h.1 h.2 before
   in_link name false old new e entry tells h before = in_same old new h before
 
-  in_kind : (kind : Kind) (name : Name) (old new : Reached) → IsEntry false files whole folder name → Tells (files.entry (folder ++ name)) kind
+  in_kind : (kind : Kind) (name : Name) (old new : Reached) → IsEntry maybe files whole folder name → Tells (files.entry (folder ++ name)) kind
       → TakesKind true kind files (folder ++ name) name old new → In old → In new
   in_kind Folder name old new entry tells h before = λ f d. before f (subst (λ l. Contains l f) h.found d)
   in_kind (File identity) name old new entry tells h before = in_if name (is_taken name) identity old new refl entry tells h before

@@ -1,7 +1,7 @@
 -- The answers of the device's calls, step by step.
 use Rattle.std.proofs.Common.{◌≡◌, ◌≢◌, ◌∙◌, ◌<◌, ◌+◌, ◌⊎◌, ◌++◌, ◌∷◌, [], ℕ, Bool, Bor, true, false, List, Option, Some, None, Result, Ok, Err, OnOk, Contains, ap, append_assoc, append-nil, arith, get_or, inl, inr, length, map, refl, subst, sym, take}
 use Rattle.std.proofs.lemmas.List.{map-append, map_more}
-use Rattle.file_tree.specs.Below.{IsOther}
+use Rattle.file_tree.specs.Below.{IsOther, maybe}
 use Rattle.file_tree.specs.Choices.{Chosen, is_excluded, is_wanted}
 use Rattle.file_tree.specs.Files.{Faults, Files, Name, Tells, with_fault}
 use Rattle.file_tree.specs.Finds.{AreReal, Failure, IsOtherIn, with_failures}
@@ -103,7 +103,7 @@ hears_real files chosen path old new before after h = record {
 }
 
 -- a file was told for its name
-hears_other : (files : Files) (chosen : Chosen) (path : Name) (old new : Reached) (before after : Faults) → IsOther false files chosen path → Adds (tidied path) (Some OtherKind) None old new → after ≡ before
+hears_other : (files : Files) (chosen : Chosen) (path : Name) (old new : Reached) (before after : Faults) → IsOther maybe files chosen path → Adds (tidied path) (Some OtherKind) None old new → after ≡ before
     → HearsGiven files chosen path old.found new.found before after
 hears_other files chosen path old new before after other adds still = record {
   more = adds.f ∷ [];

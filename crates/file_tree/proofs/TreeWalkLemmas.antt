@@ -3,7 +3,7 @@ use Rattle.std.proofs.Common.{◌≡◌, ◌≢◌, ◌∙◌, ◌<◌, ◌+◌,
 use Rattle.std.specs.Prelude.{◌&&◌, IfOk}
 use Rattle.std.proofs.lemmas.List.{map-append, map_more}
 use Rattle.std.proofs.lemmas.List.Elements.{Contains-append_left, Contains-push, Contains-push_cases}
-use Rattle.file_tree.specs.Below.{HasFile, HasFolder, IsBelow, IsEntry, IsFileFor, IsNamed, IsOther, IsSpecial, Leads, Says, is_met, names_in_listing}
+use Rattle.file_tree.specs.Below.{Certainty, HasFile, HasFolder, IsBelow, IsEntry, IsFileFor, IsNamed, IsOther, IsSpecial, Leads, Says, is_met, maybe, names_in_listing, surely}
 use Rattle.file_tree.specs.Choices.{Chosen, is_excluded, is_wanted}
 use Rattle.file_tree.specs.Files.{Files, Name, identity_of, is_link}
 use Rattle.hcl_source.specs.Devices.{Tells}
@@ -183,7 +183,7 @@ both : (a b : Bool) → a ≡ true → b ≡ true → (a && b) ≡ true
 both true b e f = f
 both false b e f = e
 
-met_file : (files : Files) (chosen : Chosen) (folder name : Name) (old new : Reached) → TakesEntry files chosen folder name old new → is_met chosen folder name ≡ true → IsFileFor true files chosen (folder ++ name) → is_taken name ≡ true
+met_file : (files : Files) (chosen : Chosen) (folder name : Name) (old new : Reached) → TakesEntry files chosen folder name old new → is_met chosen folder name ≡ true → IsFileFor surely files chosen (folder ++ name) → is_taken name ≡ true
     → IsFault new.found (folder ++ name) ⊎ IsFound new.found (folder ++ name)
 met_file files chosen folder name old new (inl h) met is taken = absurd (true≢false (sym met ∙ h.0))
 met_file files chosen folder name old new (inr (_, inl h)) met is taken = inl (fault_added (folder ++ name) h.0 old new h.1)
@@ -221,7 +221,7 @@ all_folder files chosen folder (first ∷ names) name old new h c met is =
     here (inr d) later = later d
 
 all_file : (files : Files) (chosen : Chosen) (folder : Name) (names : List Name) (name : Name) (old new : Reached) → TakesAll files chosen folder names old new → Contains names name → is_met chosen folder name ≡ true
-    → IsFileFor true files chosen (folder ++ name) → is_taken name ≡ true
+    → IsFileFor surely files chosen (folder ++ name) → is_taken name ≡ true
     → IsFault new.found (folder ++ name) ⊎ IsFound new.found (folder ++ name)
 all_file files chosen folder [] name old new h c met is taken = absurd (none_in name c)
 all_file files chosen folder (first ∷ names) name old new h c met is taken =
@@ -240,7 +240,7 @@ all_file files chosen folder (first ∷ names) name old new h c met is taken =
 abbrev and_folder : Reached → Name → Reached
 and_folder r folder = record { found = r.found; folders = r.folders ++ folder ∷ [] }
 
-pub file_looked : (files : Files) (chosen : Chosen) (folder last : Name) (old new : Reached) → TakesFolder files chosen folder old new → HasFile true files chosen folder last
+pub file_looked : (files : Files) (chosen : Chosen) (folder last : Name) (old new : Reached) → TakesFolder files chosen folder old new → HasFile surely files chosen folder last
     → IsFault new.found (place folder) ⊎ (IsFault new.found (folder ++ last) ⊎ IsFound new.found (folder ++ last))
 file_looked files chosen folder last old new (inl h) has = inl (fault_added (place folder) h.0 old new h.1)
 file_looked files chosen folder last old new (inr h) has =
@@ -248,10 +248,10 @@ file_looked files chosen folder last old new (inr h) has =
     let within : Contains (names_in_listing h.0) last = subst (λ l. Contains (names_in_listing l) last) same has.0.2 in
     inr (all_file files chosen folder (names_in_listing h.0) last old new h.2 within has.0.3 has.1 has.2)
 
-file_met : (files : Files) (chosen : Chosen) (folder last : Name) (old new : Reached) → TakesFolder files chosen folder old new → HasFile true files chosen folder last → Covers new folder [] last
+file_met : (files : Files) (chosen : Chosen) (folder last : Name) (old new : Reached) → TakesFolder files chosen folder old new → HasFile surely files chosen folder last → Covers new folder [] last
 file_met files chosen folder last old new takes has = inr (file_looked files chosen folder last old new takes has)
 
-folder_met : (files : Files) (chosen : Chosen) (folder part : Name) (parts : List Name) (last : Name) (old new : Reached) → TakesFolder files chosen folder old new → HasFolder true files chosen folder part
+folder_met : (files : Files) (chosen : Chosen) (folder part : Name) (parts : List Name) (last : Name) (old new : Reached) → TakesFolder files chosen folder old new → HasFolder surely files chosen folder part
     → Covers new folder (part ∷ parts) last
 folder_met files chosen folder part parts last old new (inl h) has = inr (inl (fault_added (place folder) h.0 old new h.1))
 folder_met files chosen folder part parts last old new (inr h) has =
@@ -264,7 +264,7 @@ folder_met files chosen folder part parts last old new (inr h) has =
     turn (inr f) = inr (inr (inl f))
 
 covers_step : (files : Files) (chosen : Chosen) (taken : Name) (old new : Reached) → TakesFolder files chosen taken old new → (folder : Name) (parts : List Name) (last : Name)
-    → Leads true files chosen folder parts → HasFile true files chosen (within folder parts) last → Covers (and_folder old taken) folder parts last → Covers new folder parts last
+    → Leads surely files chosen folder parts → HasFile surely files chosen (within folder parts) last → Covers (and_folder old taken) folder parts last → Covers new folder parts last
 covers_step files chosen taken old new takes folder [] last leads has (inl c) = here (Contains-push_cases old.folders taken folder c)
   where
     here : Contains old.folders folder ⊎ (taken ≡ folder) → Covers new folder [] last
@@ -320,7 +320,7 @@ within_more : (folder : Name) (parts : List Name) (name : Name) → within folde
 within_more folder [] name = refl
 within_more folder (part ∷ parts) name = within_more (inside folder part) parts name
 
-leads_more : (sure : Bool) (files : Files) (chosen : Chosen) (folder : Name) (parts : List Name) (name : Name) → Leads sure files chosen folder parts → HasFolder sure files chosen (within folder parts) name
+leads_more : (sure : Certainty) (files : Files) (chosen : Chosen) (folder : Name) (parts : List Name) (name : Name) → Leads sure files chosen folder parts → HasFolder sure files chosen (within folder parts) name
     → Leads sure files chosen folder (parts ++ name ∷ [])
 leads_more sure files chosen folder [] name leads has = (has, tt)
 leads_more sure files chosen folder (part ∷ parts) name leads has = (leads.0, leads_more sure files chosen (inside folder part) parts name leads.1 has)
@@ -330,51 +330,51 @@ taken_both true b e = e
 taken_both false b e = refl
 
 -- an entry of a given folder, or of one below
-module _ (files : Files) (chosen : Chosen) (paths : List Name) (path : Name) (c : Contains paths path) (allowed : is_excluded chosen (tidied path) ≡ false) (parts : List Name) (is : Says false (files.kind path) Folder) (leads : Leads false files chosen (top path) parts) where
-  sound_found : (name : Name) (file : Option FoundFile) (old new : Reached) → true ≡ is_taken name → IsEntry false files chosen (within (top path) parts) name
-      → IsFileFor false files chosen (within (top path) parts ++ name) → IsEntryBy files chosen (within (top path) parts ++ name) file
+module _ (files : Files) (chosen : Chosen) (paths : List Name) (path : Name) (c : Contains paths path) (allowed : is_excluded chosen (tidied path) ≡ false) (parts : List Name) (is : Says maybe (files.kind path) Folder) (leads : Leads maybe files chosen (top path) parts) where
+  sound_found : (name : Name) (file : Option FoundFile) (old new : Reached) → true ≡ is_taken name → IsEntry maybe files chosen (within (top path) parts) name
+      → IsFileFor maybe files chosen (within (top path) parts ++ name) → IsEntryBy files chosen (within (top path) parts ++ name) file
       → Adds (within (top path) parts ++ name) None file old new → Sound files chosen paths old → Sound files chosen paths new
   sound_found name file old new e entry kind known h sound =
       sound_adds files chosen paths path (within (top path) parts ++ name) None file old new h c (inr (parts, name, (is, leads, (entry, kind, sym e), allowed), refl, known)) sound
 
-  sound_if : (name : Name) (v : Bool) (identity : Identity) (old new : Reached) → v ≡ is_taken name → IsEntry false files chosen (within (top path) parts) name
-      → Says false (files.entry (within (top path) parts ++ name)) (File identity)
+  sound_if : (name : Name) (v : Bool) (identity : Identity) (old new : Reached) → v ≡ is_taken name → IsEntry maybe files chosen (within (top path) parts) name
+      → Says maybe (files.entry (within (top path) parts ++ name)) (File identity)
       → TakesIf v (within (top path) parts ++ name) identity old new → Sound files chosen paths old → Sound files chosen paths new
   sound_if name true identity old new e entry tells h sound = sound_found name (Some (file_by false identity)) old new e entry (inl (inl (identity, tells))) tells h sound
   sound_if name false identity old new e entry tells h sound = sound_same files chosen paths old new h sound
 
-  sound_special : (name : Name) (v specials : Bool) (old new : Reached) → specials ≡ chosen.specials → v ≡ (specials && is_taken name) → IsEntry false files chosen (within (top path) parts) name
-      → IsSpecial false files (within (top path) parts ++ name) → TakesSpecial v (within (top path) parts ++ name) old new → Sound files chosen paths old → Sound files chosen paths new
+  sound_special : (name : Name) (v specials : Bool) (old new : Reached) → specials ≡ chosen.specials → v ≡ (specials && is_taken name) → IsEntry maybe files chosen (within (top path) parts) name
+      → IsSpecial maybe files (within (top path) parts ++ name) → TakesSpecial v (within (top path) parts ++ name) old new → Sound files chosen paths old → Sound files chosen paths new
   sound_special name true true old new all e entry is h sound = sound_found name None old new e entry (inr (sym all, is)) (sym all, is) h sound
   sound_special name true false old new all e entry is h sound = absurd (true≢false e)
   sound_special name false specials old new all e entry is h sound = sound_same files chosen paths old new h sound
 
   -- the device tells the kind of a link, and that of its target
-  sound_linked : (kind : Kind) (name : Name) (old new : Reached) → true ≡ is_taken name → IsEntry false files chosen (within (top path) parts) name
-      → Says false (files.entry (within (top path) parts ++ name)) Link → Says false (files.kind (within (top path) parts ++ name)) kind
+  sound_linked : (kind : Kind) (name : Name) (old new : Reached) → true ≡ is_taken name → IsEntry maybe files chosen (within (top path) parts) name
+      → Says maybe (files.entry (within (top path) parts ++ name)) Link → Says maybe (files.kind (within (top path) parts ++ name)) kind
       → TakesLinked chosen.specials kind (within (top path) parts ++ name) old new → Sound files chosen paths old → Sound files chosen paths new
   sound_linked Folder name old new e entry link leads h sound = sound_same files chosen paths old new h sound
   sound_linked (File identity) name old new e entry link leads h sound = sound_found name (Some (file_by true identity)) old new e entry (inl (inr (link, (identity, leads)))) (link, leads) h sound
   sound_linked Link name old new e entry link leads h sound = sound_same files chosen paths old new h sound
   sound_linked Other name old new e entry link leads h sound = sound_special name chosen.specials chosen.specials old new refl (taken_both chosen.specials (is_taken name) e) entry (inr (link, leads)) h sound
 
-  sound_report : (name : Name) (fault : TreeFault) (old new : Reached) → IsEntry false files chosen (within (top path) parts) name → Adds (within (top path) parts ++ name) (Some fault) None old new
+  sound_report : (name : Name) (fault : TreeFault) (old new : Reached) → IsEntry maybe files chosen (within (top path) parts) name → Adds (within (top path) parts ++ name) (Some fault) None old new
       → Sound files chosen paths old → Sound files chosen paths new
   sound_report name fault old new entry h sound =
       sound_adds files chosen paths path (within (top path) parts ++ name) (Some fault) None old new h c (inl (inr (within (top path) parts, (parts, is, leads, refl, allowed), inr (name, entry, refl))), refl) sound
 
-  sound_link : (name : Name) (v : Bool) (old new : Reached) → v ≡ is_taken name → IsEntry false files chosen (within (top path) parts) name
-      → Says false (files.entry (within (top path) parts ++ name)) Link
+  sound_link : (name : Name) (v : Bool) (old new : Reached) → v ≡ is_taken name → IsEntry maybe files chosen (within (top path) parts) name
+      → Says maybe (files.entry (within (top path) parts ++ name)) Link
       → TakesLink v chosen.specials files (within (top path) parts ++ name) old new → Sound files chosen paths old → Sound files chosen paths new
   sound_link name true old new e entry tells (inl h) sound = sound_report name h.0 old new entry h.1 sound
   sound_link name true old new e entry tells (inr h) sound = sound_linked h.0 name old new e entry tells h.1 h.2 sound
   sound_link name false old new e entry tells h sound = sound_same files chosen paths old new h sound
 
-  sound_kind : (kind : Kind) (name : Name) (old new : Reached) → IsEntry false files chosen (within (top path) parts) name → Tells (files.entry (within (top path) parts ++ name)) kind
+  sound_kind : (kind : Kind) (name : Name) (old new : Reached) → IsEntry maybe files chosen (within (top path) parts) name → Tells (files.entry (within (top path) parts ++ name)) kind
       → TakesKind chosen.specials kind files (within (top path) parts ++ name) name old new → Sound files chosen paths old → Sound files chosen paths new
   sound_kind Folder name old new entry tells h sound =
       sound_enters files chosen paths (inside (within (top path) parts) name) old new h
-      (path, c, (parts ++ name ∷ [], is, leads_more false files chosen (top path) parts name leads (entry, tells), sym (within_more (top path) parts name), allowed)) sound
+      (path, c, (parts ++ name ∷ [], is, leads_more maybe files chosen (top path) parts name leads (entry, tells), sym (within_more (top path) parts name), allowed)) sound
   sound_kind (File identity) name old new entry tells h sound = sound_if name (is_taken name) identity old new refl entry tells h sound
   sound_kind Link name old new entry tells h sound = sound_link name (is_taken name) old new refl entry tells h sound
   sound_kind Other name old new entry tells h sound = sound_special name (chosen.specials && is_taken name) chosen.specials old new refl refl entry (inl tells) h sound
@@ -442,25 +442,25 @@ of_more files chosen paths path f h = (h.0, Contains-append_left paths (path ∷
 
 -- a named file that is taken
 module _ (files : Files) (chosen : Chosen) (paths : List Name) (path : Name) (c : Contains paths path) (allowed : is_excluded chosen (tidied path) ≡ false) where
-  sound_file : (identity : Identity) (old new : Reached) → Says false (files.kind path) (File identity) → is_wanted chosen (tidied path) ≡ true → TakesNamedFile files identity path old new
+  sound_file : (identity : Identity) (old new : Reached) → Says maybe (files.kind path) (File identity) → is_wanted chosen (tidied path) ≡ true → TakesNamedFile files identity path old new
       → Sound files chosen paths old → Sound files chosen paths new
   sound_file identity old new tells is (inl h) sound = sound_adds files chosen paths path (report_name path) (Some h.0) None old new h.1 c (inl (inl (refl, allowed)), refl) sound
   sound_file identity old new tells is (inr h) sound =
       sound_adds files chosen paths path (tidied path) None (Some (file_by (is_link h.0) identity)) old new h.2 c
       (inl (((File identity, tells, λ e. cc), is, allowed), refl, (tells, (h.0, h.1, refl)))) sound
 
-  sound_no_file : (kind : Kind) (old new : Reached) → Says false (files.kind path) kind → kind ≢ Folder → identity_of kind ≡ None → is_wanted chosen (tidied path) ≡ true → Adds (tidied path) None None old new
+  sound_no_file : (kind : Kind) (old new : Reached) → Says maybe (files.kind path) kind → kind ≢ Folder → identity_of kind ≡ None → is_wanted chosen (tidied path) ≡ true → Adds (tidied path) None None old new
       → Sound files chosen paths old → Sound files chosen paths new
   sound_no_file kind old new tells ne none is h sound = sound_adds files chosen paths path (tidied path) None None old new h c (inl (((kind, tells, ne), is, allowed), refl, (kind, tells, none))) sound
 
-  sound_wanted : (kind : Kind) (old new : Reached) → Says false (files.kind path) kind → kind ≢ Folder → is_wanted chosen (tidied path) ≡ true → TakesWanted kind files path old new
+  sound_wanted : (kind : Kind) (old new : Reached) → Says maybe (files.kind path) kind → kind ≢ Folder → is_wanted chosen (tidied path) ≡ true → TakesWanted kind files path old new
       → Sound files chosen paths old → Sound files chosen paths new
   sound_wanted Folder old new tells ne is h sound = absurd (ne refl)
   sound_wanted (File identity) old new tells ne is h sound = sound_file identity old new tells is h sound
   sound_wanted Link old new tells ne is h sound = sound_no_file Link old new tells ne refl is h sound
   sound_wanted Other old new tells ne is h sound = sound_no_file Other old new tells ne refl is h sound
 
-  sound_named : (kind : Kind) (v : Bool) (old new : Reached) → Says false (files.kind path) kind → kind ≢ Folder → is_wanted chosen (tidied path) ≡ v → TakesNamed v kind files path old new
+  sound_named : (kind : Kind) (v : Bool) (old new : Reached) → Says maybe (files.kind path) kind → kind ≢ Folder → is_wanted chosen (tidied path) ≡ v → TakesNamed v kind files path old new
       → Sound files chosen paths old → Sound files chosen paths new
   sound_named kind true old new tells ne is h sound = sound_wanted kind old new tells ne is h sound
   sound_named kind false old new tells ne is h sound = sound_adds files chosen paths path (tidied path) (Some OtherKind) None old new h c (inr (((kind, tells, ne), is, allowed), refl, refl), refl) sound
@@ -505,13 +505,13 @@ named_kind files chosen (File identity) path old new ne h = h
 named_kind files chosen Link path old new ne h = h
 named_kind files chosen Other path old new ne h = h
 
-given_itself : (files : Files) (chosen : Chosen) (path : Name) (old new : Reached) → TakesAsked files chosen path old new → IsNamed true files chosen path → IsFound new.found (tidied path) ⊎ IsFault new.found (report_name path)
+given_itself : (files : Files) (chosen : Chosen) (path : Name) (old new : Reached) → TakesAsked files chosen path old new → IsNamed surely files chosen path → IsFound new.found (tidied path) ⊎ IsFault new.found (report_name path)
 given_itself files chosen path old new (inl h) is = inr (fault_added (report_name path) h.0 old new h.1)
 given_itself files chosen path old new (inr h) is =
     named_found _ h.0 files path old new is.1
     (named_kind files chosen h.0 path old new (subst (λ k. k ≢ Folder) (told_some (files.kind path) is.0.0 h.0 is.0.1 h.1) is.0.2) h.2)
 
-given_other : (files : Files) (chosen : Chosen) (path : Name) (old new : Reached) → TakesAsked files chosen path old new → IsOther true files chosen path → IsFault new.found (tidied path) ⊎ IsFault new.found (report_name path)
+given_other : (files : Files) (chosen : Chosen) (path : Name) (old new : Reached) → TakesAsked files chosen path old new → IsOther surely files chosen path → IsFault new.found (tidied path) ⊎ IsFault new.found (report_name path)
 given_other files chosen path old new (inl h) is = inr (fault_added (report_name path) h.0 old new h.1)
 given_other files chosen path old new (inr h) is =
     inl (named_told _ h.0 files path old new is.1
@@ -543,15 +543,15 @@ walked_given files chosen paths path old new walked takes = record {
     taken : (other : Name) → path ≡ other → is_excluded chosen (tidied other) ≡ false → TakesAsked files chosen other old new
     taken other e allowed = asked_given files chosen other old new (subst (λ p. TakesGiven files chosen p old new) e takes) allowed
 
-    itself : (other : Name) → IsNamed true files chosen other → Contains paths other ⊎ (path ≡ other) → IsFound new.found (tidied other) ⊎ IsFault new.found (report_name other)
+    itself : (other : Name) → IsNamed surely files chosen other → Contains paths other ⊎ (path ≡ other) → IsFound new.found (tidied other) ⊎ IsFault new.found (report_name other)
     itself other is (inl c) = either (found_stays old new grows (tidied other)) (fault_stays old new grows (report_name other)) (walked.given other c is)
     itself other is (inr e) = given_itself files chosen other old new (taken other e is.2) is
 
-    told : (other : Name) → IsOther true files chosen other → Contains paths other ⊎ (path ≡ other) → IsFault new.found (tidied other) ⊎ IsFault new.found (report_name other)
+    told : (other : Name) → IsOther surely files chosen other → Contains paths other ⊎ (path ≡ other) → IsFault new.found (tidied other) ⊎ IsFault new.found (report_name other)
     told other is (inl c) = either (fault_stays old new grows (tidied other)) (fault_stays old new grows (report_name other)) (walked.other other c is)
     told other is (inr e) = given_other files chosen other old new (taken other e is.2) is
 
-    down : (other : Name) (parts : List Name) (last : Name) → IsBelow true files chosen other parts last → Contains paths other ⊎ (path ≡ other)
+    down : (other : Name) (parts : List Name) (last : Name) → IsBelow surely files chosen other parts last → Contains paths other ⊎ (path ≡ other)
         → IsFault new.found (report_name other) ⊎ Covers new (top other) parts last
     down other parts last is (inl c) =
         either (fault_stays old new grows (report_name other)) (covers_stays old new grows (top other) parts last) (walked.below other parts last c is)

@@ -2,7 +2,7 @@
 use Rattle.std.specs.Prelude.{◌≡◌, ℕ, refl, true, false, List, [], ◌∷◌, ◌++◌, Option, Some, None, codes, if◌then◌else◌}
 use Rattle.std.specs.Str.{bytes_eq}
 use Rattle.std.proofs.Common.{inl, inr, lit<}
-use Rattle.file_tree.specs.Below.{HasFile, HasFolder, IsBelow, is_met, names_in_listing}
+use Rattle.file_tree.specs.Below.{HasFile, HasFolder, IsBelow, is_met, names_in_listing, surely}
 use Rattle.file_tree.specs.Choices.{Chosen, chosen_by, is_excluded, is_wanted, whole}
 use Rattle.file_tree.specs.Files.{Files, Name}
 use Rattle.file_tree.specs.Names.{is_taken}
@@ -96,17 +96,17 @@ abbrev small : Files
 small = record { kind = kind_of; entry = kind_of; listing = listing_of; real = λ name. name; told = λ name. None; path = λ name. None }
 
 -- its file is below the given path
-net : HasFolder true small all (codes "modules/") (codes "net")
+net : HasFolder surely small all (codes "modules/") (codes "net")
 net = ((codes ".git" ++ (0 ∷ codes "net" ++ 0 ∷ []), refl, (1, lit< tt, refl), refl), refl)
 
-main : HasFile true small all (codes "modules/net/") (codes "main.tf")
+main : HasFile surely small all (codes "modules/net/") (codes "main.tf")
 main = ((codes "notes.txt" ++ (0 ∷ codes "main.tf" ++ (0 ∷ codes "pipe.tf" ++ 0 ∷ [])), refl, (1, lit< tt, refl), refl), inl (inl (numbered 7, refl)), refl)
 
-below : IsBelow true small all (codes "modules") (codes "net" ∷ []) (codes "main.tf")
+below : IsBelow surely small all (codes "modules") (codes "net" ∷ []) (codes "main.tf")
 below = (refl, (net, tt), main, refl)
 
 -- and so is the pipe, if such are taken
-pipe : HasFile true small whole (codes "modules/net/") (codes "pipe.tf")
+pipe : HasFile surely small whole (codes "modules/net/") (codes "pipe.tf")
 pipe = ((codes "notes.txt" ++ (0 ∷ codes "main.tf" ++ (0 ∷ codes "pipe.tf" ++ 0 ∷ [])), refl, (2, lit< tt, refl), refl), inr (refl, inl refl), refl)
 
 -- the other isn't, since files of its name aren't taken; nor is anything in the hidden folder

@@ -1,7 +1,7 @@
 -- The answer of a walk: the names to be looked at, and the names reported because they can't be.
 use Rattle.std.specs.Prelude.{◌≡◌, ◌⊎◌, Bool, true, false, List, [], ◌∷◌, ◌++◌, Option, Some, None, map}
 use Rattle.std.specs.List.{Contains}
-use Rattle.file_tree.specs.Below.{IsBelow, IsEntry, IsNamed, IsOther, IsSpecial, Leads, Says}
+use Rattle.file_tree.specs.Below.{IsBelow, IsEntry, IsNamed, IsOther, IsSpecial, Leads, Says, maybe, surely}
 use Rattle.file_tree.specs.Choices.{Chosen, is_excluded}
 use Rattle.file_tree.specs.Files.{Faults, Files, Name, identity_of, is_link, with_faults}
 use Rattle.file_tree.specs.Ordered.{HasName, IsFound, Rises}
@@ -19,35 +19,35 @@ use Rattle.file_tree.specs.declared.walk.FoundFile.{FoundFile}
 -- a given folder, or one below it
 abbrev pub IsFolderOf : Files → Chosen → Name → Name → Type 0
 IsFolderOf files chosen path folder =
-    (parts : List Name) × Says false (files.kind path) Folder
-    × Leads false files chosen (top path) parts × (folder ≡ within (top path) parts)
+    (parts : List Name) × Says maybe (files.kind path) Folder
+    × Leads maybe files chosen (top path) parts × (folder ≡ within (top path) parts)
     × (is_excluded chosen (tidied path) ≡ false)
 
 -- the file of a given path, by the kind of its name: the name may be a link to the file. None if it is no file
 abbrev pub IsNamedBy : Files → Name → Option FoundFile → Type 0
 IsNamedBy files path (Some file) =
-    Says false (files.kind path) (File file.identity)
-    × ((entry : Kind) × Says false (files.entry (tidied path)) entry
+    Says maybe (files.kind path) (File file.identity)
+    × ((entry : Kind) × Says maybe (files.entry (tidied path)) entry
     × (file.is_link ≡ is_link entry))
 IsNamedBy files path None =
-    (kind : Kind) × Says false (files.kind path) kind × (identity_of kind ≡ None)
+    (kind : Kind) × Says maybe (files.kind path) kind × (identity_of kind ≡ None)
 
 -- the file of an entry, and whether the entry is a link to it
 abbrev pub IsEntryIf : Bool → Files → Name → Identity → Type 0
 IsEntryIf true files name identity =
-    Says false (files.entry name) Link × Says false (files.kind name) (File identity)
-IsEntryIf false files name identity = Says false (files.entry name) (File identity)
+    Says maybe (files.entry name) Link × Says maybe (files.kind name) (File identity)
+IsEntryIf false files name identity = Says maybe (files.entry name) (File identity)
 
 -- the file of an entry that is taken; a pipe, a socket or a device has none
 abbrev pub IsEntryBy : Files → Chosen → Name → Option FoundFile → Type 0
 IsEntryBy files chosen name (Some file) = IsEntryIf file.is_link files name file.identity
-IsEntryBy files chosen name None = (chosen.specials ≡ true) × IsSpecial false files name
+IsEntryBy files chosen name None = (chosen.specials ≡ true) × IsSpecial maybe files name
 
 -- what a path stands for: itself, or a file below
 abbrev pub IsFileOf : Files → Chosen → Name → Name → Option FoundFile → Type 0
 IsFileOf files chosen path name file =
-    (IsNamed false files chosen path × (name ≡ tidied path) × IsNamedBy files path file)
-    ⊎ ((parts : List Name) × (last : Name) × IsBelow false files chosen path parts last
+    (IsNamed maybe files chosen path × (name ≡ tidied path) × IsNamedBy files path file)
+    ⊎ ((parts : List Name) × (last : Name) × IsBelow maybe files chosen path parts last
     × (name ≡ within (top path) parts ++ last) × IsEntryBy files chosen name file)
 
 -- a reported name: that of the path, of its folder or of one below, or of an entry there
@@ -56,12 +56,12 @@ IsReportOf files chosen path name =
     ((name ≡ report_name path) × (is_excluded chosen (tidied path) ≡ false))
     ⊎ ((folder : Name) × IsFolderOf files chosen path folder
     × ((name ≡ place folder)
-    ⊎ ((last : Name) × IsEntry false files chosen folder last × (name ≡ folder ++ last))))
+    ⊎ ((last : Name) × IsEntry maybe files chosen folder last × (name ≡ folder ++ last))))
 
 -- a file reported because its name isn't of a kind that is taken: that of the path
 abbrev pub IsOtherOf : Files → Chosen → Name → Name → TreeFault → Type 0
 IsOtherOf files chosen path name fault =
-    IsOther false files chosen path × (name ≡ tidied path) × (fault ≡ OtherKind)
+    IsOther maybe files chosen path × (name ≡ tidied path) × (fault ≡ OtherKind)
 
 abbrev pub IsOfBy : Files → Chosen → Name → Name → Option TreeFault → Option FoundFile → Type 0
 IsOfBy files chosen path name None file = IsFileOf files chosen path name file
@@ -91,12 +91,12 @@ pub record Finds (files : Files) (chosen : Chosen) (paths : List Name) (found : 
     where
   pub rises : Rises found
   pub real : (f : Found) → Contains found f → IsOf files chosen paths f
-  pub given : (path : Name) → Contains paths path → IsNamed true files chosen path
+  pub given : (path : Name) → Contains paths path → IsNamed surely files chosen path
       → IsFound found (tidied path) ⊎ HasName found (report_name path)
-  pub other : (path : Name) → Contains paths path → IsOther true files chosen path
+  pub other : (path : Name) → Contains paths path → IsOther surely files chosen path
       → HasName found (tidied path) ⊎ HasName found (report_name path)
   pub below : (path : Name) (parts : List Name) (last : Name) → Contains paths path
-      → IsBelow true files chosen path parts last
+      → IsBelow surely files chosen path parts last
       → HasName found (report_name path) ⊎ Accounts (HasName found) (top path) parts last
 
 -- ---- reported only after a failed call, or for its name

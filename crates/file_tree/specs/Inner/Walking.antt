@@ -1,7 +1,7 @@
 -- A walk, step by step: the found names, and the folders still to be listed.
 use Rattle.std.specs.Prelude.{◌≡◌, ◌≢◌, ◌⊎◌, ◌&&◌, ℕ, Bool, true, false, List, [], ◌∷◌, ◌++◌, Option, Some, None, map}
 use Rattle.std.specs.List.{Contains}
-use Rattle.file_tree.specs.Below.{IsBelow, IsNamed, IsOther, is_met, names_in_listing}
+use Rattle.file_tree.specs.Below.{IsBelow, IsNamed, IsOther, is_met, names_in_listing, surely}
 use Rattle.file_tree.specs.Choices.{Chosen, is_excluded, is_wanted}
 use Rattle.file_tree.specs.Files.{Faults, Files, Name, is_link}
 use Rattle.hcl_source.specs.Devices.{Tells}
@@ -135,9 +135,9 @@ Covers r folder (part ∷ parts) last = Contains r.folders folder ⊎ (IsFault r
 pub record Walked (files : Files) (chosen : Chosen) (paths : List Name) (r : Reached) : Type 0 where
   pub real : (f : Found) → Contains r.found f → IsOf files chosen paths f
   pub deeper : (folder : Name) → Contains r.folders folder → (path : Name) × Contains paths path × IsFolderOf files chosen path folder
-  pub other : (path : Name) → Contains paths path → IsOther true files chosen path → IsFault r.found (tidied path) ⊎ IsFault r.found (report_name path)
-  pub given : (path : Name) → Contains paths path → IsNamed true files chosen path → IsFound r.found (tidied path) ⊎ IsFault r.found (report_name path)
-  pub below : (path : Name) (parts : List Name) (last : Name) → Contains paths path → IsBelow true files chosen path parts last
+  pub other : (path : Name) → Contains paths path → IsOther surely files chosen path → IsFault r.found (tidied path) ⊎ IsFault r.found (report_name path)
+  pub given : (path : Name) → Contains paths path → IsNamed surely files chosen path → IsFound r.found (tidied path) ⊎ IsFault r.found (report_name path)
+  pub below : (path : Name) (parts : List Name) (last : Name) → Contains paths path → IsBelow surely files chosen path parts last
       → IsFault r.found (report_name path) ⊎ Covers r (top path) parts last
 
 -- ---- the answers of the device's calls
