@@ -28,29 +28,20 @@ pub struct Origin<'a> {
     pub identity: Identity,
 }
 
-/// A file that is to be replaced, open for reading and writing.
+/// A file that is to be replaced.
 #[derive(Drop)]
-struct Old<'a> {
+pub struct Old<'a> {
     /// By the front of its folder.
-    path: &'a str,
-    bytes: &'a [u8],
-    file: File,
-    metadata: Metadata,
+    pub path: &'a str,
+    pub bytes: &'a [u8],
+    pub metadata: Metadata,
 }
 
-impl Old<'_> {
-    /// Whether it has its old bytes still.
-    fn has_its_bytes(&mut self) -> bool {
-        has_bytes(&mut self.file, self.bytes, self.metadata.len())
-    }
-
-    /// Whether the folder has it still, by its name, as it was opened.
-    fn is_there(&self, rt: &HostRuntime) -> bool {
-        match patient::symlink_metadata(rt, self.path) {
-            Ok(now) => is_same(&now, &self.metadata),
-            Err(_) => false,
-        }
-    }
+/// The bytes that a new file gets, and whether it is on the disk before the next one is looked at.
+#[derive(Clone, Copy)]
+struct Contents<'a> {
+    bytes: &'a [u8],
+    sync: bool,
 }
 
 /// What a new file has of the old one.
@@ -85,15 +76,14 @@ fn fill(
     beside: &Beside,
     folder: &Folder,
     old: &Old<'_>,
-    new: &[u8],
-    sync: bool,
+    new: Contents<'_>,
 ) -> Result<bool, TreeFault> {
     if !folder.is_safe(beside.metadata().uid(), old.metadata.uid()) {
         return Err(TreeFault::NoneBeside);
     }
     let made = beside.file();
     let mut to = made;
-    if to.write_all(new).is_err() {
+    if to.write_all(new.bytes).is_err() {
         return Err(TreeFault::NotWritten);
     }
     let old_mode = old.metadata.permissions().mode() & 0o7777;
@@ -105,7 +95,7 @@ fn fill(
     if made.set_permissions(Permissions::from_mode(mode)).is_err() {
         return Err(TreeFault::NotWritten);
     }
-    if sync && made.sync_all().is_err() {
+    if new.sync && made.sync_all().is_err() {
         return Err(TreeFault::NotWritten);
     }
     Ok(kept.group)
@@ -121,24 +111,32 @@ fn is_same(one: &Metadata, other: &Metadata) -> bool {
         && one.ctime_nsec() == other.ctime_nsec()
 }
 
+/// Whether the folder has the old file still, by its name, as it was opened.
+fn is_there(rt: &HostRuntime, old: &Old<'_>) -> bool {
+    match patient::symlink_metadata(rt, old.path) {
+        Ok(now) => is_same(&now, &old.metadata),
+        Err(_) => false,
+    }
+}
+
 /// Fills a new file and renames it over the old one, if that is unchanged. The old name is asked last: what another
 /// program saves after that is lost.
 fn put(
     rt: &HostRuntime,
     beside: &Beside,
     folder: &Folder,
-    old: &mut Old<'_>,
-    new: &[u8],
-    sync: bool,
+    file: &mut File,
+    old: &Old<'_>,
+    new: Contents<'_>,
 ) -> Result<Replaced, TreeFault> {
-    let has_group = fill(beside, folder, old, new, sync)?;
-    if !old.has_its_bytes() {
+    let has_group = fill(beside, folder, old, new)?;
+    if !has_bytes(file, old.bytes, old.metadata.len()) {
         return Err(TreeFault::Changed);
     }
     if !beside.is_there(rt) {
         return Err(TreeFault::NotWritten);
     }
-    if !old.is_there(rt) {
+    if !is_there(rt, old) {
         return Err(TreeFault::Changed);
     }
     if !beside.put_over(rt, old.path) {
@@ -155,14 +153,14 @@ fn put(
 fn replace_by_new(
     rt: &HostRuntime,
     folder: &Folder,
-    old: &mut Old<'_>,
-    new: &[u8],
-    sync: bool,
+    file: &mut File,
+    old: &Old<'_>,
+    new: Contents<'_>,
     began: Option<SystemTime>,
 ) -> Result<Replaced, TreeFault> {
     let beside = make(rt, folder, began)?;
-    match put(rt, &beside, folder, old, new, sync) {
-        Ok(_) if sync && !folder.sync() => Err(TreeFault::NotSynced),
+    match put(rt, &beside, folder, file, old, new) {
+        Ok(_) if new.sync && !folder.sync() => Err(TreeFault::NotSynced),
         Ok(replaced) => Ok(replaced),
         Err(fault) => {
             beside.remove(rt);
@@ -204,23 +202,26 @@ pub fn replace(
     let Ok(path) = format!(in rt.alloc(); "{front}{name}") else {
         return Err(TreeFault::OutOfMemory);
     };
-    let (file, metadata) = open_old(rt, origin)?;
-    let mut old = Old {
+    let (mut file, metadata) = open_old(rt, origin)?;
+    let old = Old {
         path: path.as_str(),
         bytes: texts.old,
-        file,
         metadata,
     };
-    if !has_rest(&mut old.file, old.bytes, old.metadata.len()) || !old.is_there(rt) {
+    if !has_rest(&mut file, old.bytes, old.metadata.len()) || !is_there(rt, &old) {
         return Err(TreeFault::Changed);
     }
-    match replace_by_new(rt, folder, &mut old, texts.new, writing.sync, began) {
+    let new = Contents {
+        bytes: texts.new,
+        sync: writing.sync,
+    };
+    match replace_by_new(rt, folder, &mut file, &old, new, began) {
         Err(TreeFault::NoneBeside | TreeFault::OwnerNotKept | TreeFault::NotReplaced)
             if writing.in_place => {
-            if !old.has_its_bytes() || !old.is_there(rt) {
+            if !has_bytes(&mut file, old.bytes, old.metadata.len()) || !is_there(rt, &old) {
                 return Err(TreeFault::Changed);
             }
-            write_over(&mut old.file, texts.old, texts.new, writing.sync)?;
+            write_over(&mut file, texts.old, texts.new, writing.sync)?;
             Ok(Replaced::Kept)
         }
         done => done,

@@ -7,17 +7,13 @@ use Rattle.tf_rules.specs.Issues as issues
 use Rattle.tf_rules.specs.declared.issue.Issue.{Issue}
 use Rattle.tf_rules.specs.declared.listed_issue.ListedIssue.{ListedIssue}
 use Rattle.tf_rules.specs.declared.message_parts.MessageParts.{MessageParts}
-use Rattle.tf_rules.specs.declared.message_parts.MessageParts.TheVariants.{Whole, Named, NamedTwice}
 
 abbrev pub shown_issue : issues.Issue → Issue
 shown_issue i = record { file = i.place.file; at = i.place.at; rule = i.rule; message = i.message }
 
 -- the text of pieces, one after another
 abbrev pub text_of_parts : MessageParts → List ℕ
-text_of_parts (Whole text) = text.now
-text_of_parts (Named front name rest) = front.now ++ (name.now ++ rest.now)
-text_of_parts (NamedTwice front name between other rest) =
-    front.now ++ (name.now ++ (between.now ++ (other.now ++ rest.now)))
+text_of_parts p = p.front.now ++ (p.name.now ++ (p.between.now ++ (p.other.now ++ p.rest.now)))
 
 -- the same issue, where a list gives it with its message in pieces
 abbrev pub listed_issue : ListedIssue → Issue

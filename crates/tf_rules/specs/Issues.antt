@@ -49,8 +49,11 @@ tokens_of file = numbered file.source.tokens
 -- the place of the token of this number
 abbrev pub place_in : File → ℕ → Place
 place_in file n =
-    record { file = file.number; token = n;
-    at = place file.source.text (start_of file.source.tokens n) }
+    record {
+      file = file.number;
+      token = n;
+      at = place file.source.text (start_of file.source.tokens n);
+    }
 
 -- the references of all files
 abbrev pub all_references : List File → List (List ℕ)

@@ -31,21 +31,31 @@ declaration_at f d = record {
 
 abbrev pub facts_at : {P Q : Type 0} → (P → Q) → Facts P → Facts Q
 facts_at f k =
-    record { comments = map (comment_at f) k.comments; indexes = map f k.indexes;
-    interpolations = map f k.interpolations; declarations = map (declaration_at f) k.declarations }
+    record {
+      comments = map (comment_at f) k.comments;
+      indexes = map f k.indexes;
+      interpolations = map f k.interpolations;
+      declarations = map (declaration_at f) k.declarations;
+    }
 
 -- ---- of one file, and of more
 
 abbrev pub nothing : Kept
 nothing =
-    record { facts = record { comments = []; indexes = []; interpolations = []; declarations = [] };
-    references = [] }
+    record {
+      facts = record { comments = []; indexes = []; interpolations = []; declarations = [] };
+      references = [];
+    }
 
 abbrev pub both : {P : Type 0} → Facts P → Facts P → Facts P
 both a b =
-    record { comments = a.comments ++ b.comments; indexes = a.indexes ++ b.indexes;
-    interpolations =
-    a.interpolations ++ b.interpolations; declarations = a.declarations ++ b.declarations }
+    record {
+      comments = a.comments ++ b.comments;
+      indexes = a.indexes ++ b.indexes;
+      interpolations =
+          a.interpolations ++ b.interpolations;
+      declarations = a.declarations ++ b.declarations;
+    }
 
 -- with one file more
 abbrev pub with_file : Kept → File → Kept

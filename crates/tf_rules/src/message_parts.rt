@@ -1,13 +1,45 @@
-//! The text of what a rule says, by its pieces.
+//! The text of a message, by its parts.
 
-/// The pieces of a message, one after another. Each stands where it was kept, so that whoever writes the message puts no
-/// text together.
+ghost use Rattle.std.specs.Prelude.{◌≡◌, ◌++◌};
+ghost use Rattle.tf_rules.specs.Answers.{text_of_parts};
+
+/// The parts of a message, one after another; those that a message lacks are empty. Each is stored elsewhere, so writing a
+/// message assembles no text.
 #[derive(Clone, Copy)]
-pub enum MessageParts<'f> {
+pub struct MessageParts<'f> {
+    pub front: &'f str,
+    /// A name, after the text before it.
+    pub name: &'f str,
+    pub between: &'f str,
+    /// A second name, after the text between both.
+    pub other: &'f str,
+    pub rest: &'f str,
+}
+
+impl<'f> MessageParts<'f> {
     /// A text of the rule's own.
-    Whole(&'f str),
-    /// What stands before a name, the name, and what follows.
-    Named(&'f str, &'f str, &'f str),
-    /// The same of two names: what stands before the first, between them and after the second.
-    NamedTwice(&'f str, &'f str, &'f str, &'f str, &'f str),
+    pub(crate) fn whole(text: &'f str) -> MessageParts<'f>
+        ensures { text_of_parts result ≡ text.now }
+    {
+        MessageParts {
+            front: "",
+            name: "",
+            between: "",
+            other: "",
+            rest: text,
+        }
+    }
+
+    /// The text before a name, the name, and the text after it.
+    pub(crate) fn named(front: &'f str, name: &'f str, rest: &'f str) -> MessageParts<'f>
+        ensures { text_of_parts result ≡ front.now ++ (name.now ++ rest.now) }
+    {
+        MessageParts {
+            front,
+            name,
+            between: "",
+            other: "",
+            rest,
+        }
+    }
 }

@@ -29,42 +29,16 @@ fn joined(alloc: Global, texts: &[&str]) -> Result<String, AllocError>
     Ok(joined)
 }
 
-/// Three texts one after another.
-fn join_three<'p>(
-    alloc: Global,
-    front: &'p str,
-    name: &'p str,
-    rest: &'p str,
-) -> Result<String, AllocError>
-    ensures { IfOk result (λ text. string_bytes text ≡ front.now ++ (name.now ++ rest.now)) }
+/// The text of these parts.
+pub fn message_text(alloc: Global, parts: MessageParts<'_>) -> Result<String, AllocError>
+    ensures { IfOk result (λ text. string_bytes text ≡ text_of_parts parts.entry) }
 {
-    joined(alloc, &[front, name, rest])
-}
-
-/// Five texts one after another.
-fn join_five<'p>(
-    alloc: Global,
-    front: &'p str,
-    name: &'p str,
-    between: &'p str,
-    other: &'p str,
-    rest: &'p str,
-) -> Result<String, AllocError>
-    ensures { IfOk result (λ text. string_bytes text
-        ≡ front.now ++ (name.now ++ (between.now ++ (other.now ++ rest.now)))) }
-{
+    let MessageParts {
+        front,
+        name,
+        between,
+        other,
+        rest,
+    } = parts;
     joined(alloc, &[front, name, between, other, rest])
-}
-
-/// The text of these pieces.
-pub fn message_text(alloc: Global, message_parts: MessageParts<'_>) -> Result<String, AllocError>
-    ensures { IfOk result (λ text. string_bytes text ≡ text_of_parts message_parts.entry) }
-{
-    match message_parts {
-        MessageParts::Whole(text) => String::from_str(alloc, text),
-        MessageParts::Named(front, name, rest) => join_three(alloc, front, name, rest),
-        MessageParts::NamedTwice(front, name, between, other, rest) => {
-            join_five(alloc, front, name, between, other, rest)
-        }
-    }
 }

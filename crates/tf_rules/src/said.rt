@@ -86,7 +86,7 @@ fn about<'f>(declaration: &'f KeptDeclaration, rest: &'static str) -> MessagePar
 {
     let front = before_name(declaration.kind);
     let name = last(&declaration.names);
-    MessageParts::Named(front, name, rest)
+    MessageParts::named(front, name, rest)
 }
 
 /// That the source of a module uses a default branch.
@@ -97,7 +97,13 @@ fn about_branch<'f>(declaration: &'f KeptDeclaration, branch: &'static str) -> M
 {
     let front = before_name(declaration.kind);
     let name = last(&declaration.names);
-    MessageParts::NamedTwice(front, name, "\" source uses a default branch: ", branch, "")
+    MessageParts {
+        front,
+        name,
+        between: "\" source uses a default branch: ",
+        other: branch,
+        rest: "",
+    }
 }
 
 /// That a name must have a naming.
@@ -110,7 +116,7 @@ fn about_naming<'f>(declaration: &'f KeptDeclaration, naming: Naming) -> Message
     let front = before_misnamed(declaration.kind);
     let name = last(&declaration.names);
     let rest = after_misnamed(naming);
-    MessageParts::Named(front, name, rest)
+    MessageParts::named(front, name, rest)
 }
 
 /// That nothing refers to what has this name.
@@ -119,7 +125,7 @@ fn unused_by_name<'f>(kind: DeclarationKind, name: &'f str) -> MessageParts<'f>
         ≡ kind_text kind ++ quoting name.now (codes " is declared but not used") }
 {
     let front = before_name(kind);
-    MessageParts::Named(front, name, "\" is declared but not used")
+    MessageParts::named(front, name, "\" is declared but not used")
 }
 
 /// That nothing refers to what has these two labels.
@@ -129,7 +135,13 @@ fn unused_by_both<'f>(kind: DeclarationKind, first: &'f str, second: &'f str) ->
         (quoting second.now (codes " is declared but not used")) }
 {
     let front = before_name(kind);
-    MessageParts::NamedTwice(front, first, "\" \"", second, "\" is declared but not used")
+    MessageParts {
+        front,
+        name: first,
+        between: "\" \"",
+        other: second,
+        rest: "\" is declared but not used",
+    }
 }
 
 /// That nothing refers to what has no name.
@@ -137,7 +149,7 @@ fn unused_by_none(kind: DeclarationKind) -> MessageParts<'static>
     ensures { text_of_parts result ≡ kind_text kind ++ codes " is declared but not used" }
 {
     let front = kind_text(kind);
-    MessageParts::Named(front, "", " is declared but not used")
+    MessageParts::named(front, "", " is declared but not used")
 }
 
 /// That nothing refers to a declaration.
@@ -161,7 +173,7 @@ pub fn message_parts<'f>(said: Said<'f>) -> MessageParts<'f>
     ensures { text_of_parts result ≡ text_of said.entry }
 {
     match said {
-        Said::Fixed(text) => MessageParts::Whole(text),
+        Said::Fixed(text) => MessageParts::whole(text),
         Said::About(declaration, rest) => about(declaration, rest),
         Said::DefaultBranch(declaration, branch) => about_branch(declaration, branch),
         Said::Misnamed(declaration, naming) => about_naming(declaration, naming),

@@ -50,15 +50,15 @@ Keeps text size number old new (Err stop.OutOfMemory) = Unit {0}
 
 -- a file was read and kept
 pub record Added (told : Option (List ℕ)) (size number : ℕ) (old new : Kept) (more : ℕ) : Type 0
-    where
-  pub bytes : List ℕ
-  pub is : Tells told bytes
-  pub text : IsText bytes
-  pub source : Scanned
-  pub outcome : IsTextVerdict bytes (Ok source)
-  pub size_is : more ≡ size + length bytes
-  pub fits : more ≤ max_module
-  pub kept : new ≡ with_file old (record { number = number; source = source })
+  where
+    pub bytes : List ℕ
+    pub is : Tells told bytes
+    pub text : IsText bytes
+    pub source : Scanned
+    pub outcome : IsTextVerdict bytes (Ok source)
+    pub size_is : more ≡ size + length bytes
+    pub fits : more ≤ max_module
+    pub kept : new ≡ with_file old (record { number = number; source = source })
 
 -- the files of these names were accepted and kept
 pub record Reached (told : List ℕ

@@ -107,8 +107,12 @@ asking_for force files (Some rules) None minimum = Err BadNaming
 asking_for force files (Some rules) (Some naming) None = Err BadSeverity
 asking_for force files (Some rules) (Some naming) (Some minimum) =
     if nat_lt max_files (length files) then Err TooManyFiles
-    else Ok (record { asked = record { rules = rules; naming = naming }; minimum = minimum;
-    force = force; files = each_once files })
+    else Ok (record {
+      asked = record { rules = rules; naming = naming };
+      minimum = minimum;
+      force = force;
+      files = each_once files;
+    })
 
 -- without a file it is a bad line
 abbrev pub request_with : List Row → Option (List Text) → Result Request Usage

@@ -200,47 +200,28 @@ fn write_line<'p, O: ByteSink>(
         before_message,
         after_message,
     } = frame;
-    match message {
-        MessageParts::Whole(text) => write_parts(
-            out,
-            page,
-            &[
-                name,
-                place,
-                before_message.as_bytes(),
-                text.as_bytes(),
-                after_message.as_bytes(),
-            ],
-        ),
-        MessageParts::Named(front, named, rest) => write_parts(
-            out,
-            page,
-            &[
-                name,
-                place,
-                before_message.as_bytes(),
-                front.as_bytes(),
-                named.as_bytes(),
-                rest.as_bytes(),
-                after_message.as_bytes(),
-            ],
-        ),
-        MessageParts::NamedTwice(front, named, between, other, rest) => write_parts(
-            out,
-            page,
-            &[
-                name,
-                place,
-                before_message.as_bytes(),
-                front.as_bytes(),
-                named.as_bytes(),
-                between.as_bytes(),
-                other.as_bytes(),
-                rest.as_bytes(),
-                after_message.as_bytes(),
-            ],
-        ),
-    }
+    let MessageParts {
+        front,
+        name: named,
+        between,
+        other,
+        rest,
+    } = message;
+    write_parts(
+        out,
+        page,
+        &[
+            name,
+            place,
+            before_message.as_bytes(),
+            front.as_bytes(),
+            named.as_bytes(),
+            between.as_bytes(),
+            other.as_bytes(),
+            rest.as_bytes(),
+            after_message.as_bytes(),
+        ],
+    )
 }
 
 /// Writes the line of an issue.

@@ -201,7 +201,7 @@ impl Calls {
         if self.failures.group {
             Replaced::Narrowed
         } else {
-            Replaced::MayBecome
+            Replaced::Kept
         }
     }
 
@@ -221,7 +221,7 @@ impl Calls {
             Ok(()) => Ok(self.kept()),
             Err(TreeFault::NoneBeside | TreeFault::NotReplaced) if writing.in_place => {
                 self.write_over(name, is_same)?;
-                Ok(Replaced::MayBecome)
+                Ok(Replaced::Kept)
             }
             Err(fault) => Err(fault),
         }

@@ -156,7 +156,7 @@ impl<'a> WritableTree for PlannedTree<'a> {
         _writing: Writing,
     ) -> Result<Replaced, TreeFault> {
         match self.call() {
-            Ok(()) => Ok(Replaced::MayBecome),
+            Ok(()) => Ok(Replaced::Kept),
             Err(fault) => Err(fault),
         }
     }

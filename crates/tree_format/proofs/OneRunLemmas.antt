@@ -15,7 +15,7 @@ use Rattle.file_tree.specs.Files.{Files, Name, put}
 use Rattle.tree_format.specs.States.{State}
 use Rattle.file_tree.specs.declared.fault.TreeFault.{TreeFault}
 use Rattle.file_tree.specs.declared.tree.Replaced.{Replaced}
-use Rattle.file_tree.specs.declared.tree.Replaced.TheVariants.{MayBecome as AllKept, Narrowed}
+use Rattle.file_tree.specs.declared.tree.Replaced.TheVariants.{Kept as AllKept, Narrowed}
 use Rattle.file_tree.specs.declared.walk.Found.{Found}
 use Rattle.tree_format.specs.GoodRuns.{AreTold, is_narrowed}
 use Rattle.tree_format.specs.Format.{IsFault, IsFormat, IsTextFault}

@@ -30,7 +30,7 @@ use Rattle.file_tree.specs.Files.{Files, Name, with_fault, put}
 use Rattle.tree_format.specs.States.{State}
 use Rattle.file_tree.specs.declared.fault.TreeFault.{TreeFault}
 use Rattle.file_tree.specs.Asked.{Asked, with_asked}
-use Rattle.file_tree.specs.declared.tree.Replaced.TheVariants.{MayBecome as AllKept}
+use Rattle.file_tree.specs.declared.tree.Replaced.TheVariants.{Kept as AllKept}
 use Rattle.file_tree.specs.declared.walk.Found.{Found}
 use Rattle.tree_format.specs.GoodRuns.{HasFormatOrFault, AreReady, HasLineRoom, HasRoom, Holds, IsReady}
 use Rattle.tree_format.specs.Format.{IsFault, IsFormat}

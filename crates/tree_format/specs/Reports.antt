@@ -8,7 +8,7 @@ use Rattle.file_tree.specs.Files.{Name}
 use Rattle.file_tree.specs.FaultTexts.{tree_fault_text}
 use Rattle.file_tree.specs.Quotes.{quoted}
 use Rattle.file_tree.specs.declared.tree.Replaced.{Replaced}
-use Rattle.file_tree.specs.declared.tree.Replaced.TheVariants.{MayBecome, Narrowed}
+use Rattle.file_tree.specs.declared.tree.Replaced.TheVariants.{Kept, Narrowed}
 use Rattle.tree_format.specs.declared.mode.Ending.{Ending}
 use Rattle.tree_format.specs.declared.mode.Ending.TheVariants.{Line, Null}
 use Rattle.tree_format.specs.declared.mode.Mode.{Mode}
@@ -37,7 +37,7 @@ narrowed_text = codes "its group cannot be kept: group and others have the right
 
 -- what is said of the rights to a file that was written
 abbrev pub rights_words : Replaced → Name → List ℕ
-rights_words MayBecome name = []
+rights_words Kept name = []
 rights_words Narrowed name = about name narrowed_text
 
 -- a file isn't formatted, or wasn't before

@@ -112,7 +112,7 @@ fn tell_rights<S: ByteSink>(sink: &mut S, how: Replaced, name: &[u8]) -> Result<
     ensures failed { S.failed sink.new ≡ is_err result }
 {
     match how {
-        Replaced::MayBecome => Ok(()),
+        Replaced::Kept => Ok(()),
         Replaced::Narrowed => tell_about(
             sink,
             name,

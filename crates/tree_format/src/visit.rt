@@ -131,7 +131,7 @@ fn change<T: WritableTree>(
         return Outcome::Refused(fault, None);
     }
     match mode {
-        Mode::Check | Mode::List(_) => Outcome::Changed(Replaced::MayBecome),
+        Mode::Check | Mode::List(_) => Outcome::Changed(Replaced::Kept),
         Mode::Diff => show_print(alloc, name, accepted),
         Mode::Write(writing) => write_print(alloc, name, accepted, writing, tree),
     }
