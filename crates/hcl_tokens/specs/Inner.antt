@@ -1,2 +1,2 @@
--- Definitions of the code's own parts, for its inner contracts. Nobody has to believe them.
+-- Definitions for the code's own parts, which its inner contracts use. Nobody has to believe them.
 pub mod StoredEntries
