@@ -1,4 +1,4 @@
--- What a line asks for, with one fault at most.
+-- The request of a line of words that has one fault at most.
 use Rattle.std.proofs.Common.{◌≡◌, ◌∙◌, ◌⊎◌, [], ◌∷◌, ap, inl, inr, refl}
 use Rattle.std.specs.Prelude.{Result, Err}
 use Rattle.clap.specs.Words.{IsAmong, Kinds}
@@ -7,16 +7,16 @@ use Rattle.clap.specs.declared.error.ErrorKind.TheVariants as kind
 use Rattle.command_line.specs.Arguments.{unless_fault, usage_by}
 use Rattle.command_line.specs.Faults.{IsOfWords, One}
 
--- what is asked for, unless memory ran out, in other words
+-- a request may be replaced by an equal one; running out of memory remains the other case
 pub asked_more : {Out X : Type 0} {x a b : X} → Out ⊎ (x ≡ a) → a ≡ b → Out ⊎ (x ≡ b)
 asked_more (inl out) same = inl out
 asked_more (inr is) same = inr (is ∙ same)
 
--- equal as answers of the code, or as what a line asks for: a type of its own for each
+-- equality of the code's answers, or of the requests in the definitions, which have types of their own
 abbrev pub Same : (A U : Type 0) → Result A U → Result A U → Type 0
 Same A U a b = a ≡ b
 
--- what an error says, where it has the one fault
+-- the usage of an error, if the words have that one fault
 pub refused_line : {O A U : Type 0} (memory help line : U) (faults : Kinds) (asked : Result A U) (k : ErrorKind) → One faults → (k ≡ kind.OutOfMemory) ⊎ IsAmong k faults
     → Same O U (Err (usage_by memory help line k)) (Err memory) ⊎ Same A U (Err (usage_by memory help line k)) (unless_fault (usage_by memory help line) faults asked)
 refused_line memory help line faults asked k p (inl e) = inl (ap (λ x. Err (usage_by memory help line x)) e)
@@ -25,7 +25,7 @@ refused_line memory help line (x ∷ []) asked k p (inr (inl e)) = inr (ap (λ x
 refused_line memory help line (x ∷ []) asked k p (inr (inr e)) = absurd e
 refused_line memory help line (x ∷ y ∷ ks) asked k p (inr e) = absurd p
 
--- ---- running out of memory is the usage of no line
+-- ---- no line has running out of memory as its usage
 
 usage_of_words : {U : Type 0} (memory help line : U) (k : ErrorKind) → IsOfWords k → (usage_by memory help line k ≡ help) ⊎ (usage_by memory help line k ≡ line)
 usage_of_words memory help line kind.InvalidValue p = inr refl

@@ -1,4 +1,4 @@
--- How runs end, by equations.
+-- The ends of runs, by equations.
 use Rattle.std.proofs.Common.{◌≡◌, subst}
 use Rattle.command_line.specs.Rows.{Program, Row, End, Shows}
 

@@ -1,4 +1,4 @@
--- A command without subcommands has one fault at most, and it is one of the words.
+-- The words for a command without subcommands have one fault at most, which is a fault of the words themselves.
 use Rattle.std.proofs.Common.{◌≡◌, ℕ, zero, suc, Bool, true, false, not, List, [], ◌∷◌, Option, Some, None, subst, sym}
 use Rattle.std.specs.Prelude.{◌&&◌, ◌||◌, ◌==◌, if◌then◌else◌, nat_lt, length, drop, encode_utf8, slice_get, is_some}
 use Rattle.std.specs.Option.{option_map_or}

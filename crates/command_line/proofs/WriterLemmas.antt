@@ -18,7 +18,7 @@ pub appends_nothing : (a : Option (List ℕ)) → Appends a a []
 appends_nothing None = tt
 appends_nothing (Some a) = sym (append-nil a)
 
--- a text was taken before
+-- a writer that took one text, and then took another, took both
 pub took_after : (a b c : Option (List ℕ)) (f : Bool) (s t : List ℕ) → Appends a b s
     → TookBy f b c t → TookBy f a c (s ++ t)
 took_after a b c false s t p q = appends_then a b c s t p q
@@ -27,7 +27,7 @@ took_after a b c true s t p q =
     let within : q.0 ≤ length t = q.1 in
     (length s + q.0, omega (arith, length-append s t), subst (Appends a c) (sym front) (appends_then a b c s (take q.0 t) p q.2))
 
--- more was to come, where it failed
+-- a failed writer took a front of the text, so also of any longer text that begins with it
 pub took_front : (a c : Option (List ℕ)) (f : Bool) (s t : List ℕ) → f ≡ true
     → TookBy f a c s → TookBy f a c (s ++ t)
 took_front a c false s t e p = absurd (cc)
@@ -35,7 +35,7 @@ took_front a c true s t e p =
     let within : p.0 ≤ length s = p.1 in
     (p.0, omega (arith, length-append s t), subst (Appends a c) (sym (take-append-le p.0 s t within)) p.2)
 
--- a front of the text was taken
+-- a failed writer took a front of the text
 pub took_part : (a c : Option (List ℕ)) (f : Bool) (s : List ℕ) (n : ℕ) → f ≡ true → n ≤ length s → Appends a c (take n s) → TookBy f a c s
 took_part a c false s n e h p = absurd (cc)
 took_part a c true s n e h p = (n, h, p)
@@ -43,7 +43,7 @@ took_part a c true s n e h p = (n, h, p)
 pub took_less : (a c : Option (List ℕ)) (f : Bool) (s : List ℕ) (n : ℕ) → f ≡ true → n < length s → Appends a c (take n s) → TookBy f a c s
 took_less a c f s n e h p = took_part a c f s n e (omega (arith, h)) p
 
--- all of it was
+-- a writer that didn't fail took the whole text
 pub took_all : (a c : Option (List ℕ)) (f : Bool) (s : List ℕ) → f ≡ false → Appends a c s → TookBy f a c s
 took_all a c false s e p = p
 took_all a c true s e p = absurd (cc)
@@ -52,7 +52,7 @@ pub all_taken : (a c : Option (List ℕ)) (f : Bool) (s : List ℕ) → f ≡ fa
 all_taken a c false s e p = p
 all_taken a c true s e p = absurd (cc)
 
--- a text is written, and another is to come
+-- if the writer takes the rest, it has taken the whole text
 abbrev pub Goes : Option (List ℕ) → Option (List ℕ) → List ℕ → List ℕ → Type 0
 Goes start now rest whole = (after : Option (List ℕ)) (f : Bool) → TookBy f now after rest → TookBy f start after whole
 
@@ -68,7 +68,7 @@ pub goes_all : (start now : Option (List ℕ)) (f : Bool) (rest whole : List ℕ
 goes_all start now f rest whole good none go =
     go now f (subst (λ v. TookBy v now now rest) (sym good) (subst (Appends now now) (sym none) (appends_nothing now)))
 
--- a piece, and those after it
+-- the texts of a part and of those after it
 pub piece_here : (xs : List (Bor (List ℕ))) (i : ℕ) (d : Bor (List ℕ)) (text : List ℕ) → i < length xs → text ≡ (get_or xs i d).now → concat (map (λ piece. piece.now) (drop i xs)) ≡ text ++ concat (map (λ piece. piece.now) (drop (i + 1) xs))
 piece_here xs i d text lt is =
     ap (λ l. concat (map (λ piece. piece.now) l)) (from_here xs i (get_or xs i d) lt (get_or_default xs i d (get_or xs i d) lt)) ∙ ap (λ t. t ++ concat (map (λ piece. piece.now) (drop (i + 1) xs))) (sym is)

@@ -1,5 +1,5 @@
--- What a line of words asks for, as far as all programs read it alike: their options and flags, and what a fault that clap
--- finds becomes.
+-- The request of a line of words, as far as all programs read it alike: their options and flags, and the usage for a
+-- fault that clap finds.
 use Rattle.std.specs.Prelude.{◌∷◌, [], Result, Err, Some}
 use Rattle.clap.specs.Words.{Kinds, Rule, Text, new_rule}
 use Rattle.clap.specs.declared.builder.ArgAction.TheVariants.{Set, SetTrue}
@@ -14,13 +14,13 @@ option_rule name = record (new_rule name) { long = Some name; action = Some Set 
 abbrev pub flag_rule : Text → Rule
 flag_rule name = record (new_rule name) { long = Some name; action = Some SetTrue }
 
--- what a fault becomes: running out of memory, a wish for help, or a line that is none of the program's
+-- the usage for a fault: running out of memory, a request for help, or a line that the program doesn't have
 abbrev pub usage_by : {U : Type 0} → U → U → U → ErrorKind → U
 usage_by memory help line kind.OutOfMemory = memory
 usage_by memory help line kind.DisplayHelp = help
 usage_by memory help line _ = line
 
--- what the matches of a line give, if clap finds no fault in it, and otherwise what the first fault becomes
+-- the request in the matches of a line, if clap finds no fault in it, otherwise the usage for its first fault
 abbrev pub unless_fault : {A U : Type 0} → (ErrorKind → U) → Kinds → Result A U → Result A U
 unless_fault usage [] asked = asked
 unless_fault usage (fault ∷ _) asked = Err (usage fault)

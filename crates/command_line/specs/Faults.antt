@@ -1,4 +1,4 @@
--- How many faults a line of words has, as clap lists them, and of what kinds.
+-- The number and the kinds of faults that a line of words has, as clap lists them.
 use Rattle.std.specs.Prelude.{[], ◌∷◌}
 use Rattle.clap.specs.Kinds.{Kinds}
 use Rattle.clap.specs.declared.error.kind.ErrorKind.{ErrorKind}
@@ -9,7 +9,7 @@ abbrev pub IsOfWords : ErrorKind → Type 0
 IsOfWords OutOfMemory = ⊥
 IsOfWords _ = Unit {0}
 
--- one fault at most, and it is one of the words
+-- one fault at most, which is a fault of the words themselves
 abbrev pub One : Kinds → Type 0
 One [] = Unit {0}
 One (k ∷ []) = IsOfWords k

@@ -1,4 +1,4 @@
-//! What all programs read alike in their words: options, flags, and what a fault becomes.
+//! What all programs read alike in their words: options, flags, and the usage for a fault.
 
 ghost use Rattle.std.specs.Prelude.{◌≡◌, false};
 ghost use Rattle.clap.specs.Words.{kind_of, rule_of};
@@ -24,7 +24,7 @@ pub fn flag_named<'a>(alloc: Global, name: &'a str) -> Arg<'a>
     Arg::new(alloc, name).long(name).action(ArgAction::SetTrue)
 }
 
-/// What a fault that clap finds becomes.
+/// The usage for a fault that clap finds.
 pub fn usage_for<U: Copy>(error: &Error, memory: U, help: U, line: U) -> U
     ensures { result ≡ usage_by memory help line (kind_of error.now) }
 {

@@ -1,4 +1,4 @@
-//! Flags that were set.
+//! Flags that are set.
 
 ghost use Rattle.std.specs.Prelude.{◌≡◌};
 ghost use Rattle.clap.specs.Words.{found_of, rows_of};
@@ -6,7 +6,7 @@ ghost use Rattle.command_line.specs.Flags.{is_set};
 
 use clap::ArgMatches;
 
-/// Whether the flag with this id was set by the words.
+/// Whether the words set the flag with this id.
 pub fn is_flag_set(matches: &ArgMatches<'_>, id: &str) -> bool
     ensures { result ≡ is_set id.now (rows_of (found_of matches.now)) }
 {

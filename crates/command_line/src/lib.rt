@@ -1,4 +1,4 @@
-//! What the programs share where they read their words with `clap`, and where they end.
+//! The code that all programs share for reading their words with `clap` and for ending.
 #![tactic(auto)]
 
 mod argument;

@@ -1,4 +1,4 @@
-//! Texts that are written without memory, piece by piece.
+//! Texts that are written part by part, without memory.
 
 ghost use Rattle.std.specs.Prelude.{◌≡◌, false, is_err, map};
 ghost use Rattle.std.specs.List.{concat};
@@ -6,7 +6,7 @@ ghost use Rattle.command_line.specs.Rows.{Took, writer};
 
 use hcl_source::{ByteSink, Failed, write_fully};
 
-/// Writes the pieces one after the other, up to the first write that fails. So a line needs no memory.
+/// Writes the parts one after the other, up to the first write that fails. So a line needs no memory.
 pub fn write_parts<S: ByteSink>(sink: &mut S, parts: &[&[u8]]) -> Result<(), Failed>
     requires { S.failed sink.old ≡ false }
     ensures took { Took (writer S.ByteSink sink.old sink.new)

@@ -1,4 +1,4 @@
-//! The words with which a process was called.
+//! The arguments of a process.
 
 ghost use Rattle.std.specs.Prelude.{◌≡◌, IfOk, map, string_bytes};
 
@@ -8,13 +8,13 @@ use std::{env, io};
 /// Why there are no words.
 #[derive(Clone, Copy, Debug, PartialEq, Eq)]
 pub enum NoWords {
-    /// One of them isn't UTF-8.
+    /// An argument isn't UTF-8.
     NotUtf8,
-    /// The system gave none, or memory ran out.
+    /// The system gave no arguments, or memory ran out.
     NotGiven,
 }
 
-/// The arguments as a list. Not by `collect`, which goes on where a reservation was refused.
+/// The arguments as a list. `collect` isn't used, since it continues after a refused reservation.
 fn collect_words(alloc: Global, arguments: env::Args) -> Result<Vec<String>, AllocError> {
     let mut words = Vec::new(alloc);
     for argument in arguments {
@@ -23,7 +23,7 @@ fn collect_words(alloc: Global, arguments: env::Args) -> Result<Vec<String>, All
     Ok(words)
 }
 
-/// The words of the process, the program's name first: one at least.
+/// The arguments of the process, with the program's name first: at least one.
 pub fn process_words(rt: &HostRuntime) -> Result<Vec<String>, NoWords> {
     let arguments = match env::args(rt) {
         Ok(arguments) => arguments,
@@ -38,7 +38,7 @@ pub fn process_words(rt: &HostRuntime) -> Result<Vec<String>, NoWords> {
     }
 }
 
-/// The same texts, borrowed.
+/// The words, borrowed.
 pub fn borrowed_words<'a>(alloc: Global, words: &'a [String]) -> Result<Vec<&'a str>, AllocError>
     ensures { IfOk result (λ texts. map (λ text. text.now) texts.items
         ≡ map string_bytes words.entry.now) }

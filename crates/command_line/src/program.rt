@@ -1,4 +1,4 @@
-//! A run's shell over its devices: what a program says, and with which status it ends.
+//! The end of a run on its devices: the program's message and its status.
 
 ghost use Rattle.std.specs.Prelude.{◌≡◌, ◌||◌, ◌<◌, List, [], ℕ, false, true, length, if◌then◌else◌, is_err};
 ghost use Rattle.hcl_source.specs.Devices.{one_more};
@@ -9,7 +9,7 @@ use hcl_source::{ByteSink, write_fully};
 use std::alloc::AllocError;
 
 impl Program {
-    /// Writes a message, and gives the status, or that of a failure where the write failed.
+    /// Writes a message, and returns the status, or that of a failure if the write failed.
     fn complain<E: ByteSink>(&self, err: &mut E, message: &[u8], status: u8) -> u8
         requires { E.failed err.old ≡ false }
         ensures took { Took (writer E.ByteSink err.old err.new) message.now }
@@ -41,7 +41,7 @@ impl Program {
         self.tell_bytes(out, err, message.as_bytes(), status)
     }
 
-    /// The same of a message that may have names in it.
+    /// Shows a message that may contain names, and nothing else.
     pub(crate) fn tell_bytes<O: ByteSink, E: ByteSink>(
         &self,
         out: &mut O,
@@ -68,7 +68,7 @@ impl Program {
         self.tell(out, err, self.out_of_memory(), self.failure())
     }
 
-    /// Shows a message, or where there was no memory for its text, that.
+    /// Shows a message, or, if there was no memory for its text, that memory ran out.
     pub fn tell_line<O: ByteSink, E: ByteSink>(
         &self,
         out: &mut O,
@@ -87,7 +87,7 @@ impl Program {
         }
     }
 
-    /// Ends a run that wrote to standard output: gives the status, or says that a write failed.
+    /// Ends a run that wrote to standard output: returns the status, or reports that a write failed.
     pub fn finish<O: ByteSink, E: ByteSink>(&self, out: &O, err: &mut E, status: u8) -> u8
         requires err { E.failed err.old ≡ false }
         ensures took { Took (writer E.ByteSink err.old err.new)
@@ -123,7 +123,7 @@ impl Program {
     }
 }
 
-/// Writes a text, and flushes it where it isn't empty.
+/// Writes a text, and flushes it unless it is empty.
 fn say<O: ByteSink>(out: &mut O, text: &str)
     requires { O.failed out.old ≡ false }
     ensures took { Took (writer O.ByteSink out.old out.new) text.now }

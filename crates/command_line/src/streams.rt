@@ -6,12 +6,12 @@ ghost use Rattle.command_line.specs.Rows.{Shows, end_of_streams, message_row, ou
 use crate::texts::Program;
 use hcl_source::ByteSink;
 
-/// Where a run writes.
+/// The outputs of a run.
 #[derive(Drop)]
 pub struct Streams<O, E> {
-    /// What was asked for: names, reports, differences.
+    /// The requested output: names, reports, differences.
     pub out: O,
-    /// What is said of faults, and of the run as a whole.
+    /// The messages about faults, and about the run as a whole.
     pub err: E,
 }
 
@@ -33,7 +33,7 @@ impl<O: ByteSink, E: ByteSink> Streams<O, E> {
         program.tell(&mut self.out, &mut self.err, message, status)
     }
 
-    /// Shows a message that may have names in it, and nothing else.
+    /// Shows a message that may contain names, and nothing else.
     pub fn tell_bytes(&mut self, program: &Program, message: &[u8], status: u8) -> u8
         requires out { O.failed self.old.out ≡ false }
         requires err { E.failed self.old.err ≡ false }

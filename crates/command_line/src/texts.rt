@@ -1,12 +1,12 @@
-//! What a program says by itself, without memory.
+//! A program's own messages, which need no memory.
 
 ghost use Rattle.std.specs.Prelude.{◌≡◌};
 ghost use Rattle.command_line.specs.Rows.{write_failed, out_of_memory};
 
 use std::marker::Model;
 
-/// A program as its messages have it: its name, its status where a device failed or memory ran out, and the lines that it
-/// then says, which are there beforehand.
+/// A program, for its messages: its name, its status if a device failed or memory ran out, and the two lines for these
+/// cases, which exist beforehand.
 #[derive(Debug, Drop)]
 pub struct Program {
     name: &'static str,
@@ -51,21 +51,21 @@ impl Program {
         }
     }
 
-    /// What it calls itself.
+    /// The name in its messages.
     pub fn name(&self) -> &'static str
         ensures { result.now ≡ self.now.name }
     {
         self.name
     }
 
-    /// Its status where a device failed or memory ran out.
+    /// Its status if a device failed or memory ran out.
     pub fn failure(&self) -> u8
         ensures { result ≡ self.now.failure }
     {
         self.failure
     }
 
-    /// What it says where a write failed.
+    /// Its line for a failed write.
     pub(crate) fn write_failed(&self) -> &'static str
         ensures { result.now ≡ write_failed self.now }
     {
@@ -73,7 +73,7 @@ impl Program {
         self.failed_write
     }
 
-    /// What it says where memory ran out.
+    /// Its line for running out of memory.
     pub(crate) fn out_of_memory(&self) -> &'static str
         ensures { result.now ≡ (out_of_memory self.now).err }
     {

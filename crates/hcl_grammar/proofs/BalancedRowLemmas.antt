@@ -11,7 +11,7 @@ use Rattle.hcl_tokens.specs.Balanced.{max_open, opener_count, closer_count, open
 use Rattle.hcl_grammar.proofs.OwedLemmas.{Shift}
 use Rattle.hcl_grammar.proofs.MoveLemmas.{Shifts, accepted-shifts}
 
--- how many of what is open are no quotes and heredocs
+-- how many of the open openers are neither quotes nor heredocs
 abbrev pub groups : List Opener → ℕ
 groups [] = 0
 groups (Quote ∷ os) = groups os

@@ -12,7 +12,7 @@ use Rattle.hcl_grammar.specs.ItemOrder.{Climbs, Spans, lead, past}
 use Rattle.hcl_grammar.specs.declared.item.Item.{Item}
 use Rattle.hcl_grammar.specs.declared.item.Item.TheVariants as item
 
--- tokens in order, from a number on to before another
+-- the tokens are in order; their numbers are at least `from` and below `to`
 abbrev pub Rises : ℕ → List Numbered → ℕ → Type 0
 Rises from [] to = from ≤ to
 Rises from (t ∷ ts) to = (from ≤ t.number) × Rises (t.number + 1) ts to
@@ -77,7 +77,7 @@ climbs_both : (from mid to : ℕ) (is js : List Item) → Climbs from is mid →
 climbs_both from mid to [] js h k = climbs_from from mid to js h k
 climbs_both from mid to (i ∷ is) js h k = (spans_to from mid to i (climbs_wide mid to js k) h.0, climbs_both (past i) mid to is js h.1 k)
 
--- pieces one after another
+-- the segments follow one another; their tokens' numbers are at least `from` and below `to`
 abbrev pub AllRise : ℕ → List (List Numbered) → ℕ → Type 0
 AllRise from [] to = from ≤ to
 AllRise from (p ∷ ps) to = (mid : ℕ) × Rises from p mid × AllRise mid ps to
@@ -107,7 +107,7 @@ end_after : (to : ℕ) (t : Numbered) (ts : List Numbered) → Rises (t.number +
 end_after to t [] h = omega arith
 end_after to t (u ∷ us) h = omega (arith, h.0, end_after to u us h.1)
 
--- the labels in front of the first opening brace, and what follows it
+-- the labels before the first opening brace, and the tokens after it
 label_climbs : (n : ℕ) (k : Kind) (rest : List Numbered) → Climbs n (label_at n k rest) (n + 1)
 label_climbs n k rest = by (is Ident k) (is QuoteOpen k)
   where
@@ -125,7 +125,7 @@ labels_climb from to (t ∷ ts) h = by (is BraceOpen t.kind) (labels_climb (t.nu
     by true r = (t.number + 1, omega (arith, h.0), h.1)
     by false r = (r.0, climbs_from from t.number r.0 (label_at t.number t.kind ts ++ labels ts) h.0 (climbs_both t.number (t.number + 1) r.0 (label_at t.number t.kind ts) (labels ts) (label_climbs t.number t.kind ts) r.1), r.2)
 
--- what is so of the items of all bodies
+-- the items of every body are in order
 abbrev Climbing : (List Numbered → List Item) → Type 0
 Climbing inner = (from to : ℕ) (ts : List Numbered) → Rises from ts to → Climbs from (inner ts) to
 

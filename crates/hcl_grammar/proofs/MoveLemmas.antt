@@ -1,4 +1,4 @@
--- What the predictor owes over whole runs, and which numbers its refusals and symbols have.
+-- The openers that the predictor's states must close, over whole runs, and the numbers in its refusals and symbols.
 use Rattle.std.proofs.Common.{◌≡◌, ℕ, ◌+◌, nat_lt, Bool, true, false, cond, List, [], ◌∷◌, ◌++◌, Some, None, refl, subst, sym}
 use Rattle.hcl_tokens.specs.Lexemes.{Lexeme, Opener}
 use Rattle.hcl_grammar.specs.declared.class.Class.{Class}
@@ -16,7 +16,7 @@ use Rattle.hcl_grammar.specs.Verdict.{IsAccepted}
 use Rattle.hcl_grammar.proofs.OwedLemmas.{must_be_closed, owes_all, Shift, HaveNumbers, RowMoves}
 use Rattle.hcl_grammar.proofs.RowLemmas.{owes_all-append, numbers-append, shift-above, moves-row}
 
--- P holds of the number that a refusal names, where it names one
+-- P holds of the number in a refusal, if it has one
 abbrev pub Named : (ℕ → Type 0) → Refusal → Type 0
 Named P (UnexpectedToken n) = P n
 Named P UnexpectedEnd = Unit {0}
@@ -26,7 +26,7 @@ abbrev pub EffectMoves : (ℕ → Type 0) → Effect → List Opener → Class �
 EffectMoves P (on o ss) a c = Shift c a (owes_all ss) × HaveNumbers P ss
 EffectMoves P (stop r) a c = Named P r
 
--- the first symbol alone, and those after it
+-- the numbers of the first symbol alone, and of those after it
 first-number : (P : ℕ → Type 0) (s : Symbol) (m : Newlines) (ss : List Marked) → HaveNumbers P (s at m ∷ ss) → HaveNumbers P (s at m ∷ [])
 first-number P (directive n) m ss h = (h.0, tt)
 first-number P (section_directive e n) m ss h = (h.0, tt)
@@ -63,7 +63,7 @@ pub effect-moves : (P : ℕ → Type 0) (count : ℕ) (ss : List Marked) (t : Lo
 effect-moves P count [] t p h = p
 effect-moves P count (s at m ∷ ss) t p h = effect-by P count s m ss t (drops m t.class) refl p h (effect-moves P count ss t p (more-numbers P s m ss h))
 
--- What the tokens of a front do to what is open.
+-- The tokens of a front turn the openers `a` into `b`.
 abbrev pub Shifts : List Lexeme → List Opener → List Opener → Type 0
 Shifts [] a b = a ≡ b
 Shifts (t ∷ ts) a b = (mid : List Opener) × Shift (class_of t) a mid × Shifts ts mid b

@@ -1,5 +1,5 @@
--- What a state of the predictor owes: the openers whose closers its symbols still read, the innermost first. Row by row
--- this is what the scan has open.
+-- The openers that a state of the predictor must close: those whose closers its symbols still read, the innermost
+-- first. Row by row they are the openers that the scan has open.
 use Rattle.std.proofs.Common.{◌≡◌, ℕ, List, [], ◌∷◌, ◌++◌}
 use Rattle.hcl_tokens.specs.Lexemes.{Opener, Quote, Heredoc, Sequence, Brace, Bracket, Paren}
 use Rattle.hcl_grammar.specs.declared.class.Class.{Class}
@@ -40,7 +40,7 @@ abbrev pub owes_all : List Marked → List Opener
 owes_all [] = []
 owes_all (s at m ∷ ss) = must_be_closed s ++ owes_all ss
 
--- what a token of the class does to what is open
+-- a token of the class turns the openers `a` into `b`
 abbrev pub Shift : Class → List Opener → List Opener → Type 0
 Shift ParenOpen a b = b ≡ Paren ∷ a
 Shift BracketOpen a b = b ≡ Bracket ∷ a
@@ -64,7 +64,7 @@ HaveNumbers P (directive n at m ∷ ss) = P n × HaveNumbers P ss
 HaveNumbers P (section_directive e n at m ∷ ss) = P n × HaveNumbers P ss
 HaveNumbers P (s at m ∷ ss) = HaveNumbers P ss
 
--- what a row does for a symbol that owes a, at a token of the class
+-- the row of a symbol that must close a, at a token of the class: the openers afterwards, and P of the numbers
 abbrev pub RowMoves : (ℕ → Type 0) → Action → List Opener → Class → Type 0
 RowMoves P none a c = Unit {0}
 RowMoves P nothing a c = [] ≡ a

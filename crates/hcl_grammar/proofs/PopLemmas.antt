@@ -1,4 +1,4 @@
--- What a pop leaves, from the end of a list on.
+-- The elements that a pop leaves, counted from the end of a list.
 use Rattle.std.proofs.Common.{◌≡◌, ◌∙◌, ap, sym, refl, ℕ, suc, zero, ◌-◌, ◌≤◌, List, [], ◌∷◌, ◌++◌, take, length, get_or, reverse, arith}
 use Rattle.std.specs.Prelude.{Option, Some, None, option_to_list}
 use Rattle.std.proofs.lemmas.List.{reverse-append}

@@ -1,4 +1,4 @@
--- Each row of the grammar's table keeps what is owed and what is open the same.
+-- Each row of the grammar's table keeps the openers that must be closed equal to those that are open.
 use Rattle.std.proofs.Common.{◌≡◌, ℕ, true, List, [], ◌∷◌, ◌++◌, refl, subst, sym, ap, ◌∙◌, append_assoc}
 use Rattle.hcl_tokens.specs.Lexemes.{Opener, Sequence}
 use Rattle.hcl_grammar.specs.declared.class.Class.{Class}
@@ -21,7 +21,7 @@ numbers-append P (directive n at m ∷ xs) ys h k = (h.0, numbers-append P xs ys
 numbers-append P (section_directive e n at m ∷ xs) ys h k = (h.0, numbers-append P xs ys h.1 k)
 numbers-append P (s at m ∷ xs) ys h k = numbers-append P xs ys h k
 
--- what lies below doesn't matter
+-- the openers below make no difference
 pub shift-above : (c : Class) (a b z : List Opener) → Shift c a b → Shift c (a ++ z) (b ++ z)
 shift-above ParenOpen a b z h = ap (λ l. l ++ z) h
 shift-above BracketOpen a b z h = ap (λ l. l ++ z) h

@@ -33,7 +33,7 @@ tops_both from mid to (item.Block level kind end ∷ is) js h k = by (is_closed 
     by true more r = (r.0, more (max kind end) r.1)
     by false more r = more from r
 
--- labels, and items that are deeper, are no top-level blocks
+-- labels, and items at deeper levels, are no top-level blocks
 abbrev Deep : List Item → Type 0
 Deep is = (n : ℕ) → TopsApart n is n
 
@@ -63,7 +63,7 @@ abbrev AllDeep : (List Numbered → List Item) → Type 0
 AllDeep inner = (ts : List Numbered) → Deep (inner ts)
 
 module _ (inner : List Numbered → List Item) (deep : AllDeep inner) (level : ℕ) where
-  -- at a deeper level
+  -- at a level below the top
   module _ (below : is_closed level ≡ false) where
     block_deep : (kind : Numbered) (rest : List Numbered) → Deep (block inner level kind rest)
     block_deep kind rest m =

@@ -34,7 +34,7 @@ abbrev pub source_or : Scanned → Result Scanned Fault → Scanned
 source_or other (Ok s) = s
 source_or other (Err f) = other
 
--- a source that is accepted is the text with these tokens
+-- an accepted source is the text with these tokens, which are a scan of it
 pub record IsSourceOf (text : List ℕ) (s : Scanned) : Type 0 where
   pub scanned : Scans text s.tokens
   pub accepted : IsAccepted s.tokens

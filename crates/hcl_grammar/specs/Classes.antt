@@ -1,9 +1,9 @@
--- The grammar's own classes of tokens, and what it sees of a token list. Comments, and the blanks that are tokens in
--- heredocs, are passed over; between the delimiters of parentheses, brackets and template sequences newlines are too (HCL
--- Native Syntax Specification, on comments, and on newlines in "Collection Values", "Functions and Function Calls" and
--- "Templates"). `for`, `in`, `if`, `else`, `endif` and `endfor`
--- are identifiers that have a meaning of their own in some places, and a number of digits alone may follow a dot (the
--- same, on identifiers, for-expressions, template directives and the legacy index).
+-- The grammar's classes of tokens, and the tokens as the grammar sees them. Comments, and the blanks that are tokens in
+-- heredocs, are passed over; so are newlines between the delimiters of parentheses, brackets and template sequences
+-- (HCL Native Syntax Specification, on comments, and on newlines in "Collection Values", "Functions and Function Calls"
+-- and "Templates"). `for`, `in`, `if`, `else`, `endif` and `endfor` are identifiers that are keywords in some places,
+-- and a number with digits alone may follow a dot (HCL Native Syntax Specification, on identifiers, for-expressions,
+-- template directives and the legacy index).
 use Rattle.std.specs.Prelude.{ℕ, ◌+◌, Bool, true, false, List, [], ◌∷◌, codes, if◌then◌else◌}
 use Rattle.std.specs.List.{list_all}
 use Rattle.std.specs.Str.{bytes_eq}
@@ -81,18 +81,18 @@ abbrev pub is_trivia : Class → Bool
 is_trivia Trivia = true
 is_trivia _ = false
 
--- whether a newline is passed over as well
+-- whether a token of the class is a newline that is passed over too
 abbrev pub drops : Newlines → Class → Bool
 drops Dropped Newline = true
 drops _ _ = false
 
--- what the grammar sees of a list whose first token has this number
+-- the lookaheads of a list whose first token has this number
 abbrev pub lookaheads_from : ℕ → List Lexeme → List Lookahead
 lookaheads_from n [] = []
 lookaheads_from n (t ∷ ts) =
     if is_trivia (class_of t) then lookaheads_from (n + 1) ts
     else record { class = class_of t; number = n } ∷ lookaheads_from (n + 1) ts
 
--- what the grammar sees of a token list
+-- the lookaheads of a token list
 abbrev pub lookaheads : List Lexeme → List Lookahead
 lookaheads tokens = lookaheads_from 0 tokens

@@ -1,4 +1,4 @@
--- Worked examples of the grammar: small files, and small texts that are none.
+-- Worked examples of the grammar: small files, and small texts that aren't files.
 use Rattle.std.specs.Prelude.{◌≡◌, ℕ, ◌+◌, true, false, List, [], ◌∷◌, Option, Some, None, if◌then◌else◌, refl}
 use Rattle.hcl_grammar.specs.declared.class.Lookahead.{Lookahead}
 use Rattle.hcl_grammar.specs.declared.class.Class.{Class}

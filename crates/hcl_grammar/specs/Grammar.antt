@@ -1,7 +1,7 @@
--- The grammar of files as a table for a predictive parser: for each symbol that may stand first in the parser's state,
--- and each class of the next token, what takes the symbol's place. The language is that of the HCL Native Syntax
--- Specification, "Structural Elements" (files, attributes, blocks), "Expressions" and "Templates". That no symbol has
--- two rows for a class, so that one token of lookahead decides, is our own choice of rows.
+-- The grammar of files as a table for a predictive parser: for each symbol at the front of the parser's state, and each
+-- class of the next token, the symbols that replace it. The language is that of the HCL Native Syntax Specification,
+-- "Structural Elements" (files, attributes, blocks), "Expressions" and "Templates". The rows are our own choice: no
+-- symbol has two rows for a class, so one token of lookahead decides.
 use Rattle.std.specs.Prelude.{ℕ, Bool, true, false, List, [], ◌∷◌, ◌++◌, if◌then◌else◌}
 use Rattle.hcl_grammar.specs.declared.class.Lookahead.{Lookahead}
 use Rattle.hcl_grammar.specs.declared.class.Class.{Class}
@@ -14,7 +14,7 @@ use Rattle.hcl_grammar.specs.declared.expected.Terminal.TheVariants.{Name, InWor
 use Rattle.hcl_grammar.specs.declared.expected.Section.{Section}
 use Rattle.hcl_grammar.specs.declared.expected.Section.TheVariants.{InIf, InElse, InFor}
 
--- What a state can wait for. A directive's symbol has the number of its `%{`.
+-- What a state can expect. A directive's symbol has the number of its `%{`.
 pub data Symbol : Type 0 where
   the : Terminal → Symbol
   file rest labels label_literal start body eol : Symbol
@@ -31,9 +31,9 @@ infix 90 ◌at◌
 pub data Marked : Type 0 where
   ◌at◌ : Symbol → Newlines → Marked
 
--- What the row of a symbol does with a token: there is none; the symbol goes away and the token stays; the token is
--- read, and these symbols replace the first. Two kinds of row count: one opens a directive, whose `%{` has the number,
--- and one closes the innermost.
+-- What the row of a symbol does with a token: there is no row; the symbol is removed and the token stays; the token is
+-- read, and these symbols replace the first. Two kinds of rows count directives: one opens a directive, whose `%{` has
+-- the number, and one closes the innermost.
 pub data Action : Type 0 where
   none : Action
   nothing : Action
@@ -41,7 +41,7 @@ pub data Action : Type 0 where
   opens : ℕ → List Marked → Action
   closes : List Marked → Action
 
--- the row of a symbol that another begins, with these symbols after it
+-- the row of a symbol that begins with another: that one's row, with these symbols after it
 infixl 5 ◌then◌
 abbrev pub ◌then◌ : Action → List Marked → Action
 none then ss = none
@@ -50,7 +50,7 @@ nothing then ss = none
 (opens n xs) then ss = opens n (xs ++ ss)
 (closes xs) then ss = closes (xs ++ ss)
 
--- whether a token of the class is what a terminal waits for
+-- whether a terminal expects a token of the class
 abbrev pub fits : Terminal → Class → Bool
 fits Name (Ident w) = true
 fits InWord (Ident In) = true
@@ -70,8 +70,8 @@ fits EndQuote QuoteClose = true
 fits EndHeredoc HeredocClose = true
 fits _ _ = false
 
--- The rows with which others begin: labels, an expression, what follows an operand (steps, an
--- index, an operator, a choice), the condition of a for-expression in an object, a directive.
+-- The rows with which others begin: labels, an expression, the continuation of an operand (steps, an index, an
+-- operator, a conditional), the condition of a for-expression in an object, a directive.
 abbrev pub shared_row : Symbol → Newlines → ℕ → Class → Action
 shared_row labels m n (Ident w) = reads (labels at m ∷ [])
 shared_row labels m n QuoteOpen = reads (label_literal at m ∷ the EndQuote at m ∷ labels at m ∷ [])
@@ -103,8 +103,7 @@ shared_row _ _ _ _ = none
 -- THE TABLE: the row of a symbol with this mark, for a token of this number and class
 abbrev pub row_of : Symbol → Newlines → ℕ → Class → Action
 row_of (the e) m n c = if fits e c then reads [] else none
--- Files, attributes and blocks. A block's body stands on lines of its own, or is one attribute on
--- one line.
+-- Files, attributes and blocks. A block's body is on lines of its own, or is one attribute on one line.
 row_of file m n Newline = reads (file at m ∷ [])
 row_of file m n (Ident w) = reads (rest at m ∷ file at m ∷ [])
 row_of rest m n Assign = reads (expr at Seen ∷ eol at m ∷ [])
@@ -119,7 +118,7 @@ row_of body m n Newline = reads (body at m ∷ [])
 row_of body m n (Ident w) = reads (rest at m ∷ body at m ∷ [])
 row_of body m n BraceClose = nothing
 row_of eol m n Newline = reads []
--- Expressions. After an operand the row of `after` decides; a name with `::` goes on or is called.
+-- Expressions. After an operand the row of `after` decides; a name with `::` has more parts or is called.
 row_of after_ident m n ParenOpen = reads (args at Dropped ∷ after at m ∷ [])
 row_of after_ident m n ColonColon = reads (the Name at m ∷ path at m ∷ [])
 row_of after_ident m n c = shared_row after m n c
@@ -130,7 +129,7 @@ row_of step m n (Number true) = reads []
 row_of step m n Star = reads []
 row_of index m n Star = reads (the EndBracket at m ∷ [])
 row_of index m n c = shared_row expr m n c then (the EndBracket at m ∷ [])
--- Tuples and objects. A `for` first always begins a for-expression.
+-- Tuples and objects. A `for` at the front always begins a for-expression.
 row_of names m n Comma = reads (the Name at m ∷ the InWord at m ∷ [])
 row_of names m n (Ident In) = reads []
 row_of tuple m n (Ident For) = reads
@@ -191,7 +190,7 @@ row_of s m n c = shared_row s m n c
 abbrev pub row : Symbol → Newlines → Lookahead → Action
 row s m t = row_of s m t.number t.class
 
--- whether the end of input takes the symbol away
+-- whether the end of input removes the symbol
 abbrev pub ends : Symbol → Bool
 ends file = true
 ends eol = true

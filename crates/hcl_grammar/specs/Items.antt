@@ -1,6 +1,6 @@
 -- The items of a file (HCL Native Syntax Specification, "Structural Elements"): attributes `name = value`, and blocks
--- with labels, whose bodies hold items one level deeper. Comments are left out, and the tokens are split at the newlines
--- outside all openers; each piece that is left with a token is one item.
+-- with labels, whose bodies contain items one level deeper. Comments are left out, and the tokens are split into
+-- segments at the newlines outside all openers; each segment with a token is one item.
 use Rattle.std.specs.Prelude.{ℕ, suc, zero, ◌+◌, ◌-◌, ◌&&◌, Bool, true, false, List, [], ◌∷◌, ◌++◌, length, filter, nat_lt, if◌then◌else◌}
 use Rattle.std.specs.List.{flat_map}
 use Rattle.hcl_tokens.specs.Kinds.{is}
@@ -16,17 +16,17 @@ use Rattle.hcl_grammar.specs.declared.item.Item.TheVariants as item
 abbrev pub deepen : ℕ → Kind → ℕ
 deepen depth k = depth + opener_count k - closer_count k
 
--- nothing is open
+-- no opener is open
 abbrev pub is_closed : ℕ → Bool
 is_closed zero = true
 is_closed (suc depth) = false
 
--- the token at the front of the first piece
+-- the token at the front of the first segment
 abbrev pub onto : Numbered → List (List Numbered) → List (List Numbered)
 onto t [] = (t ∷ []) ∷ []
 onto t (piece ∷ rest) = (t ∷ piece) ∷ rest
 
--- the tokens split at the newlines outside all openers, where so many are open
+-- the tokens split at the newlines outside all openers, where `depth` openers are open at first
 abbrev pub segments : ℕ → List Numbered → List (List Numbered)
 segments depth [] = [] ∷ []
 segments depth (t ∷ ts) =
@@ -46,12 +46,12 @@ label_at number kind rest =
     then item.Label (record { first = number; last = closing_quote rest }) ∷ []
     else []
 
--- the labels that stand before the first opening brace
+-- the labels before the first opening brace
 abbrev pub labels : List Numbered → List Item
 labels [] = []
 labels (t ∷ ts) = if is BraceOpen t.kind then [] else label_at t.number t.kind ts ++ labels ts
 
--- what follows the first opening brace
+-- the tokens after the first opening brace
 abbrev pub after_brace : List Numbered → List Numbered
 after_brace [] = []
 after_brace (t ∷ ts) = if is BraceOpen t.kind then ts else after_brace ts
@@ -60,16 +60,16 @@ after_brace (t ∷ ts) = if is BraceOpen t.kind then ts else after_brace ts
 abbrev pub block_end : List Numbered → ℕ
 block_end ts = end_of (filter (λ t. is BraceClose t.kind) ts)
 
--- between the first opening brace and the last closing one
+-- the tokens between the first opening brace and the last closing one
 abbrev pub body : List Numbered → List Numbered
 body ts = filter (λ t. nat_lt (t.number + 1) (block_end ts)) (after_brace ts)
 
--- a block with its labels and the items of its body, where `rest` follows its kind
+-- a block with its labels and the items of its body; `rest` follows its kind
 abbrev pub block : (List Numbered → List Item) → ℕ → Numbered → List Numbered → List Item
 block inner level kind rest =
     item.Block level kind.number (block_end rest) ∷ (labels rest ++ inner (body rest))
 
--- the item of a piece: an attribute where the second token is `=`
+-- the item of a segment: an attribute if the second token is `=`
 abbrev pub item_of : (List Numbered → List Item) → ℕ → List Numbered → List Item
 item_of inner level [] = []
 item_of inner level (kind ∷ []) = block inner level kind []
@@ -78,8 +78,8 @@ item_of inner level (name ∷ second ∷ rest) =
     then item.Attribute level name.number (second.number + 1) (end_of (second ∷ rest)) ∷ []
     else block inner level name (second ∷ rest)
 
--- the items at a level, and those in their bodies to so many levels; a body is shorter than its piece, so the number of
--- tokens is enough
+-- the items at a level, and those in their bodies down to a number of levels; a body is shorter than its segment, so
+-- the number of tokens is enough
 abbrev pub items : ℕ → ℕ → List Numbered → List Item
 items zero level ts = []
 items (suc deeper) level ts = flat_map (item_of (items deeper (level + 1)) level) (segments 0 ts)
@@ -88,6 +88,6 @@ items (suc deeper) level ts = flat_map (item_of (items deeper (level + 1)) level
 abbrev pub items_of : List Numbered → List Item
 items_of ts = items (length ts) 0 (without_comments ts)
 
--- those of a file
+-- the items of a file
 abbrev pub outline : List Lexeme → List Item
 outline tokens = items_of (numbered tokens)

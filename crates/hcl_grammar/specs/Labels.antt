@@ -1,4 +1,4 @@
--- The texts of labels: an identifier, or the literal between the quotes as written, empty where there is none (HCL Native
+-- The texts of labels: an identifier, or the literal between the quotes as written, empty if there is none (HCL Native
 -- Syntax Specification, "Structural Elements", on the labels of blocks; escapes are kept, which is our own choice).
 use Rattle.std.specs.Prelude.{ℕ, ◌+◌, ◌==◌, List, [], ◌∷◌, drop, if◌then◌else◌}
 use Rattle.hcl_tokens.specs.Kinds.{is}

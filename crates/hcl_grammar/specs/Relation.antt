@@ -1,5 +1,5 @@
--- The predictor once more, as a relation by cases: which state a token leads to, where it is refused, and what comes of
--- a whole list. A state is the number of open directives and the symbols that are waited for, the first in front.
+-- The predictor once more, as a relation by cases: the state after a token, the refusal of a token, and the answer for
+-- a whole list. A state is the number of open directives and the expected symbols, the first in front.
 use Rattle.std.specs.Prelude.{◌≡◌, ◌<◌, ◌≤◌, ◌+◌, ◌-◌, ℕ, true, false, List, [], ◌∷◌, ◌++◌, Option, Some, None}
 use Rattle.hcl_grammar.specs.declared.class.Lookahead.{Lookahead}
 use Rattle.hcl_grammar.specs.declared.expected.Newlines.{Newlines}
@@ -25,12 +25,12 @@ pub data Step : ℕ → List Marked → Lookahead → ℕ → List Marked → Ty
   closed : (count : ℕ) (s : Symbol) (m : Newlines) (xs ss : List Marked) (t : Lookahead)
       → drops m t.class ≡ false → row s m t ≡ closes xs
       → Step count (s at m ∷ ss) t (count - 1) (xs ++ ss)
-  -- the first symbol goes away, and the token is for those after it
+  -- the first symbol is removed, and the symbols after it take the token
   gone : (count : ℕ) (s : Symbol) (m : Newlines) (ss : List Marked) (t : Lookahead) (later : ℕ)
       (us : List Marked) → drops m t.class ≡ false → row s m t ≡ nothing → Step count ss t later us
       → Step count (s at m ∷ ss) t later us
 
--- no state comes after a token
+-- the token is refused: no state follows it
 pub data Refuses : ℕ → List Marked → Lookahead → Refusal → Type 0 where
   nothing_waited_for : (count : ℕ) (t : Lookahead) → Refuses count [] t (UnexpectedToken t.number)
   no_row : (count : ℕ) (s : Symbol) (m : Newlines) (ss : List Marked) (t : Lookahead)
@@ -43,7 +43,7 @@ pub data Refuses : ℕ → List Marked → Lookahead → Refusal → Type 0 wher
       → drops m t.class ≡ false → row s m t ≡ nothing → Refuses count ss t r
       → Refuses count (s at m ∷ ss) t r
 
--- what the end of input makes of a state
+-- the answer at the end of input, by the state there
 pub data Ending : List Marked → Option Refusal → Type 0 where
   complete : Ending [] None
   wanting : (s : Symbol) (m : Newlines) (ss : List Marked) → ends s ≡ false
@@ -51,7 +51,7 @@ pub data Ending : List Marked → Option Refusal → Type 0 where
   ended : (s : Symbol) (m : Newlines) (ss : List Marked) (o : Option Refusal) → ends s ≡ true
       → Ending ss o → Ending (s at m ∷ ss) o
 
--- what comes of a list of tokens
+-- the answer for a list of tokens
 pub data ComesTo : ℕ → List Marked → List Lookahead → Option Refusal → Type 0 where
   at_end : (count : ℕ) (ss : List Marked) (o : Option Refusal) → Ending ss o → ComesTo count ss [] o
   step : (count : ℕ) (ss : List Marked) (t : Lookahead) (ts : List Lookahead) (later : ℕ)

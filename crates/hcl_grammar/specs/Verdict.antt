@@ -1,6 +1,6 @@
--- Which token lists are files, and the one fault of those that are none. Tokens are refused at the first token that has
--- no row in the grammar's table, or at the end of the text where that has none. Our own choice is the bound on open
--- directives, with its fault at the `%{` of the first that is too many.
+-- Which token lists are files, and the one fault of each list that isn't. Tokens are refused at the first token without
+-- a row in the grammar's table, or at the end of the text if that has no row. Our own choice is the bound on open
+-- directives, with its fault at the `%{` of the first directive beyond it.
 use Rattle.std.specs.Prelude.{◌≡◌, ◌⊎◌, ℕ, List, Option, Some, None, Result, Ok, Err, map, length, get_or}
 use Rattle.hcl_tokens.specs.Faults.{IsScanFault}
 use Rattle.hcl_tokens.specs.Lexemes.{Lexeme}
@@ -23,7 +23,7 @@ IsAccepted tokens = refusal_of (lookaheads tokens) ≡ None
 abbrev pub start_of : List Lexeme → ℕ → ℕ
 start_of tokens n = get_or (map (λ t. t.start) tokens) n 0
 
--- the fault that a refusal of a source's tokens is reported as
+-- the fault that reports a refusal of a source's tokens
 abbrev pub fault_at : Scanned → Refusal → Fault
 fault_at s (UnexpectedToken n) =
     record { kind = fault.UnexpectedToken; at = place s.text (start_of s.tokens n) }
@@ -34,7 +34,7 @@ abbrev pub verdict_by : Scanned → Option Refusal → Result Scanned Fault
 verdict_by s None = Ok s
 verdict_by s (Some r) = Err (fault_at s r)
 
--- the tokens of a source, where they are a file, and else their one fault
+-- the tokens of a source, if they are a file, or else their one fault
 abbrev pub verdict : Scanned → Result Scanned Fault
 verdict s = verdict_by s (refusal_of (lookaheads s.tokens))
 

@@ -7,7 +7,7 @@ ghost use Rattle.hcl_grammar.specs.Verdict.{IsAccepted};
 use hcl_tokens::Tokens;
 use std::marker::Model;
 
-/// Tokens that are a file. `hcl_syntax::accepts` finds out whether they are.
+/// Tokens that are a file. `hcl_syntax::accepts` decides whether they are.
 #[derive(Debug, Drop)]
 pub struct Accepted<'t, 's> {
     tokens: &'t Tokens<'s>,
@@ -39,7 +39,7 @@ impl<'t, 's> Accepted<'t, 's> {
         ensures accepted { IsAccepted self.now.tokens }
         ensures balanced { IsBalanced self.now.tokens }
     {
-        // Its contract says that the tokens are a scan of their source, on which `balanced` rests.
+        // Its contract says that the tokens are a scan of their source; the law `balanced` rests on that.
         let _source = self.tokens.source();
         self.tokens
     }

@@ -1,6 +1,6 @@
-//! What the grammar sees of a token.
+//! A token as the grammar sees it.
 
-/// What an identifier can mean where the grammar asks for a word of its own.
+/// What an identifier can mean to the grammar: a keyword, or a plain name.
 #[derive(Clone, Copy)]
 pub enum Word {
     Plain,
@@ -12,8 +12,8 @@ pub enum Word {
     Endfor,
 }
 
-/// The classes of tokens that the grammar tells apart: a number by whether it is digits only, and the operators that
-/// stand between two operands alone as one class.
+/// The classes of tokens that the grammar distinguishes: a number with digits alone from other numbers; operators that
+/// are always binary are one class.
 #[derive(Clone, Copy)]
 pub enum Class {
     Trivia,
@@ -48,7 +48,7 @@ pub enum Class {
     Binary,
 }
 
-/// A token's class, and which of the tokens it is, counted from 0.
+/// A token's class, and its number, counted from 0.
 #[derive(Clone, Copy)]
 pub struct Lookahead {
     pub class: Class,

@@ -1,11 +1,11 @@
-//! Items as an outline keeps them.
+//! Items as an outline stores them.
 
 ghost use Rattle.std.specs.Prelude.{◌≡◌};
 ghost use Rattle.hcl_grammar.specs.Inner.Entries.{item_in};
 
 use crate::item::{Item, Label};
 
-/// An item whose numbers take four bytes each, half of what an `Item` takes.
+/// An item whose numbers take four bytes each, half as many as in an `Item`.
 #[derive(Clone, Copy, Debug)]
 pub enum ItemEntry {
     Attribute {

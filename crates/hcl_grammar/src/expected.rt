@@ -1,4 +1,4 @@
-//! What the grammar's symbols wait for.
+//! What the grammar's symbols expect.
 
 /// Whether a Newline is seen, or passed over.
 #[derive(Clone, Copy)]
@@ -7,7 +7,7 @@ pub enum Newlines {
     Dropped,
 }
 
-/// What a state can wait for by name.
+/// A token that a state can expect.
 #[derive(Clone, Copy)]
 pub enum Terminal {
     Name,
@@ -28,7 +28,7 @@ pub enum Terminal {
     EndHeredoc,
 }
 
-/// The part of a directive that a template stands in.
+/// The section of a directive that a template is in.
 #[derive(Clone, Copy)]
 pub enum Section {
     InIf,

@@ -1,4 +1,4 @@
-//! What a file is made of, as a list.
+//! The list of a file's items.
 
 ghost use Rattle.std.specs.Prelude.{◌≡◌, ◌<◌, ◌==◌, ◌∷◌, ◌++◌, [], length, slice_get, IfOk, OnErr, OnOk, Some};
 ghost use Rattle.hcl_grammar.specs.Inner.Entries.{item_in};
@@ -37,7 +37,7 @@ impl Outline {
         }
     }
 
-    /// No items, with room for so many.
+    /// No items, with room for this many.
     pub fn with_room(alloc: Global, count: usize) -> Result<Outline, AllocError>
         ensures { IfOk result (λ items. items ≡ []) }
     {
@@ -54,7 +54,7 @@ impl Outline {
         Ok(())
     }
 
-    /// Puts an attribute after the items. A refused growth leaves them as they were.
+    /// Pushes an attribute. A refused growth leaves the items unchanged.
     pub fn push_attribute(
         &mut self,
         level: u32,
@@ -74,7 +74,7 @@ impl Outline {
         })
     }
 
-    /// Puts a block after the items. A refused growth leaves them as they were.
+    /// Pushes a block. A refused growth leaves the items unchanged.
     pub fn push_block(&mut self, level: u32, kind: u32, end: u32) -> Result<(), AllocError>
         ensures pushed { OnOk result (self.new ≡ self.old ++ item.Block level kind end ∷ []) }
         ensures unchanged { OnErr result (self.new ≡ self.old) }
@@ -82,7 +82,7 @@ impl Outline {
         self.push(ItemEntry::Block { level, kind, end })
     }
 
-    /// Puts a label after the items. A refused growth leaves them as they were.
+    /// Pushes a label. A refused growth leaves the items unchanged.
     pub fn push_label(&mut self, first: u32, last: u32) -> Result<(), AllocError>
         ensures pushed { OnOk result (self.new
             ≡ self.old ++ item.Label (record { first = first; last = last }) ∷ []) }

@@ -16,7 +16,7 @@ fn is_lit(kind: Kind) -> bool
     matches!(kind, Kind::Lit)
 }
 
-/// The text of the token after this number where it is a literal, and else nothing.
+/// The text of the token after this number if it is a literal, else nothing.
 fn literal_after<'s>(tokens: &Tokens<'s>, number: usize) -> &'s str
     requires { number < length tokens.now.tokens }
     ensures { result.now ≡ first_literal (drop (number + 1) (numbered tokens.now.tokens)) }

@@ -1,4 +1,4 @@
-//! What is proved of the definitions alone. No program calls these functions: their contracts are the laws.
+//! Laws about the definitions alone. No program calls these functions: their contracts are the laws.
 
 ghost use Rattle.std.specs.Prelude.{◌≡◌, ℕ, List, [], ◌∷◌, Option, length};
 ghost use Rattle.hcl_tokens.specs.Lexemes.{Lexeme};
@@ -20,19 +20,19 @@ pub fn balanced()
         → IsBalanced tokens }
 {}
 
-/// A run of the grammar as a relation ends with the answer of the grammar as a function.
+/// The answer of the grammar as a relation is that of the grammar as a function.
 pub fn run_is_answer()
     ensures { (tokens : List Lookahead) (answer : Option Refusal)
         → ComesTo 0 (file at Seen ∷ []) tokens answer → refusal_of tokens ≡ answer }
 {}
 
-/// The answer of the grammar as a function has a run of the relation.
+/// The grammar as a relation has a run with the answer of the grammar as a function.
 pub fn answer_has_run()
     ensures { (tokens : List Lookahead) → ComesTo 0 (file at Seen ∷ []) tokens (refusal_of tokens) }
 {}
 
-/// Each item begins after the one before it, an attribute's value and a label's or block's first token included, and
-/// reaches no further than the tokens.
+/// Each item begins after the one before it, which includes an attribute's value and a label's or block's first token;
+/// no item reaches beyond the tokens.
 pub fn climbs()
     ensures { (tokens : List Lexeme) → Climbs 0 (outline tokens) (length tokens) }
 {}

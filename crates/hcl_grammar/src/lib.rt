@@ -1,9 +1,9 @@
-//! What the second layer of the front end for HCL native syntax is about: which token lists are files, what items a file
-//! holds, and the types that say so.
+//! The subjects of the second layer of the front end for HCL native syntax: which token lists are files, the items of a
+//! file, and the types for both.
 //!
-//! The grammar and the outline stand in the definitions. Here are the words that they are written in, a file's tokens as
-//! [`Accepted`] and its items as [`Outline`], so that code that reads items waits for no parser. `hcl_syntax` finds both, and
-//! re-exports what callers need.
+//! The grammar and the outline are in the definitions. This crate has the types for them, a file's tokens as
+//! [`Accepted`] and its items as [`Outline`], so that code that reads items needs no parser. `hcl_syntax` finds both,
+//! and re-exports what callers need.
 #![tactic(auto)]
 
 mod accepted;

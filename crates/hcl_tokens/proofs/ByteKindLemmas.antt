@@ -1,4 +1,4 @@
--- What the first byte of a token of an expression says of its kind, row by row.
+-- The first byte of an expression's token, and the kinds that it allows, row by row.
 use Rattle.std.proofs.Common.{◌≡◌, ℕ, ◌==◌, ◌||◌, true, false, subst, arith}
 use Rattle.std.specs.Char.{is_ascii_digit}
 use Rattle.std.proofs.lemmas.Bool.Decides.{nat_tests}

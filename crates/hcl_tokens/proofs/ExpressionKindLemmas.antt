@@ -1,4 +1,4 @@
--- The kinds that stand in expressions.
+-- The kinds of tokens that occur in expressions.
 use Rattle.std.specs.Prelude.{Bool, true, false}
 use Rattle.hcl_tokens.specs.declared.token.Kind.{Kind}
 use Rattle.hcl_tokens.specs.declared.token.Kind.TheVariants.{Lit, InterpOpen, ControlOpen, QuoteClose, HeredocClose}

@@ -9,7 +9,7 @@ use Rattle.hcl_tokens.specs.declared.token.Kind.TheVariants.{Newline, LineCommen
 use Rattle.hcl_tokens.proofs.BooleanLemmas.{and_true}
 use Rattle.hcl_tokens.proofs.OneReadingLemmas.{Nonempty}
 
--- ---- texts of expressions
+-- ---- spellings in expressions
 abbrev has_some : List ℕ → Bool
 has_some [] = false
 has_some (b ∷ l) = true
@@ -52,7 +52,7 @@ some_expression : (opens : List Opener) (dot : Bool) (kind : Kind) (text rest : 
 some_expression opens dot kind [] rest h = absurd (no_text opens dot kind rest h)
 some_expression opens dot kind (b ∷ text) rest h = omega arith
 
--- ---- texts of templates
+-- ---- spellings in templates
 some_template : (quoted : Bool) (kind : Kind) (text rest : List ℕ) → IsTemplateText quoted kind text rest → 0 < length text
 some_template true Lit text rest h = h.0
 some_template false Lit text rest h = h.0
@@ -65,7 +65,7 @@ some_template false QuoteClose text rest h = absurd h
 some_template true _ text rest h = absurd h
 some_template false _ text rest h = absurd h
 
--- ---- texts of all places
+-- ---- spellings in any context
 some_in : (c : Context) (opens : List Opener) (dot : Bool) (kind : Kind) (text rest : List ℕ) → IsTextIn c opens dot kind text rest → 0 < length text
 some_in Expression opens dot kind text rest h = some_expression opens dot kind text rest h
 some_in (Template quoted) opens dot kind text rest h = some_template quoted kind text rest h

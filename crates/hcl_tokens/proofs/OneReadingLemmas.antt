@@ -1,4 +1,4 @@
--- Readings: a text has one at most, one fault at most, and not both; and its stack is small throughout.
+-- A text has one reading at most, one fault at most, and not both; at most `max_open` openers are open throughout.
 use Rattle.std.proofs.Common.{◌≡◌, ℕ, ◌+◌, ◌<◌, ◌≤◌, Bool, false, List, [], ◌∷◌, ◌++◌, length, take, drop, inl, inr, ⊎_elim, refl, sym, ap, subst, ◌∙◌, arith, length-append, length-drop, Some}
 use Rattle.std.proofs.lemmas.Bool.{cases_order}
 use Rattle.std.proofs.Math.Seq.{take-append_seam, drop-append_seam}
@@ -91,7 +91,7 @@ one_closes s t u a b x y =
       x.next_is ∙ (λ i. record { at = at i; opens = below i; offsets = drop 1 s.offsets; after_dot = false; seen = rest i; hidden = above i }) ∙ sym y.next_is,
     )
 
--- what is read isn't empty
+-- the longest spelling isn't empty, so neither is the visible text after the gap
 pub some_ahead : Nonempty → (s : State) (k : Kind) (text rest : List ℕ) → IsLongest s.opens s.after_dot (ahead s) k text rest → 0 < length (ahead s)
 unfolding Nonempty
 some_ahead nonempty s k text rest x = let some = nonempty s.opens s.after_dot k text rest x.spelled in omega (arith, some, ap length x.whole, length-append text rest)
@@ -116,7 +116,7 @@ abbrev pub Stuck : State → Type 0
 Stuck s = (t : Lexeme) (next : State) → ¬ Next s t next
 
 module _ (one : OneKind) (nonempty : Nonempty) where
-  -- two readings that can't go on are one
+  -- from one state, two readings that can't be continued are the same
   pub one_run : (s : State) (ts us : List Lexeme) (a b : State) → Run s ts a → Stuck a → Run s us b → Stuck b → (ts ≡ us) × (a ≡ b)
   one_run s [] [] a b x stuck y stuck' = (refl, sym x ∙ y)
   one_run s [] (u ∷ us) a b x stuck y stuck' = absurd (stuck u y.0 (subst (λ (z : State). Next z u y.0) x y.1))
@@ -129,7 +129,7 @@ module _ (one : OneKind) (nonempty : Nonempty) where
   pub one_scan : (text : List ℕ) (ts us : List Lexeme) → Scans text ts → Scans text us → ts ≡ us
   one_scan text ts us x y = (one_run (begin text) ts us x.0 y.0 x.1 (λ t next. complete_ends nonempty x.0 t next x.2) y.1 (λ t next. complete_ends nonempty y.0 t next y.2)).0
 
-  -- what is lacking here is one fault
+  -- a state lacks one thing at most
   one_lack : (s : State) (kind other : FaultKind) → Lacks s kind → Lacks s other → kind ≡ other
   one_lack s kind other (at_end e is) (at_end e' is') = some_is (sym is ∙ is')
     where
@@ -157,7 +157,7 @@ module _ (one : OneKind) (nonempty : Nonempty) where
       absurd (omega (arith, deep, room, len))
   one_lack s kind other (no_marker_line text rest x room none is) (no_marker_line text' rest' x' room' none' is') = is ∙ sym is'
 
-  -- where something is lacking the reading isn't complete
+  -- a state that lacks something isn't complete
   lack_not_done : (s : State) (kind : FaultKind) → Lacks s kind → IsComplete s → ⊥
   lack_not_done s kind (at_end e is) done = let f = ap end_fault done.1 in absurd (cc)
   lack_not_done s kind (no_token some none is) done = omega (arith, some, ap length done.0)
@@ -171,7 +171,7 @@ module _ (one : OneKind) (nonempty : Nonempty) where
       let kind_is = one_lack y.end kind other (subst (λ (z : State). Lacks z kind) same.1 x.lacks) y.lacks in
       (kind_is, x.at_is ∙ (λ i. fault_offset (same.1 i) (kind_is i)) ∙ sym y.at_is)
 
-  -- and none where it has tokens
+  -- a text with tokens has no fault
   pub no_fault : (text : List ℕ) (ts : List Lexeme) (kind : FaultKind) (at : ℕ) → Scans text ts → IsScanFault text kind at → ⊥
   no_fault text ts kind at x y =
       let same = one_run (begin text) ts y.tokens x.0 y.end x.1 (λ t next. complete_ends nonempty x.0 t next x.2) y.read y.longest in
@@ -181,7 +181,7 @@ opens_next : (s : State) (t : Lexeme) (next : State) → Next s t next → next.
 opens_next s t next (inl x) = x.opens
 opens_next s t next (inr y) = ap (λ (z : State). z.opens) y.next_is ∙ ap (λ l. drop 1 l) (sym y.top) ∙ ap (λ k. open_after k s.opens) (sym y.kind)
 
--- what is open after a list is a function of the list
+-- the tokens of a list determine the open openers after it
 pub opens_after : (s : State) (ts : List Lexeme) (end : State) → Run s ts end → end.opens ≡ open_after_all s.opens ts
 opens_after s [] end run = ap (λ (z : State). z.opens) (sym run)
 opens_after s (t ∷ ts) end run = opens_after run.0 ts end run.2 ∙ ap (λ o. open_after_all o ts) (opens_next s t run.0 run.1)
@@ -190,7 +190,7 @@ room_next : (s : State) (t : Lexeme) (next : State) → length s.opens ≤ max_o
 room_next s t next room (inl x) = x.room
 room_next s t next room (inr y) = omega (arith, room, ap length y.top, ap (λ (z : State). length z.opens) y.next_is)
 
--- at every prefix at most max_open entries are open
+-- at each prefix at most `max_open` openers are open
 pub bounded : (s : State) (us vs : List Lexeme) (end : State) → length s.opens ≤ max_open → Run s (us ++ vs) end → length (open_after_all s.opens us) ≤ max_open
 bounded s [] vs end room run = room
 bounded s (u ∷ us) vs end room run =

@@ -1,4 +1,4 @@
--- What is kept of entries stands for the same when one more long token is known.
+-- Stored entries stand for the same entries after one more long token is added.
 use Rattle.std.proofs.Common.{◌≡◌, ℕ, ◌+◌, ◌==◌, Bool, true, false, List, [], ◌∷◌, ◌++◌, length, get_or, if◌then◌else◌, rules, refl, sym, ap, ◌∙◌, slice_set}
 use Rattle.std.specs.Prelude.{All}
 use Rattle.std.proofs.lemmas.List.{get_or_append_left, get_or_push, map_push}
@@ -9,7 +9,7 @@ use Rattle.hcl_tokens.specs.declared.token.TokenEntry.{TokenEntry}
 use Rattle.hcl_tokens.specs.declared.entries.StoredEntry.{StoredEntry}
 use Rattle.hcl_tokens.specs.declared.entries.Span.{Span}
 
--- the entry of a token that stands here
+-- the entry of a stored entry whose token has this span
 abbrev pub entry_at : StoredEntry → Span → TokenEntry
 entry_at k s = record { start = s.start; end = s.start + s.length; kind = k.kind; inside_heredoc = k.inside_heredoc }
 
@@ -29,13 +29,13 @@ module _ (long : List Span) (s : Span) where
   all_still [] are = refl
   all_still (k ∷ ks) are = let one = ap (entry_at k) (span_still k (All-head (IsStored long) k ks are)) in let rest = all_still ks (All-tail (IsStored long) k ks are) in cc
 
-  -- the long token itself
+  -- the stored entry of the long token that is added
   pub long_pushed : (ks : List StoredEntry) (k : StoredEntry) → All (IsStored long) ks → k.length ≡ long_mark → k.place ≡ length long → entries_of (long ++ s ∷ []) (ks ++ k ∷ []) ≡ entries_of long ks ++ entry_at k s ∷ []
   long_pushed ks k are marked last =
       let itself : span_of (long ++ s ∷ []) k ≡ s = ap (λ n. if n == long_mark then get_or (long ++ s ∷ []) k.place (short_span k) else short_span k) marked ∙ get_or_push long s (short_span k) k.place (sym last) in
       map_push (entry_of (long ++ s ∷ [])) ks k ∙ ap (λ l. l ++ entry_of (long ++ s ∷ []) k ∷ []) (all_still ks are) ∙ ap (λ x. entries_of long ks ++ entry_at k x ∷ []) itself
 
--- a token that isn't long, written where another was put
+-- a stored entry of a token that isn't long, written over one that was pushed
 pub short_pushed : (long : List Span) (ks : List StoredEntry) (put k : StoredEntry) → (k.length == long_mark) ≡ false
     → entries_of long (slice_set (ks ++ put ∷ []) (length ks) k) ≡ entries_of long ks ++ entry_at k (short_span k) ∷ []
 short_pushed long ks put k short =

@@ -1,6 +1,6 @@
--- Openers and closers in token lists: what a layout may rest on when it indents by them. An opener is `(`, `[`, `{`,
--- `${` or `%{`, and a closer its counterpart (HCL Native Syntax Specification, "Operators and Delimiters" and
--- "Templates"); quotes and heredocs don't count. That `max_open` are open at most is the scan's bound, and our own choice.
+-- Openers and closers in token lists, and the law that a layout may rely on when it indents by them. An opener is `(`,
+-- `[`, `{`, `${` or `%{`, and a closer its counterpart (HCL Native Syntax Specification, "Operators and Delimiters" and
+-- "Templates"); quotes and heredocs don't count. The bound `max_open` is the scan's, and our own choice.
 use Rattle.std.specs.Prelude.{◌≡◌, ◌≤◌, ◌+◌, ℕ, Bool, true, false, List, [], ◌∷◌, ◌++◌, if◌then◌else◌}
 use Rattle.hcl_tokens.specs.Lexemes.{Lexeme}
 pub use Rattle.hcl_tokens.specs.Lexemes.{max_open}
@@ -36,7 +36,7 @@ is_opener k = is_opens (nesting k)
 abbrev pub is_closer : Kind → Bool
 is_closer k = is_closes (nesting k)
 
--- each counts as one
+-- 1 for an opener, 0 for any other kind
 abbrev pub opener_count : Kind → ℕ
 opener_count k = if is_opener k then 1 else 0
 
@@ -48,16 +48,16 @@ abbrev pub openers : List Lexeme → ℕ
 openers [] = 0
 openers (t ∷ ts) = opener_count t.kind + openers ts
 
--- how many closers
+-- how many closers are in the list
 abbrev pub closers : List Lexeme → ℕ
 closers [] = 0
 closers (t ∷ ts) = closer_count t.kind + closers ts
 
--- no more closers than openers, and at most so many more openers
+-- no more closers than openers, and at most `max_open` more openers than closers
 pub record IsWithin (tokens : List Lexeme) : Type 0 where
   pub opened_first : closers tokens ≤ openers tokens
   pub few_open : openers tokens ≤ closers tokens + max_open
 
--- THE LAW: it is so in each front of the list
+-- THE LAW: both bounds hold for each front of the list
 abbrev pub IsBalanced : List Lexeme → Type 0
 IsBalanced tokens = (front back : List Lexeme) → front ++ back ≡ tokens → IsWithin front

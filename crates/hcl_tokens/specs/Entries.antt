@@ -1,11 +1,11 @@
--- What an entry says of a text: of which part a token is made. Our own types.
+-- The tokens that entries stand for in a text. Our own types.
 use Rattle.std.specs.Prelude.{◌≤◌, ℕ, List, All, length, map, slice_range}
 use Rattle.std.specs.Str.{IsCharBoundary}
 use Rattle.hcl_tokens.specs.Lexemes.{Lexeme}
 use Rattle.hcl_tokens.specs.Scans.{Scans}
 use Rattle.hcl_tokens.specs.declared.token.TokenEntry.{TokenEntry}
 
--- the token of an entry
+-- the token that an entry stands for
 abbrev pub lexeme_of : List ℕ → TokenEntry → Lexeme
 lexeme_of text e =
     record { kind = e.kind; text = slice_range text e.start e.end; start = e.start;

@@ -1,2 +1,2 @@
--- Words for the code's own parts, which its inner contracts use. Nobody has to believe them.
+-- Definitions for the code's own parts, which its inner contracts use. Nobody has to believe them.
 pub mod StoredEntries

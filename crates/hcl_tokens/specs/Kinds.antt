@@ -1,5 +1,5 @@
--- Kinds of tokens, told one by one: for the scan, the items, the rules and the layout. Which kinds there are is the scan's
--- own choice, after the HCL Native Syntax Specification.
+-- Whether two kinds of tokens are the same, for the scan, the items, the rules and the layout. The set of kinds is the
+-- scan's own choice, after the HCL Native Syntax Specification.
 use Rattle.std.specs.Prelude.{Bool}
 use Rattle.hcl_tokens.specs.declared.token.Kind.{Kind}
 use Rattle.hcl_tokens.specs.contracts.token.KindPartialEq.TheImpl as derived

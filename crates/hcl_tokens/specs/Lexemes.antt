@@ -1,6 +1,6 @@
--- Tokens, and what they open and close. What is open decides how the text goes on: a quote and a heredoc hold
--- literal text, all else holds an expression (HCL Native Syntax Specification, "Lexical Elements" and "Templates").
--- How much may be open at once is our own choice.
+-- Tokens, and what they open and close. The innermost opener decides how the text is read: quotes and heredocs contain
+-- literal text, all other openers an expression (HCL Native Syntax Specification, "Lexical Elements" and "Templates").
+-- The bound on open openers is our own choice.
 use Rattle.std.specs.Prelude.{ℕ, ◌==◌, ◌||◌, Bool, true, false, List, [], ◌∷◌, drop, if◌then◌else◌, nat_eq, codes}
 use Rattle.std.specs.List.{starts_with, before_first, list_any}
 use Rattle.hcl_tokens.specs.declared.token.Kind.{Kind}
@@ -25,7 +25,7 @@ pub data Opener : Type 0 where
 abbrev pub is_newline_byte : ℕ → Bool
 is_newline_byte b = (b == 10) || (b == 13)
 
--- the marker of the text of a heredoc's opener: what stands after `<<` or `<<-`, up to the newline
+-- the marker in the text of a heredoc's opener: the part after `<<` or `<<-`, up to the newline
 abbrev pub marker_of : List ℕ → List ℕ
 marker_of text =
     before_first is_newline_byte (if starts_with nat_eq text (codes "<<-") then drop 3 text
@@ -47,7 +47,7 @@ in_heredoc opens = list_any (same_opener Heredoc) opens
 abbrev pub is_group : Opener → Bool
 is_group o = same_opener Paren o || same_opener Bracket o
 
--- what is open below the parens and brackets on top
+-- the openers below the parens and brackets on top
 abbrev pub below_groups : List Opener → List Opener
 below_groups [] = []
 below_groups (o ∷ opens) = if is_group o then below_groups opens else o ∷ opens
@@ -63,7 +63,7 @@ closes_sequence opens = tops_with (same_opener Sequence) (below_groups opens)
 abbrev pub pop_if : (Opener → Bool) → List Opener → List Opener
 pop_if is opens = if tops_with is opens then drop 1 opens else opens
 
--- what is open after a token of this kind
+-- the openers that are open after a token of this kind
 abbrev pub open_after : Kind → List Opener → List Opener
 open_after QuoteOpen opens = Quote ∷ opens
 open_after HeredocOpen opens = Heredoc ∷ opens
@@ -80,11 +80,11 @@ open_after QuoteClose opens = drop 1 opens
 open_after HeredocClose opens = drop 1 opens
 open_after _ opens = opens
 
--- what a token list leaves open above what was open before it
+-- the openers that are open after a token list
 abbrev pub open_after_all : List Opener → List Lexeme → List Opener
 open_after_all opens [] = opens
 open_after_all opens (t ∷ ts) = open_after_all (open_after t.kind opens) ts
 
--- so much may be open at once
+-- how many openers may be open at once
 abbrev pub max_open : ℕ
 max_open = 256

@@ -1,6 +1,6 @@
--- A text made of tokens and blanks: each token with the number of spaces before it, and which numbers leave the tokens
--- as they are. Nothing here knows why a blank is put. Our own words; that the numbers leave the tokens so is the law
--- `other_gaps` of `hcl_scan`.
+-- A text made of tokens and blanks: each token with the number of spaces before it, and the numbers that leave the
+-- tokens unchanged. Nothing here depends on why a blank is inserted. Our own definitions; the law `other_gaps` of
+-- `hcl_scan` proves that these numbers leave the tokens unchanged.
 use Rattle.std.specs.Prelude.{ℕ, ◌+◌, ◌==◌, ◌||◌, not, Bool, true, IsTrue, List, [], ◌∷◌, ◌++◌, length, if◌then◌else◌, replicate, map}
 use Rattle.hcl_tokens.specs.Lexemes.{Lexeme}
 use Rattle.hcl_tokens.specs.Kinds.{is}
@@ -12,12 +12,12 @@ use Rattle.hcl_tokens.specs.declared.token.Kind.TheVariants.{LineComment, Lit, I
 abbrev pub without_gaps : List (ℕ × Lexeme) → List Lexeme
 without_gaps ps = map (λ p. p.1) ps
 
--- the gaps, as spaces, and the texts in turn
+-- each gap as spaces, followed by the token's text
 abbrev pub text_with_gaps : List (ℕ × Lexeme) → List ℕ
 text_with_gaps [] = []
 text_with_gaps (p ∷ ps) = replicate p.0 32 ++ (p.1.text ++ text_with_gaps ps)
 
--- the tokens where they stand in that text, its first byte being at an offset
+-- the tokens with their offsets in that text, whose first byte has this offset
 abbrev pub placed_tokens : ℕ → List (ℕ × Lexeme) → List Lexeme
 placed_tokens at [] = []
 placed_tokens at (p ∷ ps) =
@@ -29,19 +29,19 @@ abbrev pub is_template : Kind → Bool
 is_template k =
     is Lit k || is InterpOpen k || is ControlOpen k || is QuoteClose k || is HeredocClose k
 
--- nothing may stand between a token of this kind and the next: a comment would go on over the blanks, and in a
--- template or a heredoc they are text
+-- no blank may stand between a token of this kind and the next: a comment would take up the blanks, and in a template
+-- or a heredoc they are text
 abbrev pub touches : Kind → Lexeme → Bool
 touches LineComment t = true
 touches _ t = is_template t.kind || t.inside_heredoc
 
--- so many blanks may stand between a token of this kind and the next
+-- a gap of this many blanks may stand between a token of this kind and the next
 abbrev pub gap_fits : Bool → Kind → Lexeme → ℕ → Bool
 gap_fits after_dot before t gap =
     if touches before t then gap == 0
     else (not (gap == 0) || not (joins after_dot before t.kind t.text))
 
--- every gap fits, after a token of this kind
+-- every gap fits, if the first token follows one of this kind
 abbrev pub AllFit : Bool → Kind → List (ℕ × Lexeme) → Type 0
 AllFit after_dot before [] = Unit {0}
 AllFit after_dot before (p ∷ ps) =

@@ -1,4 +1,4 @@
--- What contracts see of the tokens of a source, and of the errors of a scan: our own types.
+-- The contracts' views of the tokens of a source, and of the errors of a scan: our own types.
 use Rattle.std.specs.Prelude.{◌≡◌, ℕ, List}
 use Rattle.hcl_tokens.specs.Lexemes.{Lexeme}
 use Rattle.hcl_source.specs.Places.{place}
@@ -13,12 +13,12 @@ pub record Scanned : Type 0 where
   pub text : List ℕ
   pub tokens : List Lexeme
 
--- a token as contracts see it
+-- the contracts' view of a token
 abbrev pub lexeme : Token → Lexeme
 lexeme t =
     record { kind = t.kind; text = t.text.now; start = t.start; inside_heredoc = t.inside_heredoc }
 
--- an error of a scan: the one fault of the text, which then has no tokens
+-- an error of a scan reports the one fault of the text, which then has no tokens
 abbrev pub IsScanError : List ℕ → ScanError → Type 0
 IsScanError text (error.Fault fault) =
     (at : ℕ) × IsScanFault text fault.kind at × (fault.at ≡ place text at)

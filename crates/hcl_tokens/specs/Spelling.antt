@@ -1,6 +1,6 @@
 -- The texts of each kind: a set of whole texts for each kind and context (HCL Native Syntax Specification, "Lexical
--- Elements" and "Templates"; identifiers by UAX 31, with `-`). For the last sign of a literal and for a slash it depends
--- on what follows.
+-- Elements" and "Templates"; identifiers by UAX 31, with `-`). For the last character of a literal and for a slash it
+-- depends on the text after it.
 use Rattle.std.specs.Prelude.{◌≡◌, ℕ, zero, suc, ◌-◌, ◌<◌, ◌==◌, ◌||◌, ◌&&◌, Bool, true, false, IsTrue, IsFalse, List, [], ◌∷◌, ◌++◌, length, drop, if◌then◌else◌, codes, encode_utf8_all, Option, Some, None, ◌⊎◌}
 use Rattle.std.specs.Option.{option_map_or}
 use Rattle.std.specs.Char.{is_ascii_digit, is_ascii_hexdigit}
@@ -52,7 +52,7 @@ continues_ident c = is_xid_continue c || (c == 45)
 abbrev pub starts_ident : ℕ → Bool
 starts_ident c = is_xid_start c || (c == 95)
 
--- characters that are an identifier
+-- the characters form an identifier
 abbrev pub are_ident : List ℕ → Bool
 are_ident [] = false
 are_ident (c ∷ cs) = starts_ident c && list_all continues_ident cs
@@ -77,7 +77,7 @@ IsNumber text =
     (whole fraction exponent : List ℕ) × IsDigits whole × IsFraction fraction × IsExponent exponent
     × (text ≡ whole ++ fraction ++ exponent)
 
--- `part` stands somewhere in the text
+-- `part` occurs in the text
 abbrev pub Holds : List ℕ → List ℕ → Type 0
 Holds text part = (before after : List ℕ) × (text ≡ before ++ part ++ after)
 
@@ -86,7 +86,7 @@ IsLineComment text =
     IsTrue (starts text (codes "#") || starts text (codes "//"))
     × IsFalse (list_any (λ b. b == 10) text)
 
--- after the `/*`, the `*/` comes at the end and nowhere before
+-- after the `/*`, the text has one `*/`, at its end
 abbrev pub IsInlineComment : List ℕ → Type 0
 IsInlineComment text =
     (inner : List ℕ) × (text ≡ codes "/*" ++ inner ++ codes "*/")
@@ -111,7 +111,7 @@ IsExpressionText opens after_dot SeqClose text rest =
     IsTrue (closes_sequence opens) × ((text ≡ codes "}") ⊎ (text ≡ codes "~}"))
 IsExpressionText opens after_dot BraceClose text rest =
     IsFalse (closes_sequence opens) × (text ≡ codes "}")
--- a `/*` that never ends is no two marks
+-- the `/` of a `/*` that never ends is no Slash
 IsExpressionText opens after_dot Slash text rest =
     (text ≡ codes "/") × IsFalse (starts rest (codes "*"))
 IsExpressionText opens after_dot kind text rest = IsPunctuation punctuation text kind
@@ -134,12 +134,12 @@ escape_len text =
 abbrev pub is_dollar_or_percent : ℕ → Bool
 is_dollar_or_percent b = (b == 36) || (b == 37)
 
--- what ends literal text in quotes, where `after` is what follows the byte
+-- the byte ends literal text in quotes, if `after` is the text after it
 abbrev pub ends_quoted : ℕ → List ℕ → Bool
 ends_quoted b after =
     (b == 34) || (b == 92) || (b == 10) || ((b == 13) && starts after (codes "\n"))
 
--- how many bytes the element of literal text at the front of what is seen has, if one is there
+-- how many bytes the element of literal text at the front of the visible text has, if there is one
 abbrev pub element_len : Bool → List ℕ → Option ℕ
 element_len quoted [] = None
 element_len quoted (b ∷ after) =
@@ -148,7 +148,7 @@ element_len quoted (b ∷ after) =
     else (if quoted && ends_quoted b after then escape_len (b ∷ after)
     else Some 1))
 
--- whole elements, where `left` more bytes belong to one that has begun
+-- whole elements, if `left` more bytes belong to one that has begun
 abbrev pub are_elements : Bool → ℕ → List ℕ → List ℕ → Bool
 are_elements quoted zero [] rest = true
 are_elements quoted (suc left) [] rest = false
@@ -168,7 +168,7 @@ IsTemplateText quoted ControlOpen text rest = (text ≡ codes "%{") ⊎ (text �
 IsTemplateText true QuoteClose text rest = text ≡ codes "\""
 IsTemplateText quoted kind text rest = ⊥
 
--- what the top of what is open says of the place
+-- how the text is read, by the innermost opener
 pub data Context : Type 0 where
   Template : (quoted : Bool) → Context
   Expression : Context
@@ -186,6 +186,6 @@ abbrev pub IsTextIn : Context → List Opener → Bool → Kind → List ℕ →
 IsTextIn (Template quoted) opens after_dot kind text rest = IsTemplateText quoted kind text rest
 IsTextIn Expression opens after_dot kind text rest = IsExpressionText opens after_dot kind text rest
 
--- a spelling of the kind, under what is open, before `rest`; a heredoc's closing marker is apart
+-- a spelling of the kind, with these openers open, before `rest`; a heredoc's closing marker has no spelling here
 abbrev pub IsSpelling : List Opener → Bool → Kind → List ℕ → List ℕ → Type 0
 IsSpelling opens = IsTextIn (context opens) opens

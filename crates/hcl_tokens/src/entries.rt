@@ -1,4 +1,4 @@
-//! Entries, kept in 8 bytes each but for those of long tokens.
+//! Entries, packed into 8 bytes each; long tokens have their spans in a second list.
 
 ghost use Rattle.std.specs.Prelude.{◌≡◌, ◌≤◌, ◌<◌, ◌==◌, ◌++◌, ◌∷◌, [], length, slice_get, Some, IfOk, OnErr, OnOk};
 ghost use Rattle.hcl_source.specs.Load.{max_source};
@@ -9,15 +9,15 @@ use crate::token::{Kind, TokenEntry};
 use std::alloc::{AllocError, Global};
 use std::marker::Model;
 
-/// The length that marks a long token, and from which on a token is one.
+/// The length that marks a long token: a token of at least this length is long.
 const LONG: u16 = u16::MAX;
 
-/// An entry as it is kept. Of a long token it says which of the long ones this is, and not where it stands.
+/// An entry as it is stored. For a long token it has the index of the token's span in the second list.
 #[derive(Clone, Copy, Debug)]
 struct StoredEntry {
-    /// Where the token begins, or the number of a long one among the long ones.
+    /// Where the token begins, or for a long token the index of its span.
     place: u32,
-    /// How many bytes it has, or `LONG`.
+    /// How many bytes the token has, or `LONG`.
     length: u16,
     kind: Kind,
     inside_heredoc: bool,
@@ -32,7 +32,7 @@ struct Span {
     length: u32,
 }
 
-/// An entry as it is given, by its length: so no end is added up of which the start is taken away again.
+/// An entry by start and length, so that no end is computed from which the start would be subtracted again.
 #[derive(Clone, Copy)]
 pub struct Given {
     pub start: usize,
@@ -45,7 +45,7 @@ pub struct Given {
 #[derive(Debug, Drop)]
 pub struct Entries {
     kept: Vec<StoredEntry>,
-    /// Where the long tokens stand.
+    /// The spans of the long tokens.
     long: Vec<Span>,
 }
 
@@ -74,7 +74,7 @@ impl Entries {
         }
     }
 
-    /// No entries, with room for so many that aren't long.
+    /// No entries, with room for this many that aren't long.
     pub fn with_room(alloc: Global, count: usize) -> Result<Entries, AllocError>
         ensures { IfOk result (λ entries. entries ≡ []) }
     {
@@ -119,7 +119,7 @@ impl Entries {
         }
     }
 
-    /// The kind of the entry of this number, wherever that stands.
+    /// The kind of the entry of this number. Both kinds of entries store it in the same place.
     #[inline(always)]
     pub(crate) fn kind(&self, i: usize) -> Kind
         requires { i < length self.now }
@@ -137,8 +137,8 @@ impl Entries {
         self.kept[i].inside_heredoc
     }
 
-    /// Puts an entry at the end. Of a source there are no more entries than it has bytes. A refused growth leaves the list
-    /// as it was.
+    /// Pushes an entry. There are no more entries than the source has bytes. A refused growth leaves the list
+    /// unchanged.
     pub fn push(&mut self, entry: TokenEntry) -> Result<(), AllocError>
         requires order { entry.start ≤ entry.end }
         requires room { length self.old < max_source }
@@ -156,7 +156,7 @@ impl Entries {
             kind: Kind::Newline,
             inside_heredoc: false,
         })?;
-        // Part by part where it stands: a whole one would be put together first, in twice the instructions.
+        // Each field is written in place: building a whole entry first takes twice the instructions.
         let kept = &mut self.kept[at];
         kept.place = entry.start;
         kept.length = length as u16;
@@ -165,7 +165,7 @@ impl Entries {
         Ok(())
     }
 
-    /// Puts the entry of a long token at the end.
+    /// Pushes the entry of a long token.
     fn push_long(&mut self, entry: TokenEntry) -> Result<(), AllocError>
         requires order { entry.start ≤ entry.end }
         requires room { length self.old < max_source }

@@ -1,9 +1,8 @@
-//! The tokens of a file in HCL native syntax: of which kinds they are, which lists of them a text has, and how they are
-//! kept.
+//! The tokens of a file in HCL native syntax: their kinds, the lists of them that a text has, and how they are stored.
 //!
-//! What a scan may answer stands in the definitions. Here are the words that it is told in, and [`Tokens`], the tokens of
-//! a source, so that code that reads tokens waits for no scanner. `hcl_scan` finds them. All that `hcl_source` has is handed
-//! on.
+//! The definitions say which answers a scan may give. This crate has the types of these answers, and [`Tokens`], the
+//! tokens of a source, so that code that reads tokens needs no scanner. `hcl_scan` finds the tokens. All of
+//! `hcl_source` is re-exported.
 #![tactic(auto)]
 
 mod entries;

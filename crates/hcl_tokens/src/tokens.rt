@@ -38,7 +38,7 @@ impl<'s> Model for Tokens<'s> {
 }
 
 impl<'s> Tokens<'s> {
-    /// The tokens of a source, for a caller that has proved that the entries tell them.
+    /// The tokens of a source, for a caller that has proved that the entries are the entries of its tokens.
     pub fn new(origin: &'s Source, entries: Entries) -> Tokens<'s>
         requires { AreTokens origin.now entries }
         ensures text { result.text ≡ origin.now }
@@ -56,7 +56,7 @@ impl<'s> Tokens<'s> {
         self.origin
     }
 
-    /// How many tokens there are: no more than the source has bytes.
+    /// How many tokens there are: at most as many as the source has bytes.
     pub fn len(&self) -> usize
         ensures len { result ≡ length self.now.tokens }
         ensures small { result ≤ length self.now.text }

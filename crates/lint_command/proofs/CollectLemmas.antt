@@ -1,4 +1,4 @@
--- What is told, by names and faults.
+-- The reported names, by names and faults.
 use Rattle.std.proofs.Common.{◌≡◌, ◌∙◌, ◌⊎◌, ◌++◌, ◌∷◌, [], Bool, true, false, List, Option, Some, None, Contains, ap, drop, get_or, inl, inr, map, refl, sym}
 use Rattle.std.specs.Prelude.{◌||◌, filter, not, if◌then◌else◌}
 use Rattle.std.specs.Option.{option_map_or}
@@ -52,7 +52,7 @@ picked_like : (shard : Option Shard) (xs ys : List Found) → map told_as xs ≡
 picked_like None xs ys e = e
 picked_like (Some shard) xs ys e = kept_like shard xs ys e
 
--- the names that are told are those of the lost ones, and of what else is told
+-- the reported names are the lost ones and the others that are reported
 pub all_told : (shard : Option Shard) (kept lost told faults : List Found) → map told_as kept ≡ map told_as lost → Orders (picked_of shard kept ++ told) faults → AreTold (picked_of shard lost ++ told) faults
 all_told shard kept lost told faults same o = record {
   rises = o.rises;

@@ -1,4 +1,4 @@
--- What is linted, and how a run ends.
+-- From the linted modules to the end of the run.
 use Rattle.std.proofs.Common.{◌≡◌, ◌∙◌, ◌++◌, ℕ, [], Bool, true, false, List, Option, ap, append-nil, flat_map, inl, inr, map, refl, subst, sym}
 use Rattle.std.specs.Prelude.{◌⊎◌, ◌||◌, IfOk, Result, Ok, Err, Some, if◌then◌else◌}
 use Rattle.command_line.specs.Rows.{End, Program, Took, TookBy, Writer, write_failed}
@@ -53,12 +53,12 @@ module _ (files : Files) (manner : Manner) (quiet : Bool) (c : Configured) (modu
   cut_here : (end : End) → is_cut between ≡ true → end.out ≡ between.out → Then between.err.failed between.err end.err (write_failed tree_linter) → end.status ≡ 1 → RunsThen files manner quiet c faults was is end
   cut_here end bad out message exit = record { between = between; ran = ran; linted = linted'; ends = inl (record { cut = bad; output = out; message = message; exit = exit }) }
 
-  -- standard error failed: nothing more is said
+  -- standard error failed, so nothing more is written
   pub error_cut : (end : End) → between.err.failed ≡ true → end.out ≡ between.out → end.err ≡ between.err → end.status ≡ 1 → RunsThen files manner quiet c faults was is end
   error_cut end bad out err exit =
       cut_here end (or_true between.out.failed between.err.failed bad) out (subst (λ w. Then between.err.failed between.err w (write_failed tree_linter)) (sym err) (then_failed between.err.failed between.err (write_failed tree_linter) bad)) exit
 
-  -- standard output failed: that is said
+  -- standard output failed, and that is reported
   pub output_cut : (p : Program) (v : Bool) (end : End) → p ≡ tree_linter → between.err.failed ≡ false → between.out.failed ≡ true → end.out ≡ between.out → end.err.before ≡ between.err.before
       → TookBy end.err.failed between.err.after end.err.after (if between.out.failed then write_failed p else []) → end.status ≡ (if v then p.failure else 1) → RunsThen files manner quiet c faults was is end
   output_cut p v end ep good bad out err took exit =
@@ -71,7 +71,7 @@ module _ (files : Files) (manner : Manner) (quiet : Bool) (c : Configured) (modu
       always true = refl
       always false = refl
 
-  -- none failed
+  -- no writer failed
   pub closed_here : (out err : Writer) (end : End) → between.err.failed ≡ false → between.out.failed ≡ false → between.status ≡ ran.status → end.out ≡ record out { before = between.out.before; flushes_before = between.out.flushes_before } → end.err ≡ record err { before = between.err.before; flushes_before = between.err.flushes_before }
       → out.before ≡ between.out.after → err.before ≡ between.err.after → (Untouched : Type 0) → (Untouched → end.out ≡ between.out) → Closes manner.form quiet c faults ran out err Untouched end.status → RunsThen files manner quiet c faults was is end
   closed_here out err end err_good out_good status eo ee bo be Untouched still closes = record { between = between; ran = ran; linted = linted'; ends = inr (by closes) }
@@ -94,7 +94,7 @@ module _ (files : Files) (manner : Manner) (quiet : Bool) (c : Configured) (modu
             ∙ sym (λ i. if (eo i).failed || (ee i).failed then 1 else worse_status between.status (fault_status faults c.unlinted));
       })
 
--- what stands after the issues was written, and the last words were said
+-- the foot was written, and the last message was shown
 pub closes_well : (form : Option Form) (quiet : Bool) (c : Configured) (faults : List Found) (ran ran' : RunEnd) (out err : Writer) (Untouched : Type 0) (status s : ℕ) (text slice : List ℕ) → s ≡ last_status ran faults c → IsFoot form s ran faults c text
     → ran'.counts ≡ ran.counts → ran'.status ≡ ran.status → slice ≡ text → Took out (slice ++ []) → Took err (last_words quiet out.failed faults c ran'.counts) → status ≡ (if out.failed || err.failed then 1 else worse_status ran'.status (fault_status faults c.unlinted))
     → Closes form quiet c faults ran out err Untouched status
@@ -106,7 +106,7 @@ closes_well form quiet c faults ran ran' out err Untouched status s text slice e
   exit ∙ ap (λ (k : ℕ). if out.failed || err.failed then 1 else worse_status k (fault_status faults c.unlinted)) es,
 )
 
--- the refusals are those that were kept, those of names and those of files
+-- the refusals are those that were kept, those of names and those of files `.tfrules`
 pub all_refused : (kept named whole : KeptRefusals) (faults : List Found) (c : Configured) → KeepsAll kept named (flat_map refusal_in faults) → KeepsAll named whole (configured_refusals c) → whole.is_whole ≡ true
     → (kept.is_whole ≡ true) × (map kept_remark whole.refusals.items ≡ refused_remarks kept faults c)
 all_refused kept named whole faults c first then' is = keeps_more kept named whole (flat_map refusal_in faults) (configured_refusals c) first then' is
@@ -130,7 +130,7 @@ lints_collected files later terminals job paths modules faults was walked is end
 lints_collected files later terminals job paths modules faults was walked is end same c (inr lints) =
     inr (record { modules = modules; faults = faults; walked = walked; collects = c; lints = subst (λ f. LintsModules terminals job modules faults f walked is end) same lints })
 
--- ---- last words
+-- ---- the last message
 
 pub words_said : (quiet out_failed : Bool) (faults : List Found) (c : Configured) (counts : Counts) → out_failed ≡ false
     → flat_map fault_lines faults ++ (configured_words c ++ summary quiet c.unlinted counts) ≡ last_words quiet out_failed faults c counts

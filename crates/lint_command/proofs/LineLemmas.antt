@@ -1,4 +1,4 @@
--- What the parts of a line ask for.
+-- The requests in the parts of a line.
 use Rattle.std.proofs.Common.{◌≡◌, ◌∙◌, ℕ, Bool, List, Option}
 use Rattle.std.specs.Prelude.{Result}
 use Rattle.lint_forms.specs.declared.kind.Form.{Form}

@@ -1,4 +1,4 @@
--- What is shown of words that ask for no run.
+-- The rows of words that request no run.
 use Rattle.std.proofs.Common.{◌≡◌, ◌⊎◌, ◌++◌, ℕ, List, inl, inr, subst, sym}
 use Rattle.clap.specs.Words.{Text}
 use Rattle.command_line.specs.Rows.{End, Program, Shows, error_line, message_row, out_of_memory}
@@ -22,7 +22,7 @@ memory_shown texts usage p end ep shows = inl (memory_said p end ep shows)
 pub shown_as : (texts : List Text) (usage is : Usage) (end : End) → usage ≡ is → ShowsUsage texts is end → ShowsUsage texts usage end
 shown_as texts usage is end e shown = subst (λ (u : Usage). ShowsUsage texts u end) (sym e) shown
 
--- ---- a value that stands for nothing
+-- ---- a value with no meaning
 
 pub value_told : (p : Program) (text front value : List ℕ) (end : End) → p ≡ tree_linter → text ≡ error_line tree_linter (front ++ in_quotes value) → Shows p (message_row text 1) end → SaysOnly (wrong_value front value) end
 value_told p text front value end ep is shows = shows_as p tree_linter (wrong_value front value) end ep (subst (λ (t : List ℕ). Shows p (message_row t 1) end) is shows)

@@ -1,4 +1,4 @@
--- What the options of a call ask for, in the words of a line.
+-- The request in the code's options, as the definitions have it.
 use Rattle.std.specs.Prelude.{List, Option, Result, Ok, Err, map, option_map}
 use Rattle.lint_config.specs.Options.{options_of}
 use Rattle.rule_set.specs.RuleSets.{rules_of}

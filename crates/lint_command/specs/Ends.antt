@@ -1,4 +1,4 @@
--- How a run of `tfrules-all` ends. Its texts and statuses are our own choice.
+-- The end of a run of `tfrules-all`. Its texts and statuses are our own choice.
 use Rattle.std.specs.Prelude.{◌≡◌, ◌⊎◌, ◌==◌, ◌&&◌, ◌||◌, ℕ, Bool, true, false, List, [], ◌∷◌, ◌++◌, Option, Some, None, Result, Ok, Err, codes, flat_map, is_some, map, nat_lt, unwrap_or, if◌then◌else◌}
 use Rattle.clap.specs.Words.{Text, first_of, matches_of}
 use Rattle.command_line.specs.Rows.{End, Row, Shows, TookBy, Writer, error_line, fails_with, message_row, out_of_memory, output_row, write_failed}
@@ -40,47 +40,47 @@ use Rattle.lint_command.specs.declared.usage.Usage.TheVariants.{Help, Version, L
 
 -- ---- what is linted
 
--- the modules of what these paths stand for, as far as they are of the part, and what can't be looked at: each is told since a call
--- of the device failed, or for its name
+-- the modules of the files that these paths stand for, as far as the part takes them, and the names that can't be
+-- looked at: each is reported because a call of the device failed, or because of its name
 pub record Collects (files : Files) (shard : Option Shard) (paths : List Name) (was is : Faults)
     (modules : List Module) (faults : List Found) : Type 0 where
-  pub named : List Found  -- what was found of the paths themselves
-  pub looked : List ListedFolder  -- what was found in each folder of the walk
-  pub walked : Faults  -- those of calls up to the end of the walk
+  pub named : List Found  -- the entries found for the paths themselves
+  pub looked : List ListedFolder  -- the entries found in each folder of the walk
+  pub walked : Faults  -- the faults of calls up to the end of the walk
   pub sees : Sees files paths was walked named looked
   pub folders : List Found
   pub stand : AreFolders (all_found named looked) folders
-  pub told : List Found  -- what is told of their folders
+  pub told : List Found  -- the reported names of their folders
   pub are : AreModules files looked (picked_of shard folders) modules told walked is
   pub all : AreTold (picked_of shard (flat_map lost_of (all_found named looked)) ++ told) faults
 
--- ---- what is said
+-- ---- messages
 
--- a text is written after what a writer took, unless it failed before
+-- a writer took the text after what it took before, unless it had failed before
 abbrev pub Then : Bool → Writer → Writer → List ℕ → Type 0
 Then true between last text = last ≡ between
 Then false between last text =
     (last.before ≡ between.before) × TookBy last.failed between.after last.after text
 
--- how many issues there are, and in how many modules, and how many modules aren't linted. That there is no module isn't said then
+-- how many issues there are, in how many modules, and how many modules aren't linted; if there are such, the line for
+-- no module is left out
 abbrev pub count_lines : ℕ → Counts → List ℕ
 count_lines unlinted counts =
     (if counts.modules == 0 && nat_lt 0 unlinted then [] else summary_line counts)
     ++ unlinted_line unlinted
 
--- the same, unless the run is to be quiet
+-- the lines of the counts, unless the run is quiet
 abbrev pub summary : Bool → ℕ → Counts → List ℕ
 summary quiet unlinted counts = if quiet then [] else count_lines unlinted counts
 
--- what is said last: what can't be looked at, which files `.tfrules` are bad, and what was found in all; or
--- that a write failed
+-- the last message: the names that can't be looked at, the bad files `.tfrules`, and the counts; or that a write failed
 abbrev pub last_words : Bool → Bool → List Found → Configured → Counts → List ℕ
 last_words quiet out_failed faults config counts =
     if out_failed then write_failed tree_linter
     else flat_map fault_lines faults
     ++ (configured_words config ++ summary quiet config.unlinted counts)
 
--- the status of a run in which these can't be looked at, and so many modules aren't linted
+-- the status of a run by the names that can't be looked at and the number of modules that aren't linted
 abbrev pub fault_status : List Found → ℕ → ℕ
 fault_status [] unlinted = if unlinted == 0 then 0 else 1
 fault_status (f ∷ faults) unlinted = 1
@@ -90,38 +90,39 @@ fault_status (f ∷ faults) unlinted = 1
 abbrev pub version : List ℕ
 version = codes "0.3.0"
 
--- what stands before the issues of all modules
+-- the head of the output, before the issues of all modules
 abbrev pub head_of : Option Form → List ℕ
 head_of None = []
 head_of (Some form) = form_head form version
 
--- why modules aren't linted, as remarks: those that were refused, what can't be looked at, and the files `.tfrules` that are bad
+-- why modules aren't linted, as remarks: the kept refusals, the names that can't be looked at, and the bad files
+-- `.tfrules`
 abbrev pub refused_remarks : KeptRefusals → List Found → Configured → List Remark
 refused_remarks kept faults config =
     map kept_remark kept.refusals.items
     ++ map refusal_remark (flat_map refusal_in faults ++ configured_refusals config)
 
--- what stands after the issues, in a run of a status
+-- the foot of the output, after the issues, in a run with this status
 abbrev pub IsFoot : Option Form → ℕ → RunEnd → List Found → Configured → List ℕ → Type 0
 IsFoot None status ran faults config text = text ≡ []
 IsFoot (Some form) status ran faults config text =
     (ran.kept.is_whole ≡ true)
     × (text ≡ form_foot form status ran.has_output (refused_remarks ran.kept faults config))
 
--- ---- how a run ends whose modules were linted
+-- ---- the end of a run whose modules were linted
 
--- no write failed before
+-- a write failed before
 abbrev pub is_cut : End → Bool
 is_cut between = between.out.failed || between.err.failed
 
--- one did: nothing more is said but that
+-- a write failed before, and only that is reported
 pub record EndsCut (between end : End) : Type 0 where
   pub cut : is_cut between ≡ true
   pub output : end.out ≡ between.out
   pub message : Then between.err.failed between.err end.err (write_failed tree_linter)
   pub exit : end.status ≡ 1
 
--- memory ran out for what stands after the issues in a form
+-- memory ran out for the foot of a form
 pub record EndsLost (form : Option Form) (between end : End) : Type 0 where
   pub forms : is_some form ≡ true
   pub whole : is_cut between ≡ false
@@ -129,7 +130,8 @@ pub record EndsLost (form : Option Form) (between end : End) : Type 0 where
   pub message : Then false between.err end.err (error_line tree_linter (codes "out of memory"))
   pub exit : end.status ≡ 1
 
--- that is written, and the last words are said. What can't be looked at, and what isn't linted, is a status of 1
+-- the foot is written, and the last message shown. Names that can't be looked at, and modules that aren't linted, give
+-- status 1
 pub record EndsWhole (form : Option Form) (quiet : Bool) (config : Configured) (faults : List Found)
     (ran : RunEnd) (between end : End) : Type 0 where
   pub whole : is_cut between ≡ false
@@ -143,51 +145,51 @@ pub record EndsWhole (form : Option Form) (quiet : Bool) (config : Configured) (
       ≡ (if end.out.failed || end.err.failed then 1
       else worse_status between.status (fault_status faults config.unlinted))
 
--- EACH MODULE IS LINTED whose options are known, by its own, and the run ends
+-- EACH MODULE IS LINTED whose options are known, by its own options, and the run ends
 pub record RunsThen (files : Files) (manner : Manner) (quiet : Bool) (config : Configured)
     (faults : List Found) (was is : Faults) (end : End) : Type 0 where
-  pub between : End  -- when the modules were linted
+  pub between : End  -- the end of the modules' run
   pub ran : RunEnd
   pub linted : IsLintRun files manner (head_of manner.form) config.governed.items was is between ran
   pub ends : EndsCut between end
       ⊎ (EndsLost manner.form between end
       ⊎ EndsWhole manner.form quiet config faults ran between end)
 
--- these modules are linted, and these names can't be looked at
+-- these modules are linted, and the names that can't be looked at are these
 pub record LintsModules (terminals : Terminals) (job : Job) (modules : List Module)
     (faults : List Found) (files : Files) (was is : Faults) (end : End) : Type 0 where
   pub config : Configured
-  pub looked : Faults  -- those of calls before the first module is linted
+  pub looked : Faults  -- the faults of calls before the first module is linted
   pub configures : Configures files job.given.said job.given.reads modules was looked config
   pub runs : RunsThen files (record { form = job.form;
       terminals = terminals }) job.quiet config faults looked is end
 
--- THE MODULES ARE LINTED of what these paths stand for, by a device that has had these faults before and after
+-- THE MODULES ARE LINTED that these paths stand for, by a device with these faults before and after
 pub record Lints (terminals : Terminals) (job : Job) (paths : List Name) (files : Files)
     (was is : Faults) (end : End) : Type 0 where
   pub modules : List Module
   pub faults : List Found
-  pub walked : Faults  -- those of calls before it is looked for files `.tfrules`
+  pub walked : Faults  -- the faults of calls before the search for files `.tfrules`
   pub collects : Collects files job.shard paths was walked modules faults
   pub lints : LintsModules terminals job modules faults files walked is end
 
--- there is nothing but this row
+-- only this row is shown
 abbrev pub SaysOnly : Row → End → Type 0
 SaysOnly row end = Shows tree_linter row end
 
--- memory ran out before a module was linted, or these were linted
+-- memory ran out before a module was linted, or these modules were linted
 abbrev pub LintsCollected : Terminals → Job → List Module → List Found → Files → Faults → Faults
     → End → Type 0
 LintsCollected terminals job modules faults files was is end =
     SaysOnly (out_of_memory tree_linter) end
     ⊎ LintsModules terminals job modules faults files was is end
 
--- the same of the modules of paths
+-- memory ran out before a module was linted, or the modules of these paths were linted
 abbrev pub LintsOr : Terminals → Job → List Name → Files → Faults → Faults → End → Type 0
 LintsOr terminals job paths files was is end =
     SaysOnly (out_of_memory tree_linter) end ⊎ Lints terminals job paths files was is end
 
--- the same where the paths are those of the line
+-- memory ran out before a module was linted, or the modules were linted that the names of the line stand for
 abbrev pub LintsNamed : Terminals → Job → List Name → Files → Faults → Faults → End → Type 0
 LintsNamed terminals job names files was is end =
     LintsOr terminals job (paths_of_line names) files was is end
@@ -195,7 +197,8 @@ LintsNamed terminals job names files was is end =
 abbrev pub read_failed : Row
 read_failed = fails_with tree_linter (codes "read failed")
 
--- the same where they are read from standard input, which has these bytes where it tells them, unless its read failed
+-- memory ran out before a module was linted, or a read of standard input failed, or the modules were linted that its
+-- names stand for; its bytes are `input`, if it tells them
 abbrev pub ReadsAndLints : Terminals → Job → Bool → Option (List ℕ) → Files → Faults → Faults → End
     → Type 0
 ReadsAndLints terminals job failed input files was is end =
@@ -214,15 +217,15 @@ help_text =
     codes
     "usage: tfrules-all [--rules LIST] [--naming NAMING]\n                   [--minimum-failure-severity SEVERITY] [--force]\n                   [--check-comments] [--no-config] [--format FORM] [--quiet]\n                   [--shard K/N] [--null] [--] [FILE|FOLDER]...\n       tfrules-all --list-rules\n       tfrules-all --explain RULE\n\nLints the modules of folders, each by itself, as tfrules lints its files.\n\nA module is the .tf and .tofu files of one folder. A file stands for its\nfolder, also one that was deleted while the folder is there; a folder for\nitself and all below. Files and folders whose names begin with a dot or end\nwith ~, and those named #...#, are passed over. Without an operand it is the\ncurrent folder.\n\nOptions that the line doesn't have come from the nearest .tfrules, in the folder\nof a module or above it up to the top of the repository: one a line, of the\nfirst five below.\n\n  --rules LIST     default, all or names of rules, with commas between them; a\n                   dash before one takes its rules away: all,-terraform_...\n  --naming NAMING  snake_case or mixed_snake_case\n  --minimum-failure-severity SEVERITY\n                   error, warning or notice: from which severity on an issue\n                   fails the run\n  --force          nothing that is found fails the run\n  --check-comments report comments that are meant to silence a rule and don't:\n                   those that name no rule, and tflint-ignore-file\n  --no-config      read no file .tfrules\n  --format FORM    text; or json (TFLint's), sarif, checkstyle, junit, gitlab or\n                   github: what forges and editors read, of all modules, with\n                   what couldn't be linted\n  --quiet          say nothing of the run as a whole: no count of the issues\n                   at its end\n  --shard K/N      take the K-th of N parts of the folders\n  -0, --null       read names, each ended by NUL, from standard input\n  -j, --jobs N     taken, and of no use: modules are linted one after the\n                   other\n  --list-rules     print each rule with its severity, whether it is a default\n                   one, and what it reports\n  --explain RULE   print that of a rule, why it does, and how to silence it\n  -h, --help       print this\n  --version        print the version\n\nStatus: 0  nothing that is found fails the run\n        1  something couldn't be linted, or the command line is wrong\n        2  an issue fails the run, or a comment that --check-comments\n           reports, and nothing is worse\n"
 
--- what an option of a line says
+-- the value of an option in a line
 abbrev pub value_in : List Text → List ℕ → Text
 value_in texts option = unwrap_or (first_of option (matches_of tfrules_all texts)) []
 
--- a value that stands for nothing is named, between double quotes
+-- the error for a value with no meaning, which has the value between double quotes
 abbrev pub wrong_value : List ℕ → Text → Row
 wrong_value front value = fails_with tree_linter (front ++ in_quotes value)
 
--- THE ROW of these texts where they ask for a text, or are no line of this program's
+-- THE ROW of these texts, if they request a text, or are no line of this program
 abbrev pub usage_row : List Text → Usage → Row
 usage_row texts Help = output_row help_text 0
 usage_row texts Version = output_row version_line 0
@@ -250,14 +253,14 @@ usage_row texts NamesTwice =
     fails_with tree_linter (codes "--null takes no names on the command line")
 usage_row texts OutOfMemory = out_of_memory tree_linter
 
--- it is shown, or that memory ran out
+-- the row of the texts is shown, or that for running out of memory
 abbrev pub ShowsUsage : List Text → Usage → End → Type 0
 ShowsUsage texts usage end =
     SaysOnly (out_of_memory tree_linter) end ⊎ SaysOnly (usage_row texts usage) end
 
 -- ---- all runs
 
--- how a run ends that was asked for this
+-- the end of a run with this request
 abbrev pub EndsBy : Terminals → Bool → Job → List Name → Bool → Option (List ℕ) → Files → Faults
     → Faults → End → Type 0
 EndsBy terminals true job names failed input files was is end =
@@ -278,15 +281,16 @@ EndsFor terminals texts (Ok asking) failed input files was is end =
 EndsFor terminals texts (Err usage) failed input files was is end =
     (is ≡ was) × ShowsUsage texts usage end
 
--- the end of a run with these texts, and these names beside them
+-- the end of a run with these texts, and these other words, which are names
 abbrev pub IsEndOf : Terminals → List Text → List Name → Bool → Option (List ℕ) → Files → Faults
     → Faults → End → Type 0
 IsEndOf terminals texts others failed input files was is end =
     ((is ≡ was) × SaysOnly (out_of_memory tree_linter) end)
     ⊎ EndsFor terminals texts (request_of_texts texts others) failed input files was is end
 
--- THE END of a run with these words, over these files, where these outputs are read on terminals, standard input has these bytes
--- and the device has had these faults before and after: what the words ask for; or memory ran out before a file was looked at
+-- THE END of a run with these words, over these files, if these outputs are read on terminals, standard input has these
+-- bytes, and the device has these faults before and after: that of the request in the words, or memory ran out before a
+-- file was looked at
 abbrev pub IsEnd : Terminals → List (List ℕ) → Bool → Option (List ℕ) → Files → Faults → Faults
     → End → Type 0
 IsEnd terminals words failed input files was is end =

@@ -1,4 +1,5 @@
--- What is said of the rules: in short of each, and of one that is named. Our own choice, in the words of docs/RULES.md.
+-- The texts about the rules: a line for each, and a longer one for a named rule. Our own choice, in the words of
+-- docs/RULES.md.
 use Rattle.std.specs.Prelude.{ℕ, Bool, List, [], ◌++◌, codes, flat_map, if◌then◌else◌}
 use Rattle.rule_set.specs.Rules.{all_rules, is_recommended, rule_name, severity, severity_text}
 use Rattle.rule_set.specs.declared.rule.Rule.{Rule}
@@ -15,7 +16,7 @@ rule_line rule =
     ++ (severity_text (severity rule)
     ++ (default_word (is_recommended rule) ++ (codes "): " ++ (reports rule ++ codes "\n")))))
 
--- why it does, and how an issue is silenced
+-- why the rule reports it, and how to silence an issue
 abbrev pub why_and_how : Rule → List ℕ
 why_and_how rule =
     codes "\n"
@@ -24,7 +25,7 @@ why_and_how rule =
     "\n\nA comment on the line of an issue, or on the line above it, silences it:\n\n  # tflint-ignore: "
     ++ (rule_name rule ++ codes "\n")))
 
--- WHAT IS SAID OF A RULE
+-- THE EXPLANATION OF A RULE
 abbrev pub explanation_of : Rule → List ℕ
 explanation_of rule = rule_line rule ++ why_and_how rule
 

@@ -1,5 +1,6 @@
--- What the words of a `tfrules-all` line ask for. clap reads those that are UTF-8 as a simple command: its own definitions of
--- the matches and the faults of a line decide. What its options may say, and that the other words are names, is our own choice.
+-- The request in the words of a `tfrules-all` line. clap reads the words that are UTF-8 as a simple command: its own
+-- definitions of the matches and the faults of a line decide. The values of the options are our own choice, and so is
+-- that all other words are names.
 use Rattle.std.specs.Prelude.{ℕ, ◌==◌, ◌||◌, not, Bool, true, false, List, [], ◌∷◌, ◌++◌, Option, Some, None, Result, Ok, Err, codes, find, fold, length, option_map, if◌then◌else◌}
 use Rattle.std.specs.Option.{option_map_or}
 use Rattle.std.specs.Str.{bytes_eq}
@@ -22,19 +23,20 @@ use Rattle.tree_words.specs.declared.shard.Shard.{Shard}
 use Rattle.lint_command.specs.declared.usage.Usage.{Usage}
 use Rattle.lint_command.specs.declared.usage.Usage.TheVariants.{Help, Version, ListRules, Explain, BadLine, UnknownRule, UnknownExplained, NoRuleLeft, BadNaming, BadSeverity, BadPart, BadForm, BadJobs, NamesTwice, OutOfMemory}
 
--- by what modules are linted: the options of the line, and whether files `.tfrules` are read for the others
+-- the options by which modules are linted: those of the line, and whether files `.tfrules` are read for the others
 pub record Given : Type 0 where
   pub said : Options
   pub reads : Bool
 
--- what is to be done: that, whether nothing is said of the run as a whole, the part of the folders, and the form, where it isn't text
+-- what the run is to do: by these options, whether the message about the run as a whole is left out, the part of the
+-- folders, and the form, none for text
 pub record Job : Type 0 where
   pub given : Given
   pub quiet : Bool
   pub shard : Option Shard
   pub form : Option Form
 
--- what a line asks for: that, whether names are read from standard input, and the names of the line
+-- the request of a line: what the run is to do, whether names are read from standard input, and the names of the line
 pub record Request : Type 0 where
   pub job : Job
   pub null : Bool
@@ -42,8 +44,9 @@ pub record Request : Type 0 where
 
 -- ---- the command
 
--- `tfrules-all [--rules LIST] [--naming NAMING] [--minimum-failure-severity SEVERITY] [--force] [--check-comments] [--no-config]
--- [--format FORM] [--quiet] [--version] [--null] [--shard K/N] [--jobs NUMBER] [--list-rules] [--explain RULE] [--] [FILE|FOLDER]...`
+-- `tfrules-all [--rules LIST] [--naming NAMING] [--minimum-failure-severity SEVERITY] [--force] [--check-comments]
+-- [--no-config] [--format FORM] [--quiet] [--version] [--null] [--shard K/N] [--jobs NUMBER] [--list-rules]
+-- [--explain RULE] [--] [FILE|FOLDER]...`
 abbrev pub tfrules_all : App
 tfrules_all =
     fold with_rule (new_app (codes "tfrules-all"))
@@ -54,7 +57,7 @@ tfrules_all =
     ∷ null_rule ∷ option_rule (codes "shard") ∷ jobs_rule ∷ count_rule (codes "list-rules")
     ∷ option_rule (codes "explain") ∷ file_rule ∷ [])
 
--- ---- by what modules are linted
+-- ---- the options by which modules are linted
 
 abbrev pub rules_taken : Option (Result (List Rule) ListFault) → Result (Option (List Rule)) Usage
 rules_taken None = Ok None
@@ -62,7 +65,7 @@ rules_taken (Some (Ok rules)) = Ok (Some rules)
 rules_taken (Some (Err list.UnknownRule)) = Err UnknownRule
 rules_taken (Some (Err list.NoneLeft)) = Err NoRuleLeft
 
--- what an option's text stands for, where the line has it, or that it stands for nothing
+-- the value of an option's text, if the line has one, or the usage for a text with no meaning
 abbrev pub taken : {A : Type 0} → Usage → Option (Option A) → Result (Option A) Usage
 taken usage None = Ok None
 taken usage (Some None) = Err usage
@@ -88,7 +91,7 @@ given_of_rows rows =
 
 -- ---- the form
 
--- `text` is none
+-- `text` is no form
 abbrev pub form_of_text : Text → Option (Option Form)
 form_of_text text =
     if bytes_eq text (codes "text") then Some None
@@ -128,35 +131,35 @@ request_with rows names =
     (are_jobs_good rows) (is_good (is_given (codes "null") rows) (length names))
     (is_given (codes "null") rows) names
 
--- what is said of the rule that `--explain` names
+-- the usage for the rule that `--explain` names
 abbrev pub explain_request : Text → Usage
 explain_request name =
     option_map_or Explain (find (λ rule. bytes_eq (rule_name rule) name) all_rules) UnknownExplained
 
--- a line that asks for a text asks for nothing else, whatever stands beside that
+-- the text that a line requests; the rest of such a line makes no difference
 abbrev pub text_requested : List Row → Option Usage
 text_requested rows =
     if is_given (codes "version") rows then Some Version
     else (if is_given (codes "list-rules") rows then Some ListRules
     else option_map explain_request (first_of (codes "explain") rows))
 
--- the names of a line are those that clap finds, and then the other ones
+-- the names of a line are those that clap finds, and then the words that aren't UTF-8
 abbrev pub request_of_rows : List Name → List Row → Result Request Usage
 request_of_rows others rows =
     option_map_or Err (text_requested rows) (request_with rows (texts_of (codes "file") rows
     ++ others))
 
--- what these texts ask for, and these names beside them, unless memory runs out
+-- the request in these texts, and these other words, which are names, unless memory runs out
 abbrev pub request_of_texts : List Text → List Name → Result Request Usage
 request_of_texts texts others =
     unless_fault (usage_by OutOfMemory Help BadLine) (fault_of tfrules_all texts)
     (request_of_rows others (matches_of tfrules_all texts))
 
--- whether what is asked for needs names from standard input
+-- whether the request needs names from standard input
 abbrev pub reads_names : Result Request Usage → Bool
 reads_names (Ok asking) = asking.null
 reads_names (Err usage) = false
 
--- WHAT THE WORDS ASK FOR, the program's name first, unless memory runs out
+-- THE REQUEST in the words, the program's name first, unless memory runs out
 abbrev pub request_of_words : List (List ℕ) → Result Request Usage
 request_of_words words = request_of_texts (texts_in (codes "tfrules-all") words) (others_in words)

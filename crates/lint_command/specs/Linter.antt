@@ -1,4 +1,4 @@
--- What lines the program has.
+-- The usage of the program.
 use Rattle.std.specs.Prelude.{ℕ, List, codes}
 
 abbrev pub usage_line : List ℕ

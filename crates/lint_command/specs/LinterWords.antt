@@ -1,10 +1,10 @@
--- What `tfrules-all` tells a wrong word by. Our own choice.
+-- The vocabulary with which `tfrules-all` finds and explains a wrong word. Our own choice.
 use Rattle.std.specs.Prelude.{[], ◌∷◌, codes}
 use Rattle.lint_command.specs.Line.{tfrules_all}
 use Rattle.lint_command.specs.Linter.{usage_line}
 use Rattle.tree_words.specs.WrongWords.{Vocabulary, letters_of, names_of}
 
--- beside its own options, some of TFLint and of `terraform`
+-- besides its own options, some of TFLint and of `terraform`
 abbrev pub linter_words : Vocabulary
 linter_words = record {
   names = names_of tfrules_all;

@@ -1,4 +1,4 @@
-//! The modules of what a call names.
+//! The modules that a call names.
 
 ghost use Rattle.std.specs.Prelude.{◌≡◌, ◌++◌, IfOk, map};
 ghost use Rattle.file_tree.specs.Ordered.{Orders};
@@ -13,14 +13,14 @@ use std::alloc::{AllocError, Global};
 use tree_words::pick::pick;
 use tree_words::shard::Shard;
 
-/// Modules, and what can't be looked at, in the order of the names.
+/// Modules, and names that can't be looked at, in the order of the names.
 #[derive(Drop)]
 pub(crate) struct Collected {
     pub modules: Vec<Module>,
     pub faults: Vec<Found>,
 }
 
-/// These and those, in the order of their names, each once.
+/// The names of both lists, in order, each once.
 fn together(mut these: Vec<Found>, mut those: Vec<Found>) -> Result<Vec<Found>, AllocError>
     ensures { IfOk result (λ all. Orders (these.items ++ those.items) all.items) }
 {
@@ -30,7 +30,7 @@ fn together(mut these: Vec<Found>, mut those: Vec<Found>) -> Result<Vec<Found>, 
     Ok(in_order(these))
 }
 
-/// The modules that these names stand for, as far as they are of the part.
+/// The modules that these names stand for, as far as the part takes them.
 pub(crate) fn collect<T: Tree>(
     alloc: Global,
     shard: Option<Shard>,

@@ -1,4 +1,4 @@
-//! What is said of the rules.
+//! The texts about the rules.
 
 ghost use Rattle.std.specs.Prelude.{◌≡◌, ◌++◌, IfOk, OnOk, flat_map, string_bytes};
 ghost use Rattle.rule_set.specs.Rules.{is_recommended};
@@ -8,21 +8,21 @@ use lint_forms::rule_texts::{reason, reports};
 use rule_set::{ALL_RULES, Rule, RuleSet};
 use std::alloc::{AllocError, Global};
 
-/// What tells a rule that is checked by default.
+/// The word that marks a default rule.
 fn default_word(recommended: bool) -> &'static str
     ensures { result.now ≡ default_word recommended }
 {
     if recommended { ", default" } else { "" }
 }
 
-/// Whether a rule is checked by default.
+/// Whether a rule is a default one.
 fn is_default(rule: Rule) -> bool
     ensures { result ≡ is_recommended rule }
 {
     RuleSet::recommended().holds(rule)
 }
 
-/// What a rule reports, in a line.
+/// The line about a rule: what it reports.
 fn rule_line(alloc: Global, rule: Rule) -> Result<String, AllocError>
     ensures { IfOk result (λ text. string_bytes text ≡ rule_line rule) }
 {
@@ -33,7 +33,7 @@ fn rule_line(alloc: Global, rule: Rule) -> Result<String, AllocError>
     format!(in alloc; "{} ({}{}): {}\n", name, severity, default, what)
 }
 
-/// Why it does, and how an issue is silenced.
+/// Why the rule reports it, and how to silence an issue.
 fn why_and_how(alloc: Global, rule: Rule) -> Result<String, AllocError>
     ensures { IfOk result (λ text. string_bytes text ≡ why_and_how rule) }
 {
@@ -45,7 +45,7 @@ fn why_and_how(alloc: Global, rule: Rule) -> Result<String, AllocError>
     )
 }
 
-/// What is said of a rule.
+/// The explanation of a rule.
 pub(crate) fn explanation_of(alloc: Global, rule: Rule) -> Result<String, AllocError>
     ensures { IfOk result (λ text. string_bytes text ≡ explanation_of rule) }
 {

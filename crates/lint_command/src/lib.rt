@@ -1,5 +1,5 @@
-//! What the program `tfrules-all` does, over any tree of files and any devices: it finds the modules that its words name,
-//! lints each by itself, and reports.
+//! The program `tfrules-all` over any tree of files and any devices: it finds the modules that its words name, lints
+//! each by itself, and reports.
 #![tactic(auto)]
 
 mod collect;

@@ -1,4 +1,4 @@
-//! What `tfrules-all` tells a wrong word by.
+//! The vocabulary with which `tfrules-all` finds and explains a wrong word.
 
 ghost use Rattle.std.specs.Prelude.{◌≡◌};
 ghost use Rattle.lint_command.specs.LinterWords.{linter_words};
@@ -55,7 +55,7 @@ static FOREIGN: &[Foreign] = &[
     },
 ];
 
-/// What the program tells a wrong word by.
+/// The vocabulary with which the program finds and explains a wrong word.
 pub(crate) fn linter_words() -> Vocabulary
     ensures { vocabulary_of result ≡ linter_words }
 {

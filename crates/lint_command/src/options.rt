@@ -22,29 +22,29 @@ use tree_words::jobs::{are_jobs_good, jobs};
 use tree_words::options::{counted_flag, file, is_given, names_in, null};
 use tree_words::shard::{Shard, shard_of};
 
-/// By what modules are linted.
+/// The options by which modules are linted.
 #[derive(Clone, Copy, Debug, PartialEq, Eq)]
 pub struct Given {
     /// The options of the line.
     pub said: Said,
-    /// Files `.tfrules` are read for the others.
+    /// Files `.tfrules` are read for the other options.
     pub reads: bool,
 }
 
-/// What is to be done.
+/// What the run is to do.
 #[derive(Clone, Copy, Debug, PartialEq, Eq)]
 pub struct Job {
-    /// By what modules are linted.
+    /// The options by which modules are linted.
     pub given: Given,
-    /// Nothing is said of the run as a whole.
+    /// No message about the run as a whole is shown.
     pub quiet: bool,
-    /// The part of the folders that is taken, where it isn't all.
+    /// The part of the folders that is taken, unless all are.
     pub shard: Option<Shard>,
-    /// The form in which is written what is found, where it isn't text.
+    /// The form of the output; none for text.
     pub form: Option<Form>,
 }
 
-/// What the words ask for.
+/// The request in the words.
 #[derive(Debug, Drop)]
 pub struct LintOptions<'a> {
     pub job: Job,
@@ -76,7 +76,7 @@ pub(crate) fn command<'a>(alloc: Global) -> Result<Command<'a>, AllocError>
         .arg(file(alloc))
 }
 
-/// The rules that a text of the line stands for, where it has one.
+/// The rules that a text requests, if there is one.
 fn rules_taken(text: Option<&str>) -> Result<Option<RuleSet>, Usage>
     ensures { rules_view result
         ≡ rules_taken (option_map rules_in (option_map (λ text. text.now) text.entry)) }
@@ -91,7 +91,7 @@ fn rules_taken(text: Option<&str>) -> Result<Option<RuleSet>, Usage>
     }
 }
 
-/// The naming that a text of the line stands for, where it has one.
+/// The naming that a text requests, if there is one.
 fn naming_taken(text: Option<&str>) -> Result<Option<Naming>, Usage>
     ensures { result
         ≡ taken BadNaming (option_map naming_of_text (option_map (λ text. text.now) text.entry)) }
@@ -105,7 +105,7 @@ fn naming_taken(text: Option<&str>) -> Result<Option<Naming>, Usage>
     }
 }
 
-/// The severity that a text of the line stands for, where it has one.
+/// The severity that a text requests, if there is one.
 fn severity_taken(text: Option<&str>) -> Result<Option<Severity>, Usage>
     ensures { result
         ≡ taken BadSeverity (option_map severity_of_text
@@ -120,7 +120,7 @@ fn severity_taken(text: Option<&str>) -> Result<Option<Severity>, Usage>
     }
 }
 
-/// By what modules are linted, where no text of the line is refused.
+/// The options by which modules are linted, if no text of the line is refused.
 fn given_by(
     rules: Result<Option<RuleSet>, Usage>,
     naming: Result<Option<Naming>, Usage>,
@@ -153,7 +153,7 @@ fn given_by(
     Ok(Given { said, reads })
 }
 
-/// By what modules are linted, as the matches of a line have it.
+/// The options by which modules are linted, in the matches of a line.
 fn given_of(matches: &ArgMatches<'_>) -> Result<Given, Usage>
     ensures { given_in result ≡ given_of_rows (rows_of (found_of matches.now)) }
 {
@@ -172,7 +172,7 @@ fn given_of(matches: &ArgMatches<'_>) -> Result<Given, Usage>
     )
 }
 
-/// The form that a text stands for.
+/// The form that a text requests.
 fn form_of_text(text: &str) -> Option<Option<Form>>
     ensures { result ≡ form_of_text text.now }
 {
@@ -200,7 +200,7 @@ fn form_of_text(text: &str) -> Option<Option<Form>>
     None
 }
 
-/// The form that a text of the line stands for, where it has one.
+/// The form that a text requests, if there is one.
 fn form_taken(text: Option<&str>) -> Option<Option<Form>>
     ensures { result ≡ form_given (option_map (λ text. text.now) text.entry) }
 {
@@ -210,7 +210,7 @@ fn form_taken(text: Option<&str>) -> Option<Option<Form>>
     }
 }
 
-/// The form that the matches of a line ask for.
+/// The form in the matches of a line.
 fn form_of(matches: &ArgMatches<'_>) -> Option<Option<Form>>
     ensures { result ≡ form_given (first_of (codes "format") (rows_of (found_of matches.now))) }
 {
@@ -224,14 +224,14 @@ fn is_good(null: bool, names: &[&[u8]]) -> bool
     !null || names.is_empty()
 }
 
-/// What a line says, part by part.
+/// The parts of a line.
 #[derive(Drop)]
 struct Parts<'a> {
     given: Result<Given, Usage>,
     quiet: bool,
-    /// None if the text is no part.
+    /// None if the text names no part.
     shard: Option<Option<Shard>>,
-    /// None if there is no such form.
+    /// None if the text names no form.
     form: Option<Option<Form>>,
     /// Whether the text is a number of jobs.
     are_jobs_good: bool,
@@ -239,7 +239,7 @@ struct Parts<'a> {
     names: Vec<&'a [u8]>,
 }
 
-/// The options of these parts of a line.
+/// The options with these parts of a line.
 fn options_by<'a>(parts: Parts<'a>) -> Result<LintOptions<'a>, Usage>
     ensures { result_request result ≡ request_by (given_in parts.entry.given) parts.entry.quiet
         parts.entry.shard parts.entry.form parts.entry.are_jobs_good
@@ -283,7 +283,7 @@ fn options_by<'a>(parts: Parts<'a>) -> Result<LintOptions<'a>, Usage>
     })
 }
 
-/// The options that the matches of a line give, which has these names.
+/// The options in the matches of a line with these names.
 fn options_with<'a>(
     names: Vec<&'a [u8]>,
     matches: &ArgMatches<'a>,
@@ -302,7 +302,7 @@ fn options_with<'a>(
     })
 }
 
-/// What the words ask for that name a rule to explain.
+/// The usage for a rule that is named to be explained.
 fn explain_request(name: &str) -> Usage
     ensures { result ≡ explain_request name.now }
 {
@@ -312,7 +312,7 @@ fn explain_request(name: &str) -> Usage
     }
 }
 
-/// What the words ask for that may name a rule to explain.
+/// The usage for a rule that is named to be explained, if there is one.
 fn explanation_given(name: Option<&str>) -> Option<Usage>
     ensures { result ≡ option_map explain_request (option_map (λ name. name.now) name.entry) }
 {
@@ -322,7 +322,7 @@ fn explanation_given(name: Option<&str>) -> Option<Usage>
     }
 }
 
-/// What the matches of a line ask for, where it names a rule to explain.
+/// The usage in the matches of a line that names a rule to explain.
 fn explanation_asked(matches: &ArgMatches<'_>) -> Option<Usage>
     ensures { result ≡ option_map explain_request
         (first_of (codes "explain") (rows_of (found_of matches.now))) }
@@ -330,7 +330,7 @@ fn explanation_asked(matches: &ArgMatches<'_>) -> Option<Usage>
     explanation_given(matches.get_str("explain"))
 }
 
-/// The text that the matches of a line ask for, where they do.
+/// The usage in the matches of a line that requests a text.
 fn text_requested(matches: &ArgMatches<'_>) -> Option<Usage>
     ensures { result ≡ text_requested (rows_of (found_of matches.now)) }
 {
@@ -343,7 +343,7 @@ fn text_requested(matches: &ArgMatches<'_>) -> Option<Usage>
     explanation_asked(matches)
 }
 
-/// The options that the matches of a line give, beside which there are these names.
+/// The options in the matches of a line, with these names besides.
 fn options_of<'a>(
     alloc: Global,
     others: &[&'a [u8]],
@@ -362,8 +362,8 @@ fn options_of<'a>(
     }
 }
 
-/// The options that the words give, the program's name first, and the names beside them, or the usage that they have. Where
-/// memory runs out it answers `OutOfMemory`.
+/// The options in the words, with the program's name first, and with the other words as names, or their usage. If
+/// memory runs out it returns `OutOfMemory`.
 pub fn options<'a>(
     alloc: Global,
     words: &'a [&'a str],

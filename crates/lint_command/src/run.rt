@@ -37,7 +37,7 @@ use tree_words::words::{Line, words_of};
 
 static READ_FAILED: &str = "tfrules-all: error: read failed\n";
 
-/// Says what was found in the modules that were linted, unless none was for want of options.
+/// Writes how many issues were found in the linted modules; if none was linted for lack of options, it writes nothing.
 fn tell_linted<E: ByteSink>(unlinted: usize, counts: &Counts, err: &mut E) -> Result<(), Failed>
     requires err { E.failed err.old ≡ false }
     ensures took { Took (writer E.ByteSink err.old err.new)
@@ -50,7 +50,7 @@ fn tell_linted<E: ByteSink>(unlinted: usize, counts: &Counts, err: &mut E) -> Re
     tell_summary(err, counts)
 }
 
-/// Says what was found, and how many modules weren't linted.
+/// Writes how many issues were found, and how many modules weren't linted.
 fn tell_counts<E: ByteSink>(unlinted: usize, counts: &Counts, err: &mut E) -> Result<(), Failed>
     requires err { E.failed err.old ≡ false }
     ensures took { Took (writer E.ByteSink err.old err.new) (count_lines unlinted counts.now) }
@@ -62,7 +62,7 @@ fn tell_counts<E: ByteSink>(unlinted: usize, counts: &Counts, err: &mut E) -> Re
     tell_unlinted(err, unlinted)
 }
 
-/// Says what was found in all, unless the run is to be quiet.
+/// Writes the counts of the run, unless the run is quiet.
 fn summarise<E: ByteSink>(
     quiet: bool,
     unlinted: usize,
@@ -79,7 +79,7 @@ fn summarise<E: ByteSink>(
     tell_counts(unlinted, counts, err)
 }
 
-/// Says which files are bad, and what was found in all.
+/// Writes which files `.tfrules` are bad, and the counts of the run.
 fn tell_rest<E: ByteSink>(
     quiet: bool,
     counts: &Counts,
@@ -97,7 +97,7 @@ fn tell_rest<E: ByteSink>(
     summarise(quiet, configured.unlinted, counts, err)
 }
 
-/// Says what can't be looked at, which files are bad, and what was found in all.
+/// Writes which names can't be looked at, which files `.tfrules` are bad, and the counts of the run.
 fn tell_end<E: ByteSink>(
     quiet: bool,
     counts: &Counts,
@@ -118,18 +118,18 @@ fn tell_end<E: ByteSink>(
     tell_rest(quiet, counts, configured, err)
 }
 
-/// What is to be said of a run, beside what it finds in modules.
+/// The messages of a run, besides its findings in modules.
 #[derive(Clone, Copy)]
 struct Rest<'r> {
-    /// Nothing is said of the run as a whole.
+    /// No message about the run as a whole is shown.
     quiet: bool,
     manner: Manner,
-    /// What can't be looked at.
+    /// The names that can't be looked at.
     faults: &'r [Found],
     configured: &'r Configured,
 }
 
-/// The status of a run by what can't be looked at and the modules that aren't linted.
+/// The status of a run by the names that can't be looked at and the modules that aren't linted.
 fn fault_status(rest: Rest<'_>) -> u8
     ensures { result ≡ fault_status rest.entry.faults.now rest.entry.configured.now.unlinted }
 {
@@ -139,7 +139,7 @@ fn fault_status(rest: Rest<'_>) -> u8
     if rest.configured.unlinted == 0 { 0 } else { 1 }
 }
 
-/// Says the last words of a run whose writes went well, and gives its status.
+/// Shows the last message of a run without a failed write, and returns its status.
 fn end_well<E: ByteSink>(rest: Rest<'_>, ran: &RunEnd, err: &mut E) -> u8
     requires err { E.failed err.old ≡ false }
     ensures took { Took (writer E.ByteSink err.old err.new)
@@ -156,7 +156,7 @@ fn end_well<E: ByteSink>(rest: Rest<'_>, ran: &RunEnd, err: &mut E) -> u8
     }
 }
 
-/// Says the last words of a run, and gives its status.
+/// Shows the last message of a run, and returns its status.
 fn finish<O: ByteSink, E: ByteSink>(rest: Rest<'_>, ran: &RunEnd, out: &O, err: &mut E) -> u8
     requires err { E.failed err.old ≡ false }
     ensures took { Took (writer E.ByteSink err.old err.new)
@@ -172,7 +172,7 @@ fn finish<O: ByteSink, E: ByteSink>(rest: Rest<'_>, ran: &RunEnd, out: &O, err: 
     end_well(rest, ran, err)
 }
 
-/// What stands before the issues of all modules.
+/// The head of the output, before the issues of all modules.
 fn head_of(alloc: Global, form: Option<Form>) -> Result<Vec<u8>, AllocError>
     ensures { IfOk result (λ text. text.items ≡ head_of form) }
 {
@@ -182,7 +182,7 @@ fn head_of(alloc: Global, form: Option<Form>) -> Result<Vec<u8>, AllocError>
     }
 }
 
-/// What stands after them in a form, in a run of this status.
+/// The foot of a form, in a run with this status.
 fn form_end(
     alloc: Global,
     form: Form,
@@ -204,7 +204,7 @@ fn form_end(
     foot(alloc, form, status, ran.has_output, refusals.as_slice())
 }
 
-/// What stands after the issues, in a run of this status.
+/// The foot of the output, in a run with this status.
 fn foot_of(
     alloc: Global,
     status: u8,
@@ -213,7 +213,7 @@ fn foot_of(
 ) -> Result<Vec<u8>, AllocError>
     ensures foot { IfOk result (λ text. IsFoot rest.entry.manner.form status ran.old
         rest.entry.faults.now rest.entry.configured.now text.items) }
-    // Without a form nothing is to be kept in memory.
+    // Without a form nothing needs memory.
     ensures lost { IfErr result (λ _. is_some rest.entry.manner.form ≡ true) }
     ensures counts { ran.new.counts ≡ ran.old.counts }
     ensures status { ran.new.status ≡ ran.old.status }
@@ -224,7 +224,7 @@ fn foot_of(
     }
 }
 
-/// Says that memory ran out for what stands after the issues.
+/// Reports that memory ran out for the foot.
 fn tell_lost<E: ByteSink>(err: &mut E) -> u8
     requires err { E.failed err.old ≡ false }
     ensures took { Took (writer E.ByteSink err.old err.new)
@@ -235,7 +235,7 @@ fn tell_lost<E: ByteSink>(err: &mut E) -> u8
     1
 }
 
-/// Writes what stands after the issues, and says the last words of a run in which no write failed.
+/// Writes the foot, and shows the last message of a run in which no write failed.
 fn close<O: ByteSink, E: ByteSink>(
     alloc: Global,
     ran: &mut RunEnd,
@@ -257,7 +257,7 @@ fn close<O: ByteSink, E: ByteSink>(
     finish(rest, ran, &streams.out, &mut streams.err)
 }
 
-/// Lints the modules whose options are known, and says what else there is.
+/// Lints the modules whose options are known, and shows the other messages.
 fn lint_configured<T: Tree + Drop, O: ByteSink, E: ByteSink>(
     alloc: Global,
     rest: Rest<'_>,
@@ -290,14 +290,14 @@ fn lint_configured<T: Tree + Drop, O: ByteSink, E: ByteSink>(
     close(alloc, &mut ran, rest, streams)
 }
 
-/// What is asked for, and which outputs are read on a terminal.
+/// The request, and the outputs that are read on a terminal.
 #[derive(Clone, Copy)]
 struct Task {
     job: Job,
     terminals: Terminals,
 }
 
-/// Finds the options of modules and lints them, and says what can't be looked at.
+/// Finds the options of modules and lints them, and reports the names that can't be looked at.
 fn lint_collected<T: Tree + Drop, O: ByteSink, E: ByteSink>(
     alloc: Global,
     task: Task,
@@ -358,7 +358,7 @@ fn lint<T: Tree + Drop, O: ByteSink, E: ByteSink>(
     }
 }
 
-/// Takes the names from a device.
+/// Reads the names from a device, and lints their modules.
 fn lint_null<T: Tree + Drop, R: ByteSource, O: ByteSink, E: ByteSink>(
     alloc: Global,
     task: Task,
@@ -389,7 +389,7 @@ fn lint_null<T: Tree + Drop, R: ByteSource, O: ByteSink, E: ByteSink>(
     }
 }
 
-/// Takes the names from the line.
+/// Lints the modules of the line's names.
 fn lint_named<T: Tree + Drop, O: ByteSink, E: ByteSink>(
     alloc: Global,
     task: Task,
@@ -411,7 +411,7 @@ fn lint_named<T: Tree + Drop, O: ByteSink, E: ByteSink>(
     }
 }
 
-/// Does what is asked for.
+/// Does what the options request.
 fn run_request<T: Tree + Drop, R: ByteSource, O: ByteSink, E: ByteSink>(
     alloc: Global,
     terminals: Terminals,
@@ -442,7 +442,7 @@ fn run_request<T: Tree + Drop, R: ByteSource, O: ByteSink, E: ByteSink>(
     lint_named(alloc, task, options.names.as_slice(), files, streams)
 }
 
-/// The program of words that are texts, and names beside them.
+/// The whole program for words that are texts, and other words, which are names.
 fn run_line<'w, T: Tree + Drop, R: ByteSource, O: ByteSink, E: ByteSink>(
     alloc: Global,
     line: Line<'w>,
@@ -471,8 +471,8 @@ fn run_line<'w, T: Tree + Drop, R: ByteSource, O: ByteSink, E: ByteSink>(
     }
 }
 
-/// The whole program over any tree and any devices. The words are those of the process, its name first.
-/// Where an output is read on a terminal, lines of the files stand below what is said of them.
+/// The whole program over any tree and any devices. The words are the process's arguments, with the program's name
+/// first. If an output is read on a terminal, lines of the files follow the messages about them.
 pub fn program<T: Tree + Drop, R: ByteSource, O: ByteSink, E: ByteSink>(
     alloc: Global,
     words: &[&[u8]],
@@ -485,12 +485,12 @@ pub fn program<T: Tree + Drop, R: ByteSource, O: ByteSink, E: ByteSink>(
     requires input { R.failed input.old ≡ false }
     requires out { O.failed streams.old.out ≡ false }
     requires err { E.failed streams.old.err ≡ false }
-    // What was linted and said, and with which status it ends.
+    // The modules that were linted, the messages, and the status.
     ensures ends { IsEnd terminals (map (λ word. word.now) words.now) (R.failed input.new)
         (R.left input.old) (T.files files.old.tree)
         (T.faults files.old.tree) (T.faults files.new.tree)
         (end_of_streams O.ByteSink E.ByteSink streams.old streams.new result) }
-    // Standard input is read only where the words ask for names from there.
+    // Standard input is read only if the words request names from there.
     ensures unread { reads_names (request_of_words (map (λ word. word.now) words.now)) ≡ false
         → input.new ≡ input.old }
     ensures leaves { Leaves T.Tree files.old files.new }

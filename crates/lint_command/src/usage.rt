@@ -1,4 +1,4 @@
-//! Why a line of words has no options, and what is then said.
+//! Why a line of words has no options, and the texts that are then shown.
 
 use rule_set::Rule;
 
@@ -11,33 +11,33 @@ pub enum Usage {
     Version,
     /// The words ask for the list of the rules.
     ListRules,
-    /// The words ask what a rule reports, and why.
+    /// The words request the explanation of a rule.
     Explain(Rule),
     /// The words are no line of this program.
     BadLine,
-    /// `--rules` says a name that stands for no rule.
+    /// A name after `--rules` means no rule.
     UnknownRule,
-    /// `--explain` says a name that stands for no rule.
+    /// The name after `--explain` means no rule.
     UnknownExplained,
-    /// `--rules` takes every rule away.
+    /// `--rules` removes every rule.
     NoRuleLeft,
-    /// `--naming` says no naming.
+    /// The text after `--naming` is no naming.
     BadNaming,
-    /// `--minimum-failure-severity` says no severity.
+    /// The text after `--minimum-failure-severity` is no severity.
     BadSeverity,
-    /// `--shard` says no part.
+    /// The text after `--shard` names no part.
     BadPart,
-    /// `--format` says no form.
+    /// The text after `--format` is no form.
     BadForm,
-    /// `--jobs` says no number of jobs.
+    /// The text after `--jobs` is no number of jobs.
     BadJobs,
-    /// `--null` stands beside names.
+    /// `--null` is given with names.
     NamesTwice,
     /// Memory ran out.
     OutOfMemory,
 }
 
-/// What lines this program has.
+/// The usage: the lines that this program has.
 pub static USAGE: &str = "\
 usage: tfrules-all [--rules LIST] [--naming NAMING]
                    [--minimum-failure-severity SEVERITY] [--force]
@@ -47,13 +47,13 @@ usage: tfrules-all [--rules LIST] [--naming NAMING]
        tfrules-all --explain RULE
 ";
 
-/// Which version this is.
+/// The number of this version.
 pub static NUMBER: &str = "0.3.0";
 
-/// What `--version` says.
+/// The answer to `--version`.
 pub static VERSION: &str = "tfrules-all 0.3.0\n";
 
-/// What `--help` says.
+/// The answer to `--help`.
 pub static HELP: &str = "\
 usage: tfrules-all [--rules LIST] [--naming NAMING]
                    [--minimum-failure-severity SEVERITY] [--force]

@@ -1,4 +1,4 @@
-//! What is said of words that ask for no run.
+//! The answers to words that request no run.
 
 ghost use Rattle.std.specs.Prelude.{◌≡◌, ℕ, List, false, map};
 ghost use Rattle.command_line.specs.Rows.{end_of_streams};
@@ -33,7 +33,7 @@ static BAD_JOBS: &str = "tfrules-all: error: --jobs takes a number from 1 to 999
 
 static NAMES_TWICE: &str = "tfrules-all: error: --null takes no names on the command line\n";
 
-/// This program as its messages have it.
+/// This program, for its messages.
 pub(crate) fn tree_linter() -> Program
     ensures { result ≡ tree_linter }
 {
@@ -45,7 +45,7 @@ pub(crate) fn tree_linter() -> Program
     )
 }
 
-/// Says which word of a line is wrong, and what the lines of this program are.
+/// Shows the wrong word of a line that this program doesn't have, and the usage.
 fn bad_line<O: ByteSink, E: ByteSink>(
     alloc: Global,
     words: &[&str],
@@ -75,7 +75,7 @@ fn list_rules<O: ByteSink, E: ByteSink>(alloc: Global, streams: &mut Streams<O, 
     }
 }
 
-/// Shows what is said of a rule.
+/// Shows the explanation of a rule.
 fn explain<O: ByteSink, E: ByteSink>(alloc: Global, rule: Rule, streams: &mut Streams<O, E>) -> u8
     requires out { O.failed streams.old.out ≡ false }
     requires err { E.failed streams.old.err ≡ false }
@@ -88,7 +88,7 @@ fn explain<O: ByteSink, E: ByteSink>(alloc: Global, rule: Rule, streams: &mut St
     }
 }
 
-/// Says what words are answered that ask for no run.
+/// Shows the answer to words that request no run.
 pub(crate) fn say<O: ByteSink, E: ByteSink>(
     alloc: Global,
     words: &[&str],

@@ -1,4 +1,4 @@
-//! What is said of an option's value that stands for nothing.
+//! The messages about values of options that mean nothing.
 
 ghost use Rattle.std.specs.Prelude.{◌≡◌, ◌++◌, ◌⊎◌, [], IfOk, codes, false, map, unwrap_or};
 ghost use Rattle.clap.specs.Words.{first_of, found_of, rows_of};
@@ -28,7 +28,7 @@ fn value_in<'w>(matches: &ArgMatches<'w>, option: &str) -> &'w str
     }
 }
 
-/// The value of an option of a line that clap takes.
+/// The value of an option of a line that clap accepts.
 fn value_of<'w>(alloc: Global, words: &'w [&'w str], option: &str) -> Result<&'w str, AllocError>
     ensures { IfOk result (λ value. value.now
         ≡ value_in (map (λ word. word.now) words.entry.now) option.now) }
@@ -36,12 +36,12 @@ fn value_of<'w>(alloc: Global, words: &'w [&'w str], option: &str) -> Result<&'w
     let command = command(alloc)?;
     match command.try_get_matches_from(words) {
         Ok(matches) => Ok(value_in(&matches, option)),
-        // The line was taken before, so this is for want of memory.
+        // The line was accepted before, so memory ran out.
         Err(_) => Err(AllocError),
     }
 }
 
-/// The line that says of a value that it stands for nothing.
+/// The line about a value that means nothing.
 fn value_line(alloc: Global, front: &str, value: &str) -> Result<Vec<u8>, AllocError>
     ensures { IfOk result (λ text. text.items
         ≡ error_line tree_linter (front.now ++ in_quotes value.now)) }
@@ -53,7 +53,7 @@ fn value_line(alloc: Global, front: &str, value: &str) -> Result<Vec<u8>, AllocE
     Ok(text)
 }
 
-/// Says of a value that it stands for nothing.
+/// Shows that a value means nothing.
 fn tell_value<O: ByteSink, E: ByteSink>(
     alloc: Global,
     front: &str,
@@ -73,7 +73,7 @@ fn tell_value<O: ByteSink, E: ByteSink>(
     }
 }
 
-/// Says of the value of an option that it stands for nothing.
+/// Shows that the value of an option means nothing.
 pub(crate) fn wrong_value<O: ByteSink, E: ByteSink>(
     alloc: Global,
     words: &[&str],
@@ -95,7 +95,7 @@ pub(crate) fn wrong_value<O: ByteSink, E: ByteSink>(
     }
 }
 
-/// Says which name of `--rules` stands for no rule.
+/// Shows which name after `--rules` means no rule.
 pub(crate) fn unknown_rule<O: ByteSink, E: ByteSink>(
     alloc: Global,
     words: &[&str],

@@ -1,9 +1,10 @@
-//! The new file beside the old one, until it is put in its place.
+//! The new file beside the old one, until it replaces that.
 //!
-//! A run locks the file that it makes at once, and holds the lock until the file is renamed or removed. What an earlier
-//! run left is removed only by whoever has its lock, and while its name still leads to it. So no other run touches the
-//! name of a locked file. One that is taken for a leftover before its own run has locked it is given up by that run: it
-//! doesn't get the lock, or finds, before the rename, that the name leads to another file or to none.
+//! A run locks the file that it makes at once, and holds the lock until the file is renamed or removed. A file that an
+//! earlier run left is removed only by a run that has its lock, and only while its name still leads to it. So no other
+//! run touches the name of a locked file. A file may be taken for a leftover before its own run has locked it; that run
+//! then gives the file up: it doesn't get the lock, or finds, before the rename, that the name leads to another file or
+//! to none.
 
 use crate::folder::{Folder, identity_of};
 use crate::patient;
@@ -23,11 +24,11 @@ const TRIES: u32 = 1_000;
 pub struct Beside {
     path: String,
     file: File,
-    /// As it was made.
+    /// The metadata that the file had when it was made.
     metadata: Metadata,
 }
 
-/// Whether this is what is found of a file.
+/// Whether the metadata that was found is that of the file with this identity.
 fn is_of(found: io::Result<Metadata>, identity: Identity) -> bool {
     match found {
         Ok(metadata) => identity_of(&metadata) == identity,
@@ -44,18 +45,18 @@ impl Beside {
         &self.metadata
     }
 
-    /// Whether its name leads to it still.
+    /// Whether the file's name still leads to it.
     pub fn is_there(&self, rt: &HostRuntime) -> bool {
         let found = patient::symlink_metadata(rt, self.path.as_str());
         is_of(found, identity_of(&self.metadata))
     }
 
-    /// Renames it over another file.
+    /// Renames the file over another.
     pub fn put_over(&self, rt: &HostRuntime, path: &str) -> bool {
         patient::rename(rt, self.path.as_str(), path).is_ok()
     }
 
-    /// Removes it, unless its name is known to lead to another file by now, or to none.
+    /// Removes the file, unless its name is known to lead to another file by now, or to none.
     pub fn remove(&self, rt: &HostRuntime) {
         let is_gone = match patient::symlink_metadata(rt, self.path.as_str()) {
             Ok(found) => identity_of(&found) != identity_of(&self.metadata),
@@ -76,8 +77,8 @@ fn path_beside(rt: &HostRuntime, folder: &Folder, number: u32) -> Result<String,
     }
 }
 
-/// Makes a file of this path, which nobody but its owner can read, and locks it if the file system has locks. None
-/// where another file has the path, or another run takes this one for a leftover.
+/// Makes a file of this path, which nobody but its owner can read, and locks it if the file system has locks. Returns
+/// none if another file has the path, or another run takes this file for a leftover.
 fn make_at(rt: &HostRuntime, path: String) -> Result<Option<Beside>, TreeFault> {
     let opened = OpenOptions::new()
         .write(true)
@@ -105,7 +106,7 @@ fn make_at(rt: &HostRuntime, path: String) -> Result<Option<Beside>, TreeFault> 
     }
 }
 
-/// Makes a file beside the old one under the first name that is free. None where none of them is.
+/// Makes a file beside the old one under the first free name. Returns none if no name is free.
 fn make_new(rt: &HostRuntime, folder: &Folder) -> Result<Option<Beside>, TreeFault> {
     for number in 0..TRIES {
         let path = path_beside(rt, folder, number)?;
@@ -124,14 +125,13 @@ fn is_older(metadata: &Metadata, caller: u32, began: SystemTime) -> bool {
     }
 }
 
-/// Removes a file that was left by a run of the caller that was cut off before this one began, and answers whether it
-/// did.
+/// Removes a file that a run of the caller left when it was cut off before this run began. Returns whether it did.
 fn remove_left(rt: &HostRuntime, path: &str, caller: u32, began: SystemTime) -> bool {
     let identity = match patient::symlink_metadata(rt, path) {
         Ok(metadata) if is_older(&metadata, caller, began) => identity_of(&metadata),
         _ => return false,
     };
-    // A pipe that takes its place isn't waited for where it is opened for both reading and writing.
+    // If a pipe has replaced the file, opening for both reading and writing doesn't wait for it.
     let Ok(file) = OpenOptions::new().read(true).write(true).open(rt, path) else {
         return false;
     };
@@ -141,7 +141,7 @@ fn remove_left(rt: &HostRuntime, path: &str, caller: u32, began: SystemTime) -> 
         && patient::remove_file(rt, path).is_ok()
 }
 
-/// The user of this process, where there is a `/proc`.
+/// The user of this process, if there is a `/proc`.
 fn caller(rt: &HostRuntime) -> Option<u32> {
     match patient::metadata(rt, "/proc/self") {
         Ok(metadata) => Some(metadata.uid()),
@@ -149,7 +149,7 @@ fn caller(rt: &HostRuntime) -> Option<u32> {
     }
 }
 
-/// Makes a file beside the old one in place of the first one that a run left.
+/// Makes a file beside the old one, in place of the first one that a run left.
 fn make_over(
     rt: &HostRuntime,
     folder: &Folder,
@@ -169,7 +169,7 @@ fn make_over(
     Ok(None)
 }
 
-/// Makes a file beside the old one. `began` is when the run did.
+/// Makes a file beside the old one. The run began at `began`.
 pub fn make(
     rt: &HostRuntime,
     folder: &Folder,

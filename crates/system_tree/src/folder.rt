@@ -1,5 +1,5 @@
-//! A folder that is held open, so that a file in it is opened, made, compared and renamed there whatever its path leads to
-//! by then.
+//! A folder that is held open, so that a file in it is opened, made, compared and renamed there, wherever the folder's
+//! path leads by then.
 
 use crate::patient;
 use file_tree::fault::TreeFault;
@@ -9,7 +9,7 @@ use std::io::ErrorKind;
 use std::os::fd::AsRawFd;
 use std::os::unix::fs::MetadataExt;
 
-/// What tells the file or the folder of this metadata from every other one.
+/// The identity of the file or the folder with this metadata.
 pub fn identity_of(metadata: &Metadata) -> Identity {
     Identity {
         device: metadata.dev(),
@@ -17,15 +17,15 @@ pub fn identity_of(metadata: &Metadata) -> Identity {
     }
 }
 
-/// A folder, and by which front its files are named.
+/// A folder, and the front that precedes the names of its files.
 #[derive(Drop)]
 pub struct Folder {
-    /// As the names of its files begin: nothing for the current folder, and else with a `/` at its end.
+    /// The folder's own path: empty for the current folder, otherwise with a `/` at its end.
     path: String,
-    /// None where the folder can't be read.
+    /// None if the folder can't be read.
     handle: Option<File>,
     metadata: Metadata,
-    /// `/proc/PID/fd/N/`: a name after it goes by the handle. Without a handle, or where there is no `/proc`, the path.
+    /// `/proc/PID/fd/N/`: a name after it is looked up in the handle. Without a handle or `/proc`, the folder's path.
     front: String,
     is_held: bool,
 }
@@ -46,7 +46,8 @@ fn whole(path: &str) -> &str {
     if path.is_empty() { "./" } else { path }
 }
 
-/// What a path leads to by now, if that is a folder. Its last part is a link only where the caller named the folder by it.
+/// The metadata that a path has by now, if it leads to a folder. Its last part may be a link only if the caller named
+/// the folder by that link.
 fn found_at(rt: &HostRuntime, path: &str, linked: &[Identity]) -> Result<Metadata, TreeFault> {
     let Ok(metadata) = patient::symlink_metadata(rt, bare(path)) else {
         return Err(TreeFault::Changed);
@@ -64,7 +65,8 @@ fn found_at(rt: &HostRuntime, path: &str, linked: &[Identity]) -> Result<Metadat
     }
 }
 
-/// What stands before names that go by a handle. The number of the process is found quicker than `self`.
+/// The front for names that are looked up in a handle. With the number of the process the system finds it quicker than
+/// with `self`.
 fn front_of(rt: &HostRuntime, handle: &File) -> Result<String, TreeFault> {
     let number = handle.as_raw_fd();
     let front = match patient::read_link(rt, "/proc/self") {
@@ -128,7 +130,7 @@ impl Folder {
         })
     }
 
-    /// Opens a folder, which must be the one that its path has.
+    /// Opens a folder, which must be the one to which its path leads.
     pub fn open(rt: &HostRuntime, path: &str, linked: &[Identity]) -> Result<Folder, TreeFault> {
         let metadata = found_at(rt, path, linked)?;
         match File::open(rt, whole(path)) {
@@ -145,7 +147,7 @@ impl Folder {
         }
     }
 
-    /// What tells the folder from every other one.
+    /// The identity of the folder.
     pub fn identity(&self) -> Identity {
         identity_of(&self.metadata)
     }
@@ -155,7 +157,7 @@ impl Folder {
         self.path.as_str() == path
     }
 
-    /// What stands before the name of a file in the folder.
+    /// The front that precedes the name of a file in the folder.
     pub fn front(&self) -> &str {
         self.front.as_str()
     }
@@ -166,13 +168,13 @@ impl Folder {
         (owner == caller || owner == 0) && self.metadata.mode() & 0o022 == 0
     }
 
-    /// Whether a file of this owner can be replaced here: where the folder isn't held, another user may lead the steps
-    /// into different folders by exchanging one above, so nobody but the caller is given a file.
+    /// Whether a file of this owner can be replaced here. If the folder isn't held, another user may lead the steps
+    /// into different folders by exchanging a folder above, so only the caller is given a file.
     pub fn is_safe(&self, caller: u32, owner: u32) -> bool {
         self.is_held || (owner == caller && self.is_own(caller))
     }
 
-    /// Whether the names in the folder are on the disk.
+    /// Syncs the names in the folder to the disk, and returns whether that succeeded.
     pub fn sync(&self) -> bool {
         match &self.handle {
             Some(handle) => handle.sync_all().is_ok(),

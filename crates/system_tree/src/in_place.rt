@@ -1,16 +1,16 @@
-//! The bytes of a file that is open, compared and written over.
+//! The bytes of an open file, which are compared and overwritten.
 
 use crate::patient;
 use file_tree::fault::TreeFault;
 use std::fs::File;
 use std::io::{ErrorKind, Read, Write};
 
-/// Whether a file of this length has these bytes from where it is read on.
+/// Whether a file of this length has these bytes from its position on.
 pub fn has_rest(file: &mut File, bytes: &[u8], length: u64) -> bool {
     let mut buffer = [0; 16_384];
     let mut at = 0;
     for _ in 0..u64::MAX {
-        // That it ends here needn't be read.
+        // The length already says that the file ends here, so no read is needed.
         if at == bytes.len() && at as u64 == length {
             return true;
         }

@@ -1,11 +1,11 @@
-//! What links lead to, by paths that go on from where the link stands: the path of the current folder isn't needed, which
-//! may have other bytes than UTF-8.
+//! The files that links lead to, by paths relative to the link: the path of the current folder isn't needed, which may
+//! have bytes that aren't UTF-8.
 
 use crate::patient;
 use file_tree::fault::TreeFault;
 use std::io::ErrorKind;
 
-/// How many links are followed at most, as by the system.
+/// The most links that are followed, as many as the system follows.
 const LINKS: u32 = 40;
 
 /// The folder of a path, with the `/` at its end, and the name in it.
@@ -16,7 +16,7 @@ pub fn split_path(path: &str) -> (&str, &str) {
     }
 }
 
-/// A path to what a link has.
+/// A path to the target of a link.
 fn target(rt: &HostRuntime, link: &str) -> Result<String, TreeFault> {
     let target = match patient::read_link(rt, link) {
         Ok(target) => target,
@@ -36,7 +36,7 @@ fn target(rt: &HostRuntime, link: &str) -> Result<String, TreeFault> {
     }
 }
 
-/// A path to what a path leads to, whose last part is no link.
+/// A path to the file or folder that a path leads to; its last part is no link.
 pub fn follow_links(rt: &HostRuntime, path: &str) -> Result<String, TreeFault> {
     let Ok(mut path) = String::from_str(rt.alloc(), path) else {
         return Err(TreeFault::OutOfMemory);
@@ -69,7 +69,7 @@ fn in_folder(rt: &HostRuntime, path: &str) -> Result<String, TreeFault> {
     }
 }
 
-/// A path of the file that a name leads to, which is no link: the name itself where it is none.
+/// A path of the file that a name leads to, whose last part is no link: the name itself if it is none.
 pub fn real_path(rt: &HostRuntime, name: &str) -> Result<String, TreeFault> {
     let path = follow_links(rt, name)?;
     if path.as_str() == name {

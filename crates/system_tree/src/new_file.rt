@@ -1,4 +1,4 @@
-//! A file replaced by a new one, which is put in its place by a rename.
+//! A file that is replaced by a new one, by a rename.
 
 use crate::beside::{Beside, make};
 use crate::folder::{Folder, identity_of};
@@ -14,14 +14,14 @@ use std::io::Write;
 use std::os::unix::fs::{MetadataExt, PermissionsExt};
 use std::time::SystemTime;
 
-/// The bytes that a file is to have still, and those that it gets.
+/// The bytes that a file must still have, and its new bytes.
 #[derive(Clone, Copy)]
 pub struct Texts<'a> {
     pub old: &'a [u8],
     pub new: &'a [u8],
 }
 
-/// A file that was read: by which path, and which file it was.
+/// A file that was read: its path, and its identity.
 #[derive(Clone, Copy)]
 pub struct Origin<'a> {
     pub path: &'a str,
@@ -31,7 +31,7 @@ pub struct Origin<'a> {
 /// A file that is to be replaced.
 #[derive(Drop)]
 pub struct Old<'a> {
-    /// By the front of its folder.
+    /// The path, which begins with the front of its folder.
     pub path: &'a str,
     pub bytes: &'a [u8],
     pub metadata: Metadata,
@@ -44,14 +44,14 @@ struct Contents<'a> {
     sync: bool,
 }
 
-/// What a new file has of the old one.
+/// The rights that a new file has from the old one.
 #[derive(Clone, Copy, PartialEq, Eq)]
 struct Kept {
     owner: bool,
     group: bool,
 }
 
-/// Gives a new file the owner and the group of the old one, or the group alone where only that is allowed.
+/// Gives a new file the owner and the group of the old one, or the group alone if only that is allowed.
 fn give_owner(beside: &Beside, old: &Metadata) -> Kept {
     let own = beside.metadata();
     let uid = old.uid();
@@ -69,9 +69,9 @@ fn give_owner(beside: &Beside, old: &Metadata) -> Kept {
     }
 }
 
-/// Gives a new file its bytes, and the owner and the mode of the old one. Where the owner can't be given, the new file
-/// is the caller's, and runs by nobody else's rights; root, who may give any, takes no file where that fails, as past a
-/// quota. Answers whether the group was kept.
+/// Gives a new file its bytes, and the owner and the mode of the old one. If the owner can't be given, the new file
+/// belongs to the caller, and runs with nobody else's rights. Root may give a file any owner: if that fails, as beyond
+/// a quota, the file isn't replaced. Returns whether the group was kept.
 fn fill(
     beside: &Beside,
     folder: &Folder,
@@ -101,7 +101,7 @@ fn fill(
     Ok(kept.group)
 }
 
-/// Whether nothing was done to a file between these two readings, as far as its times tell.
+/// Whether a file is unchanged between two readings of its metadata, as far as its times show.
 fn is_same(one: &Metadata, other: &Metadata) -> bool {
     identity_of(one) == identity_of(other)
         && one.len() == other.len()
@@ -111,7 +111,7 @@ fn is_same(one: &Metadata, other: &Metadata) -> bool {
         && one.ctime_nsec() == other.ctime_nsec()
 }
 
-/// Whether the folder has the old file still, by its name, as it was opened.
+/// Whether the old file's name in the folder still leads to the file as it was opened.
 fn is_there(rt: &HostRuntime, old: &Old<'_>) -> bool {
     match patient::symlink_metadata(rt, old.path) {
         Ok(now) => is_same(&now, &old.metadata),
@@ -119,8 +119,8 @@ fn is_there(rt: &HostRuntime, old: &Old<'_>) -> bool {
     }
 }
 
-/// Fills a new file and renames it over the old one, if that is unchanged. The old name is asked last: what another
-/// program saves after that is lost.
+/// Fills a new file and renames it over the old one, if that is unchanged. The old name is checked last: changes that
+/// another program saves after that are lost.
 fn put(
     rt: &HostRuntime,
     beside: &Beside,
@@ -149,7 +149,7 @@ fn put(
     })
 }
 
-/// Makes a file beside the old one, and puts it in its place. Where that fails, the file beside it is removed.
+/// Makes a file beside the old one, and replaces that by it. If it can't, it removes the new file.
 fn replace_by_new(
     rt: &HostRuntime,
     folder: &Folder,
@@ -169,8 +169,8 @@ fn replace_by_new(
     }
 }
 
-/// Opens the file that was read, by its path. A pipe in its place isn't waited for where it is opened for both reading
-/// and writing.
+/// Opens the file that was read, by its path. If a pipe has replaced it, opening for both reading and writing doesn't
+/// wait for it.
 fn open_old(rt: &HostRuntime, origin: Origin<'_>) -> Result<(File, Metadata), TreeFault> {
     let Ok(file) = OpenOptions::new()
         .read(true)
@@ -186,9 +186,9 @@ fn open_old(rt: &HostRuntime, origin: Origin<'_>) -> Result<(File, Metadata), Tr
     }
 }
 
-/// Replaces a file in its folder, if it is the one that was read and has its old bytes still. `began` is when the run
-/// did. That the folder has it is asked before anything is made there: so the owner of the old file is given the new one
-/// only where he has a file of the same bytes already.
+/// Replaces a file in its folder, if it is the one that was read and still has its old bytes. The run began at `began`.
+/// Whether the folder has the file is checked before anything is made there: so the owner of the old file is given the
+/// new one only if he already has a file with the same bytes.
 pub fn replace(
     rt: &HostRuntime,
     folder: &Folder,

@@ -1,4 +1,4 @@
-//! Calls that are made again where a signal interrupts them.
+//! Calls that are repeated if a signal interrupts them.
 
 use std::fs::{File, Metadata};
 use std::io::{ErrorKind, Seek, Write};
@@ -7,10 +7,10 @@ use std::path::PathBuf;
 use std::rt::Files;
 use std::{fs, io};
 
-/// How often a call is made.
+/// How often a call is made at most.
 const TURNS: u32 = 1_000;
 
-/// The body of a function that makes a call again where a signal interrupts it.
+/// The body of a function that repeats a call if a signal interrupts it.
 macro_rules! patiently {
     ($call:expr) => {{
         for _ in 0..TURNS {
@@ -23,17 +23,17 @@ macro_rules! patiently {
     }};
 }
 
-/// What a path leads to.
+/// The metadata of the file that a path leads to.
 pub fn metadata(rt: &HostRuntime, path: &str) -> io::Result<Metadata> {
     patiently!(fs::metadata(rt, path))
 }
 
-/// What a path names, which may be a link.
+/// The metadata at a path, which may be a link.
 pub fn symlink_metadata(rt: &HostRuntime, path: &str) -> io::Result<Metadata> {
     patiently!(fs::symlink_metadata(rt, path))
 }
 
-/// What an open file is.
+/// The metadata of an open file.
 pub fn open_metadata(file: &File) -> io::Result<Metadata> {
     patiently!(file.metadata())
 }
@@ -43,7 +43,7 @@ pub fn read_link(rt: &HostRuntime, path: &str) -> io::Result<PathBuf> {
     patiently!(fs::read_link(rt, path))
 }
 
-/// The full path of what a path leads to, links followed.
+/// The full path of the file that a path leads to, without links.
 pub fn canonicalize(rt: &HostRuntime, path: &str) -> io::Result<PathBuf> {
     patiently!(fs::canonicalize(rt, path))
 }
@@ -53,7 +53,7 @@ pub fn open_dir(rt: &HostRuntime, path: &str) -> io::Result<<HostRuntime as File
     patiently!(rt.open_dir(path))
 }
 
-/// Goes to the start of a file.
+/// Moves to the start of a file.
 pub fn rewind(file: &mut File) -> io::Result<()> {
     patiently!(file.rewind())
 }
@@ -73,7 +73,7 @@ pub fn remove_file(rt: &HostRuntime, path: &str) -> io::Result<()> {
     patiently!(fs::remove_file(rt, path))
 }
 
-/// A writer that writes again where a signal interrupts it. It tells no bytes.
+/// A writer that repeats a write if a signal interrupts it. It tells no bytes.
 #[derive(Drop)]
 pub struct Patient<W: Drop> {
     writer: W,

@@ -1,5 +1,5 @@
-//! Files of several names, as hard links give them. The names come apart when a new file is put in the place of one, so each is
-//! told from the others by where it stands, and a link to such a file goes with the name to which it leads.
+//! Files with several names, from hard links. The names part when a new file replaces one of them, so each name has an
+//! identity of its own, by its place; a link to such a file has the identity of the name to which it leads.
 
 use crate::folder::identity_of;
 use crate::link::split_path;
@@ -9,23 +9,23 @@ use file_tree::kind::Identity;
 use std::alloc::Global;
 use std::collections::BTreeMap;
 
-/// The device that these names are told by, which no file is on.
+/// The device in the identities of these names; no file is on it.
 const DEVICE: u64 = u64::MAX;
 
-/// Where a name stands: in which folder, and what it is there.
+/// The place of a name: its folder, and the name there.
 #[derive(PartialEq, Eq, PartialOrd, Ord, Drop)]
 struct Place {
     folder: Identity,
     name: String,
 }
 
-/// The names of such files that were met, each with a number of its own.
+/// The places of the names of such files so far, each with a number of its own.
 #[derive(Drop)]
 pub struct SharedFiles {
     numbers: BTreeMap<Place, u64>,
 }
 
-/// Where a path stands whose last part is no link.
+/// The place of a path whose last part is no link.
 fn place_of(rt: &HostRuntime, path: &str) -> Result<Place, TreeFault> {
     let (folder, name) = split_path(path);
     let folder = if folder.is_empty() { "./" } else { folder };
@@ -48,7 +48,7 @@ impl SharedFiles {
         }
     }
 
-    /// Gives the name that stands there the next number.
+    /// Gives the name at this place the next number.
     fn add(&mut self, place: Place) -> Result<u64, TreeFault> {
         let number = self.numbers.len() as u64;
         match self.numbers.insert(place, number) {
@@ -57,7 +57,7 @@ impl SharedFiles {
         }
     }
 
-    /// What tells the name that a path has, whose last part is no link, from all others.
+    /// The identity of the name at a path, whose last part is no link.
     pub fn identity(&mut self, rt: &HostRuntime, path: &str) -> Result<Identity, TreeFault> {
         let place = place_of(rt, path)?;
         let inode = match self.numbers.get(&place) {

@@ -21,7 +21,7 @@ use std::io::{ErrorKind, Read};
 use std::os::unix::fs::MetadataExt;
 use std::time::SystemTime;
 
-/// How often a read is tried that a signal interrupts.
+/// How often a read is tried if signals interrupt it.
 const TURNS: u32 = 1_000;
 
 /// A file that was opened. It tells no bytes.
@@ -30,14 +30,14 @@ pub struct FileReader {
     file: File,
     /// How many bytes it had when it was opened.
     length: u64,
-    /// How many were read.
+    /// How many bytes were read.
     taken: u64,
     has_ended: bool,
     has_failed: bool,
 }
 
 impl FileReader {
-    /// A reader from the start of a file that had so many bytes.
+    /// A reader from the start of a file that had this many bytes.
     fn new(file: File, length: u64) -> FileReader
         ensures { ⟦<FileReader as ByteSource>⟧.failed result ≡ false }
     {
@@ -50,7 +50,8 @@ impl FileReader {
         }
     }
 
-    /// Counts what a read took. One that left room where the file had its last byte has met its end: it needn't be read.
+    /// Counts the bytes of a read. If they end with the file's last byte and left room, the read has met the end of the
+    /// file, and no further read is needed.
     fn note_taken(&mut self, taken: usize, room: usize)
         ensures { self.new.has_failed ≡ self.old.has_failed }
     {
@@ -59,7 +60,7 @@ impl FileReader {
     }
 }
 
-/// Reads from a file, again where a signal interrupts it.
+/// Reads from a file, again if a signal interrupts it.
 fn read_some(file: &mut File, buffer: &mut [u8]) -> io::Result<usize>
     ensures { ReadsAtMost result buffer.new }
 {
@@ -106,19 +107,19 @@ struct Opened {
     is_linked: bool,
 }
 
-/// The tree of the system, by std. It tells nothing.
+/// The system's tree, by std. It tells nothing.
 #[derive(Drop)]
 pub struct SystemTree {
     rt: HostRuntime,
-    /// When the run began, where there is a clock.
+    /// When the run began, if there is a clock.
     began: Option<SystemTime>,
     opened: Option<Opened>,
     /// The folder of the file that was replaced last.
     held: Option<Folder>,
-    /// The folders that the caller named by links to them, or in whose names he put such a link.
+    /// The folders that the caller named by links to them, as a folder or as the folder of a file.
     linked: Vec<Identity>,
     shared: SharedFiles,
-    /// Whether a folder was read. What the caller names is asked of before that.
+    /// Whether a folder was listed. The caller's names are looked at before that.
     is_walking: bool,
 }
 
@@ -135,12 +136,12 @@ fn kind_in(metadata: &Metadata) -> Kind {
     Kind::Other
 }
 
-/// Whether it is a file of several names.
+/// Whether a file has several names.
 fn is_shared(metadata: &Metadata) -> bool {
     metadata.is_file() && metadata.nlink() > 1
 }
 
-/// A name as the system's calls take it.
+/// A name as a text, which the system's calls take.
 fn text_of(name: &[u8]) -> Result<&str, TreeFault> {
     match std::str::from_utf8(name) {
         Ok(text) => Ok(text),
@@ -157,7 +158,7 @@ fn folder_at(alloc: Global, path: &str) -> Result<Vec<u8>, TreeFault> {
     }
 }
 
-/// Why a link leads nowhere, or nowhere now.
+/// The fault of a link that leads nowhere, or nowhere any more.
 fn link_fault(kind: ErrorKind) -> TreeFault {
     match kind {
         ErrorKind::NotFound | ErrorKind::NotADirectory => TreeFault::DeadLink,
@@ -166,7 +167,7 @@ fn link_fault(kind: ErrorKind) -> TreeFault {
     }
 }
 
-/// Why what stands under a name, which may be a link, has no metadata.
+/// The fault of a name, which may be a link's, that has no metadata.
 fn entry_fault(name: &str, error: &io::Error) -> TreeFault {
     match error.kind() {
         ErrorKind::NotFound | ErrorKind::NotADirectory if name == "-" => TreeFault::NoInput,
@@ -191,7 +192,7 @@ impl SystemTree {
         }
     }
 
-    /// Why what a name leads to has no metadata.
+    /// The fault of a name whose target has no metadata.
     fn metadata_fault(&self, name: &str, error: &io::Error) -> TreeFault {
         match patient::symlink_metadata(&self.rt, name) {
             Ok(metadata) if metadata.is_symlink() => link_fault(error.kind()),
@@ -207,7 +208,7 @@ impl SystemTree {
         }
     }
 
-    /// What a path has of which this is the metadata, and whose last part is no link.
+    /// The kind of a path with this metadata, whose last part is no link.
     fn kind_at(&mut self, path: &str, metadata: &Metadata) -> Result<Kind, TreeFault> {
         if is_shared(metadata) {
             return Ok(Kind::File(self.shared.identity(&self.rt, path)?));
@@ -215,8 +216,8 @@ impl SystemTree {
         Ok(kind_in(metadata))
     }
 
-    /// What a name leads to. A link by way of names that aren't UTF-8 can't be followed here: then it is told by where it stands
-    /// itself, and goes with no other name.
+    /// The kind of the file or folder that a name leads to. A link through names that aren't UTF-8 can't be followed
+    /// here: it has an identity by its own place, which it shares with no other name.
     fn kind_of(&mut self, name: &str) -> Result<Kind, TreeFault> {
         let metadata = self.metadata_of(name)?;
         if !is_shared(&metadata) {
@@ -229,7 +230,7 @@ impl SystemTree {
         }
     }
 
-    /// Notes the folder of a path, if the last part of the path is a link.
+    /// Records the folder of a path, if the last part of the path is a link.
     fn note_link(&mut self, path: &str) -> Result<(), TreeFault> {
         match patient::symlink_metadata(&self.rt, path) {
             Ok(metadata) if metadata.is_symlink() => {}
@@ -245,7 +246,7 @@ impl SystemTree {
         }
     }
 
-    /// Notes the folder that a name which the caller gave stands for, or the folder of the file.
+    /// Records the folder that a name from the caller stands for, or the folder of the file.
     fn note_given(&mut self, name: &[u8], kind: Kind) -> Result<(), TreeFault> {
         let Ok(path) = tidy(self.rt.alloc(), name) else {
             return Err(TreeFault::OutOfMemory);
@@ -305,7 +306,7 @@ impl SystemTree {
         Err(TreeFault::UnreadableFolder)
     }
 
-    /// The full path of a folder. One that isn't UTF-8 isn't known here.
+    /// The full path of a folder. A path that isn't UTF-8 isn't known here.
     fn full_path_of(&self, folder: &[u8]) -> Result<Vec<u8>, TreeFault> {
         let path = match patient::canonicalize(&self.rt, text_of(folder)?) {
             Ok(path) => path,
@@ -333,8 +334,8 @@ impl SystemTree {
         }
     }
 
-    /// Opens a file. What it is is asked first, so that no pipe is waited for, and again of what was opened: a pipe that
-    /// takes its place in between is waited for.
+    /// Opens a file. The kind of the name is checked first, so that the call doesn't wait for a pipe, and the kind of
+    /// the opened file afterwards. If a pipe replaces the file in between, the call waits for it.
     fn open(&mut self, name: &[u8]) -> Result<FileReader, TreeFault>
         ensures { IfOk result (λ r. ⟦<FileReader as ByteSource>⟧.failed r ≡ false) }
     {
@@ -369,7 +370,7 @@ impl SystemTree {
         }
     }
 
-    /// Replaces the file of a path, which was opened last, in its folder, which is held open for the next one.
+    /// Replaces the file of a path, which was opened last, in its folder, which stays open for the next file.
     fn replace_at(
         &mut self,
         path: &str,

@@ -1,4 +1,4 @@
-//! The words with which the process was called, as bytes.
+//! The arguments of the process, as bytes.
 
 ghost use Rattle.std.specs.Prelude.{◌≡◌, IfOk, map};
 
@@ -6,10 +6,10 @@ use std::alloc::{AllocError, Global};
 use std::env::FillError;
 use std::rt::Env;
 
-/// How many bytes of a word there is room for at first.
+/// How many bytes a word has room for at first.
 const FIRST_ROOM: usize = 256;
 
-/// The word of this number, where there is one.
+/// The word of this number, if there is one.
 fn word_at(rt: &HostRuntime, number: usize) -> Result<Option<Vec<u8>>, AllocError> {
     let mut room = FIRST_ROOM;
     for _ in 0..usize::BITS {
@@ -27,7 +27,7 @@ fn word_at(rt: &HostRuntime, number: usize) -> Result<Option<Vec<u8>>, AllocErro
     Err(AllocError)
 }
 
-/// The words of the process, its name first.
+/// The words of the process, with the program's name first.
 pub fn process_words(rt: &HostRuntime) -> Result<Vec<Vec<u8>>, AllocError> {
     let mut words = Vec::new(rt.alloc());
     for number in 0..usize::MAX {
@@ -43,7 +43,7 @@ pub fn process_words(rt: &HostRuntime) -> Result<Vec<Vec<u8>>, AllocError> {
     Err(AllocError)
 }
 
-/// The same bytes, borrowed.
+/// The words, borrowed.
 pub fn borrowed_words<'a>(alloc: Global, words: &'a [Vec<u8>]) -> Result<Vec<&'a [u8]>, AllocError>
     ensures { IfOk result
         (λ borrowed. map (λ word. word.now) borrowed.items

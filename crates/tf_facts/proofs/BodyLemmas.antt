@@ -1,4 +1,4 @@
--- What follows a block in the outline, item by item.
+-- The labels and attributes after a block in the outline, item by item.
 use Rattle.std.proofs.Common.{◌≡◌, ◌∙◌, ap, sym, refl, ℕ, suc, zero, ◌+◌, ◌<◌, ◌≤◌, Bool, true, false, cond, List, [], ◌∷◌, drop, length, arith}
 use Rattle.std.specs.Prelude.{◌||◌, ◌==◌, Option, Some, None, codes, find, slice_get}
 use Rattle.std.specs.Bool.{then_some}
@@ -43,7 +43,7 @@ module _ (ts : List Numbered) (items : List Item) (n : ℕ) (i : Item) (e : slic
 pub attributes_none : (ts : List Numbered) (items : List Item) (n : ℕ) → length items ≤ n → attributes_in ts (drop n items) ≡ []
 attributes_none ts items n all = ap (attributes_in ts) (drop_all n items all)
 
--- ---- what attributes say together
+-- ---- several attributes together
 
 or_false : (b : Bool) → (b || false) ≡ b
 or_false true = refl
@@ -89,7 +89,7 @@ with_more None more = refl
 with_more (Some a) more =
     same_body _ _ _ _ _ _ _ _ (has_both (codes "description") a more) (has_both (codes "type") a more) (has_both (codes "version") a more) (first_value a more (bytes_eq a.name (codes "source")))
 
--- what was said, with what is still said, is what the body says
+-- the body so far, together with the remaining attributes, is the body of the block
 abbrev pub IsBody : List Numbered → List Item → ℕ → Body → ℕ → Type 0
 IsBody ts items from said n = both said (body_of (attributes_in ts (drop n items))) ≡ body_of (attributes_in ts (drop from items))
 
@@ -112,11 +112,11 @@ module _ (ts : List Numbered) (items : List Item) (from : ℕ) (said : Body) (n 
         ∙ ap (λ more. both said (body_of more)) (sym (attributes_here ts items n i e ∙ ap (λ b. cond b (with_attribute (attribute ts i) (attributes_in ts (drop (n + 1) items))) []) within))
         ∙ h
 
-    -- an item that says nothing
+    -- an item that is no attribute of the block changes nothing
     pub body_silent : is_inside i ≡ true → attribute ts i ≡ None → IsBody ts items from said (n + 1)
     body_silent within none = body_more within said (sym (both_none said) ∙ ap (λ (o : Option Attribute). both said (body_of (with_attribute o []))) (sym none))
 
--- ---- what one item says
+-- ---- one item
 
 only_value : (a : Attribute) (b : Bool) → then_some b (value_of_attribute a) ≡ option_map value_of_attribute (cond b (Some a) None)
 only_value a true = refl

@@ -16,14 +16,14 @@ use Rattle.tf_facts.specs.declared.part.Part.{Part}
 use Rattle.tf_facts.specs.declared.part.Part.TheVariants as part
 use Rattle.tf_facts.proofs.SeenLemmas.{seen_here}
 
--- what a part says of a kind that is seen
+-- the effects of a part of the walk fit the kind of a significant token
 pub record Says (k : Kind) (dot quote opener closer : Bool) (move : ℕ → ℕ) : Type 0 where
   pub seen : is_passed_over k ≡ false
   pub dot_is : is kind.Dot k ≡ dot
   pub quote_is : is kind.QuoteOpen k ≡ quote
   pub closer_is : (closer_count k == 1) ≡ closer
   pub moves : (depth : ℕ) → deepen depth k ≡ move depth
-  -- only what opens something opens an interpolation
+  -- only an opener opens an interpolation
   pub opened : (here known : Bool) → (opener ≡ true → here ≡ known) → (is kind.InterpOpen k && here) ≡ (is kind.InterpOpen k && known)
 
 flat : (d : ℕ) → d + 0 - 0 ≡ d
@@ -87,7 +87,7 @@ pub past_comment : (k : Kind) → part_of k ≡ part.LineComment → is_passed_o
 past_comment kind.LineComment e = refl
 past_comment _ e = absurd (cc)
 
--- only of a line comment the walk says that it is one
+-- the walk takes only line comments for line comments
 pub no_comment : (k : Kind) (p : Part) → part_of k ≡ p → (part.LineComment ≡ p → ⊥) → is kind.LineComment k ≡ false
 no_comment kind.LineComment p e other = absurd (other e)
 no_comment _ p e other = refl
@@ -97,7 +97,7 @@ and_false true = refl
 and_false false = refl
 
 module _ (ts : List Lexeme) (n : ℕ) (t : Lexeme) (e : slice_get ts n ≡ Some t) where
-  -- of a token that is seen
+  -- the step at a significant token
   from_here : (d : ℕ) → is_passed_over t.kind ≡ false → closes_before_quote ts d n
       ≡ begins_with_close (cond (is_closed d && (closer_count t.kind == 1)) (seen_from ts (n + 1)) (after_closer (deepen d t.kind) (seen_from ts (n + 1))))
   from_here d seen = ap (λ s. begins_with_close (after_closer d s)) (seen_here ts n t e seen)

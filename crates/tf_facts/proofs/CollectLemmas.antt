@@ -1,4 +1,4 @@
--- A walk that puts references into a set, token by token.
+-- A walk that inserts references into a set, token by token.
 use Rattle.std.proofs.Common.{◌≡◌, ◌∙◌, ap, sym, refl, drop, ℕ, suc, zero, ◌+◌, ◌-◌, ◌≤◌, ◌<◌, ◌⊎◌, inl, inr, ◌≢◌, arith, Bool, true, false, cond, List, [], ◌∷◌, ◌++◌, length, append_assoc, subst}
 use Rattle.std.specs.Prelude.{◌&&◌, None, Option, Some, slice_get}
 use Rattle.std.specs.List.{list_any}
@@ -18,7 +18,7 @@ use Rattle.tf_facts.specs.VariableBlocks.{ArePassed, Extends}
 use Rattle.tf_facts.proofs.PatternLemmas.{there_is}
 use Rattle.tf_facts.proofs.SeenLemmas.{after_past, after_seen, seen_here, seen_past, seen_none}
 
--- ---- what follows a word
+-- ---- the tokens after a word
 
 no_dot : (d : Numbered) (rest : List Numbered) → is kind.Dot d.kind ≡ false → name_after (d ∷ rest) ≡ None
 no_dot d [] e = refl
@@ -37,12 +37,12 @@ cond-same false x = refl
 
 -- ---- the walk
 
--- what is in the set, with what is left, is what is to be in it; and it has what it had in front
+-- the set, together with the remaining references, is what it is to become; and it begins with its old texts
 pub record IsCollected (own : List VariableSpan) (ts : List Lexeme) (old new : List (List ℕ)) (after_dot : Bool) (n : ℕ) : Type 0 where
   pub left : insert_all bytes_eq new (references_from own after_dot (seen_from ts n)) ≡ insert_all bytes_eq old (references_from own false (seen_from ts 0))
   pub kept : Extends old new
 
--- a loop has come to a number, with so many blocks passed
+-- the loop has come to token `n`, and has passed `next` blocks
 pub record IsWalked (own : List VariableSpan) (ts : List Lexeme) (old new : List (List ℕ)) (after_dot : Bool) (next count n : ℕ) : Type 0 where
   pub collected : IsCollected own ts old new after_dot n
   pub passed : ArePassed own next n
@@ -63,7 +63,7 @@ module _ (own : List VariableSpan) (ts : List Lexeme) (old : List (List ℕ)) wh
     kept = h.kept;
   }
 
-  -- after a dot nothing is put in
+  -- after a dot no reference is inserted
   pub skips : (new : List (List ℕ)) (n : ℕ) (t : Lexeme) → slice_get ts n ≡ Some t → is_passed_over t.kind ≡ false → IsCollected own ts old new true n
       → IsCollected own ts old new (is kind.Dot t.kind) (n + 1)
   skips new n t e seen h = record {
@@ -98,7 +98,7 @@ module _ (own : List VariableSpan) (ts : List Lexeme) (old : List (List ℕ)) wh
         kept = rw put (extends_all new here h.kept);
       }
 
-  -- the same, where the loop's variables are equal to these
+  -- after a dot no reference is inserted, with the loop's variables given by equations
   pub skipped : (new into : List (List ℕ)) (after dot : Bool) (n : ℕ) (t : Lexeme) → slice_get ts n ≡ Some t → is_passed_over t.kind ≡ false → after ≡ true → dot ≡ is kind.Dot t.kind → into ≡ new
       → IsCollected own ts old new after n → IsCollected own ts old into dot (n + 1)
   skipped new into after dot n t e seen is_after is same h =
@@ -120,7 +120,7 @@ module _ (own : List VariableSpan) (ts : List Lexeme) (old : List (List ℕ)) wh
       collected new new new false dot n t e seen refl is_dot refl
       (sym (ap (λ b. insert_all bytes_eq new (unless_self_reference own n (cond b (by_name t.text (name_after (seen_from ts (n + 1))) (drop 2 (seen_from ts (n + 1)))) None))) none)) h
 
-  -- a word that no name after a dot follows begins no reference
+  -- a word without a name after a dot begins no reference
   pub no_name : (new : List (List ℕ)) (after dot : Bool) (n : ℕ) (t : Lexeme) → slice_get ts n ≡ Some t → is_passed_over t.kind ≡ false → name_after (seen_from ts (n + 1)) ≡ None → after ≡ false → dot ≡ is kind.Dot t.kind
       → IsCollected own ts old new after n → IsCollected own ts old new dot (n + 1)
   no_name new after dot n t e seen none free same h =
@@ -128,7 +128,7 @@ module _ (own : List VariableSpan) (ts : List Lexeme) (old : List (List ℕ)) wh
       (sym (ap (λ (o : Option Numbered). insert_all bytes_eq new (unless_self_reference own n (cond (is kind.Ident t.kind) (by_name t.text o (drop 2 (seen_from ts (n + 1)))) None))) none
       ∙ ap (λ (r : Option (List ℕ)). insert_all bytes_eq new (unless_self_reference own n r)) (cond-same (is kind.Ident t.kind) None))) h
 
-  -- so does one that is passed over
+  -- a token that is no identifier begins no reference, whether it is significant or not
   pub no_ident : (new : List (List ℕ)) (n : ℕ) (t : Lexeme) → slice_get ts n ≡ Some t → is kind.Ident t.kind ≡ false → IsCollected own ts old new (after_dot ts n) n → IsCollected own ts old new (after_dot ts (n + 1)) (n + 1)
   no_ident new n t e none h = by (is_passed_over t.kind) refl
     where
@@ -136,13 +136,13 @@ module _ (own : List VariableSpan) (ts : List Lexeme) (old : List (List ℕ)) wh
       by true passed = let P : Bool → Type 0 = λ b. IsCollected own ts old new b (n + 1) in subst P (sym (after_past ts n (n + 1) refl t e passed)) (passes new (after_dot ts n) n t e passed h)
       by false seen = no_word new (after_dot ts n) (after_dot ts (n + 1)) n t e seen none (after_seen ts n (n + 1) refl t e seen) h
 
-  -- a word that no name after a dot follows begins no reference, whatever is before it
+  -- a word without a name after a dot begins no reference, whatever is before it
   pub no_after : (new : List (List ℕ)) (after dot : Bool) (n : ℕ) (t : Lexeme) → slice_get ts n ≡ Some t → is_passed_over t.kind ≡ false → name_after (seen_from ts (n + 1)) ≡ None → dot ≡ is kind.Dot t.kind
       → IsCollected own ts old new after n → IsCollected own ts old new dot (n + 1)
   no_after new true dot n t e seen none is_dot h = skipped new new true dot n t e seen refl is_dot refl h
   no_after new false dot n t e seen none is_dot h = no_name new false dot n t e seen none refl is_dot h
 
-  -- nor do many
+  -- several tokens that are no identifiers begin no reference
   pub no_idents : (new : List (List ℕ)) (n d m : ℕ) → m ≡ n + d → m ≤ length ts → AreNoIdents ts n m → IsCollected own ts old new (after_dot ts n) n → IsCollected own ts old new (after_dot ts m) m
   no_idents new n zero m at within none h = let e : n ≡ m = omega (arith, at) in let P : ℕ → Type 0 = λ k. IsCollected own ts old new (after_dot ts k) k in subst P e h
   no_idents new n (suc d) m at within none h =

@@ -52,7 +52,7 @@ module _ (c : FoundComment) (text : List ℕ) (slashes : c.has_slashes ≡ has_s
 
 -- ---- all tokens, from the last to the first
 
--- what was found is all that the tokens from a number on say
+-- the comments that were found are those of the tokens from a number on
 abbrev pub AreCommentsFrom : List Lexeme → List FoundComment → ℕ → Type 0
 AreCommentsFrom ts found n = reverse (map comment found) ≡ comments (drop n (numbered ts))
 
@@ -62,7 +62,7 @@ comments_begin ts found n past none = ap (λ f. reverse (map comment f)) none �
 pub comments_end : (ts : List Lexeme) (found turned : List FoundComment) (n : ℕ) → n ≡ 0 → turned ≡ reverse found → AreCommentsFrom ts found n → map comment turned ≡ comments (numbered ts)
 comments_end ts found turned n at is h = ap (map comment) is ∙ map-reverse comment found ∙ h ∙ ap (λ k. comments (drop k (numbered ts))) at
 
--- of one token there is one comment at most
+-- a token is one comment at most
 one_turned : (c : Comment ℕ) (a b : Bool) → reverse (cond a (cond b (c ∷ []) []) []) ≡ cond a (cond b (c ∷ []) []) []
 one_turned c true true = refl
 one_turned c true false = refl
@@ -79,7 +79,7 @@ module _ (ts : List Lexeme) (n m : ℕ) (at : m ≡ n + 1) (less : n < length ts
   there : (t : Lexeme) × (slice_get ts n ≡ Some t)
   there = there_is ts n less
 
-  -- what the token says, and what those after it do
+  -- the comments of the token, and those of the tokens after it
   split : comment_of (number_of n there.0) ++ comments (drop (n + 1) (numbered ts)) ≡ comments (drop n (numbered ts))
   split = ap comments (ap (λ r. number_of n there.0 ∷ r) (numbered_at ts (n + 1)) ∙ sym (numbered_here ts n there.0 there.1))
 

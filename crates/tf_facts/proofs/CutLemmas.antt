@@ -11,7 +11,7 @@ use Rattle.tf_facts.specs.Inner.Cuts.{after_cut, parts_of}
 use Rattle.tf_facts.specs.Sources.{is_address}
 use Rattle.tf_facts.specs.declared.cut.Cut.{Cut}
 
--- with these before the first part
+-- the parts, with these bytes before the first
 abbrev pub prepended : List ℕ → List (List ℕ) → List (List ℕ)
 prepended xs [] = xs ∷ []
 prepended xs (part ∷ parts) = (xs ++ part) ∷ parts
@@ -29,7 +29,7 @@ prepended-onto : (xs : List ℕ) (x : ℕ) (parts : List (List ℕ)) → prepend
 prepended-onto xs x [] = refl
 prepended-onto xs x (part ∷ parts) = ap (λ r. r ∷ parts) (sym (append_assoc xs (x ∷ []) part))
 
--- the parts, where so many bytes from the front on are passed
+-- the parts of the text, after `n` bytes at its front are passed
 abbrev pub ArePassed : List ℕ → ℕ → ℕ → Type 0
 ArePassed text byte n = slice_split (λ b. b == byte) text ≡ prepended (take n text) (slice_split (λ b. b == byte) (drop n text))
 
@@ -79,7 +79,7 @@ first_split p (x ∷ xs) = by (p x) (slice_split p xs) (first_split p xs)
 pub part_is : (text : List ℕ) (byte : ℕ) (k : Cut) → parts_of byte k ≡ slice_split (λ b. b == byte) text → k.part.now ≡ before_first (λ b. b == byte) text
 part_is text byte k e = ap first_or_none e ∙ first_split (λ b. b == byte) text
 
--- ---- five parts or more are no address
+-- ---- five or more parts are no address
 
 pub rest_is : (text : List ℕ) (byte : ℕ) (k : Cut) (rest : Bor (List ℕ)) → k.rest ≡ Some rest → parts_of byte k ≡ slice_split (λ b. b == byte) text → slice_split (λ b. b == byte) text ≡ k.part.now ∷ slice_split (λ b. b == byte) rest.now
 rest_is text byte k rest is e = sym e ∙ ap (λ o. k.part.now ∷ after_cut (λ (r : Bor (List ℕ)). r.now) byte o) is
@@ -109,7 +109,7 @@ pub too_many : (s1 s2 s3 s4 : List (List ℕ)) (a b c : List ℕ) (k : Cut) (byt
 too_many s1 s2 s3 s4 a b c k byte e1 e2 e3 e4 some =
     sym (ap is_address (e1 ∙ ap (λ r. a ∷ r) (e2 ∙ ap (λ r. b ∷ r) (e3 ∙ ap (λ r. c ∷ r) (sym e4)))) ∙ five a b c k.part.now byte k.rest some)
 
--- ---- one part more
+-- ---- one more part
 
 or_false : (b : Bool) → (b || false) ≡ b
 or_false true = refl

@@ -1,4 +1,4 @@
--- What blocks declare, part by part.
+-- The declarations of blocks, part by part.
 use Rattle.std.proofs.Common.{◌≡◌, ◌∙◌, ap, sym, refl, ℕ, suc, zero, ◌+◌, ◌<◌, ◌≤◌, Bool, true, false, cond, not, List, [], ◌∷◌, ◌++◌, append_assoc, map, drop, length, arith}
 use Rattle.std.specs.Prelude.{◌==◌, Option, Some, None, IfSome, codes, find, slice_get}
 use Rattle.std.specs.Option.{option_map}
@@ -44,7 +44,7 @@ climbs_drop from to zero is c = (from, c)
 climbs_drop from to (suc n) [] c = (from, c)
 climbs_drop from to (suc n) (i ∷ is) c = climbs_drop (past i) to n is c.1
 
--- an attribute ends within
+-- an attribute ends within the block
 ends_within : (ts : List Numbered) (p : Attribute → Bool) (from to : ℕ) (is : List Item) (a : Attribute) → Climbs from is to → find p (attributes_in ts is) ≡ Some a → a.end ≤ to
 ends_within ts p from to [] a c e = absurd (cc)
 ends_within ts p from to (item.Attribute level name first end ∷ is) a c e = by (λ h. ends_within ts p end to is a c.1 h) (is_closed level) (level == 1) e
@@ -132,7 +132,7 @@ module _ (ts : List Numbered) (token : ℕ) (texts : List (List ℕ)) (attribute
 
 -- ---- the attributes of `locals`
 
--- what was found, with what is still to be found, is all of it
+-- the declarations that were found, together with the remaining ones, are those of the block
 abbrev pub AreLocals : List Numbered → List Item → ℕ → List Declared → List Declared → ℕ → Type 0
 AreLocals ts items from old new n = map declaration new ++ map of_local (attributes_in ts (drop n items)) ≡ map declaration old ++ map of_local (attributes_in ts (drop from items))
 

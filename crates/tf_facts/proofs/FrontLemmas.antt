@@ -32,7 +32,7 @@ module _ (passes : ℕ → Bool) (text : List ℕ) (n : ℕ) (h : n < length tex
       rear ∙ ap (λ b. reverse (cond b (without_front passes (reverse (take n text))) (get_or text n 0 ∷ reverse (take n text)))) e
       ∙ ap reverse (sym last) ∙ reverse-reverse (take (n + 1) text)
 
--- the same with the number of the byte after
+-- a byte at the end that passes is removed, where `end` is the number after its own
 pub end_past_at : (passes : ℕ → Bool) (text : List ℕ) (end n : ℕ) → end ≡ n + 1 → n < length text → passes (get_or text n 0) ≡ true → without_end passes (take end text) ≡ without_end passes (take n text)
 end_past_at passes text end n at h e = ap (λ k. without_end passes (take k text)) at ∙ end_past passes text n h e
 

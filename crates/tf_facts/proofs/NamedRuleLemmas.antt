@@ -1,4 +1,4 @@
--- What a part of a silencing comment names.
+-- The rules that a part of a silencing comment names.
 use Rattle.std.proofs.Common.{◌≡◌, ◌∙◌, ap, sym, refl, ℕ, Bool, true, false, List, subst}
 use Rattle.std.specs.Prelude.{◌||◌, Option, Some, None, MatchOption, codes, find}
 use Rattle.std.specs.Str.{bytes_eq}
@@ -12,7 +12,7 @@ pub or_false : (b : Bool) → (b || false) ≡ b
 or_false true = refl
 or_false false = refl
 
--- what a part names, where it is not `all`
+-- the rule that a part names, if it isn't `all`
 pub names_one : (part : List ℕ) (found : Rule) → bytes_eq part (codes "all") ≡ false → Some found ≡ find (λ rule. bytes_eq (rule_name rule) part) all_rules → (rule : Rule) → is_rule rule found ≡ names rule part
 names_one part found other is rule =
     let same : rule_name found ≡ part = subst (λ (o : Option Rule). MatchOption o ((r : Rule) → rule_name r ≡ part → ⊥) (λ r. rule_name r ≡ part)) (sym is) (by_name part) in

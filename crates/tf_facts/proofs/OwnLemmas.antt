@@ -1,4 +1,4 @@
--- Whether a reference stands in the block of its own variable.
+-- Whether a reference is a self-reference: whether it stands in the block of the variable that it names.
 use Rattle.std.proofs.Common.{MatchBool, ◌≡◌, ◌∙◌, ap, sym, refl, ℕ, suc, zero, ◌+◌, ◌≤◌, ◌<◌, Bool, true, false, cond, max, List, [], ◌∷◌, ◌++◌, map, length, drop, arith, subst}
 use Rattle.std.specs.Prelude.{◌&&◌, ◌||◌, nat_le, nat_lt, codes, Some, None, Option, slice_get, filter, ◌==◌}
 use Rattle.std.proofs.lemmas.Bool.{lt-ltb, le-ltb, lt-leb}
@@ -74,7 +74,7 @@ one_more_passed blocks next number o e ends p = record {
     none true c = refl
     none false c = refl
 
--- blocks from a number on hold no token before it
+-- blocks from a number on contain no token before it
 none_before : (from number : ℕ) (text : List ℕ) (own : List VariableSpan) → number < from → Apart from own → is_self_reference own number text ≡ false
 none_before from number text [] h a = refl
 none_before from number text (o ∷ own) h a =
@@ -86,7 +86,7 @@ apart_drop from zero own a = (from, a)
 apart_drop from (suc n) [] a = (from, tt)
 apart_drop from (suc n) (o ∷ own) a = apart_drop (max o.first o.end) n own a.1
 
--- where the next block ends after the token, it alone decides
+-- if the next block ends after the token, that block alone decides
 pub decides : (blocks : List VariableBlock) (next number : ℕ) (o : VariableBlock) (name : List ℕ) → slice_get blocks next ≡ Some o → number < o.end → Apart 0 (map block_view blocks) → ArePassed (map block_view blocks) next number
     → (nat_le o.first number && bytes_eq o.name.now name) ≡ is_self_reference (map block_view blocks) number (variable_reference name)
 decides blocks next number o name e inside a p =
@@ -113,7 +113,7 @@ decides blocks next number o name e inside a p =
     by false true c h = sym h
     by false false c h = sym h
 
--- where no block is left, none holds the token
+-- if no block is left, none contains the token
 pub none_left : (blocks : List VariableBlock) (next number : ℕ) (text : List ℕ) → length blocks ≤ next → ArePassed (map block_view blocks) next number → is_self_reference (map block_view blocks) number text ≡ false
 none_left blocks next number text h p = sym (p.same number text (omega arith)) ∙ ap (λ own. is_self_reference own number text) (all_gone blocks next h)
   where
@@ -134,7 +134,7 @@ apart_from : (from later : ℕ) (own : List VariableSpan) → from ≤ later →
 apart_from from later [] h a = tt
 apart_from from later (o ∷ own) h a = (omega (arith, h, a.0), a.1)
 
--- one at most
+-- one declaration at most
 abbrev AtMostOne : List (Declaration ℕ) → Type 0
 AtMostOne [] = Unit {0}
 AtMostOne (d ∷ []) = Unit {0}

@@ -43,7 +43,7 @@ module _ (ts : List Numbered) (token : ℕ) (texts : List (List ℕ)) (attribute
       cond (bytes_eq word (codes "output")) (Some (record { kind = declares.Output; labels = 1 })) (cond (bytes_eq word (codes "module")) (Some (record { kind = declares.Module; labels = 1 }))
       (cond (bytes_eq word (codes "resource")) (Some (record { kind = declares.Resource; labels = 2 })) (cond (bytes_eq word (codes "data")) (Some (record { kind = declares.Data; labels = 2 })) None)))
 
-  -- what a block of this kind with one label declares
+  -- the declaration of a block of this kind with one label
   abbrev pub a_variable : Declaration ℕ
   a_variable = record {
     kind = declares.Variable;
@@ -124,7 +124,7 @@ module _ (ts : List Numbered) (items : List Item) (n level token end : ℕ) (e :
   pub owner_other : is_closed level ≡ true → bytes_eq (text_of ts token) (codes "variable") ≡ false → [] ≡ variable_blocks_of_item ts x (drop (n + 1) items)
   owner_other top other = owner_none top (no_variable ts token (labels_in ts rest) (attributes_in ts rest) (text_of ts token) other)
 
-  -- a block of this kind with more labels, or none
+  -- a block of this kind with several labels, or none
   pub owner_unfit : is_closed level ≡ true → bytes_eq (text_of ts token) (codes "variable") ≡ true → (length (labels_in ts (drop (n + 1) items)) == 1) ≡ false → [] ≡ variable_blocks_of_item ts x (drop (n + 1) items)
   owner_unfit top same unfit =
       owner_none top (one_variable ts token (labels_in ts rest) (attributes_in ts rest) (text_of ts token) same

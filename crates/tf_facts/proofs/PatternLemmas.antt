@@ -20,7 +20,7 @@ there_is [] n h = absurd (omega arith)
 there_is (t ∷ ts) zero h = (t, refl)
 there_is (t ∷ ts) (suc n) h = there_is ts n (omega arith)
 
--- ---- what is ahead
+-- ---- the tokens ahead
 
 abbrev pub number_first : List Numbered → Bool
 number_first [] = false
@@ -48,7 +48,7 @@ wrapped_here t (x ∷ rest) = and_then (is kind.QuoteOpen t.kind) (is kind.Inter
 
 -- ---- the walk
 
--- a number more, where the test holds of its token
+-- one more number, if the test holds of its token
 found_more : (test : List Numbered → Bool) (t : Numbered) (rest : List Numbered) (b : Bool) (old new : List ℕ) → b ≡ test (t ∷ rest) → new ≡ old ++ cond b (t.number ∷ []) [] → reverse old ≡ numbers_where test rest
     → reverse new ≡ numbers_where test (t ∷ rest)
 found_more test t rest b old new is pushed h =
@@ -122,7 +122,7 @@ module _ (ts : List Lexeme) (n m : ℕ) (at : m ≡ n + 1) (indexes interpolatio
       same : seen_from ts (n + 1) ≡ seen_from ts n
       same = sym (seen_past ts n t e (ap is_passed_over (sym is_k) ∙ passed))
 
-  -- a token that is seen
+  -- a significant token
   walk_over : (dot quote opener closer : Bool) (move : ℕ → ℕ) (dots quotes : List ℕ) (rest : List Bool) (here : Bool) → Says t.kind dot quote opener closer move
       → dots ≡ indexes ++ cond (dot && is kind.Number next) (n ∷ []) [] → quotes ≡ interpolations ++ cond (quote && (is kind.InterpOpen next && closed)) (n ∷ []) []
       → (opener ≡ true → here ≡ get_or (reverse openers) 0 false) → AreAhead ts rest n

@@ -7,7 +7,7 @@ use Rattle.hcl_grammar.proofs.NumberedLemmas.{numbered_at, numbered_here}
 use Rattle.tf_facts.specs.Inner.Seen.{number_of}
 use Rattle.tf_facts.specs.Inner.Values.{in_value, values}
 
--- from a token on
+-- the tokens of the value from one of them on
 pub values_step : (ts : List Lexeme) (n to : ℕ) (t : Lexeme) → slice_get ts n ≡ Some t → n < to → values ts n to ≡ cond (in_value (number_of n t)) (number_of n t ∷ values ts (n + 1) to) (values ts (n + 1) to)
 values_step ts n to t e h =
     let one : to - n ≡ suc (to - (n + 1)) = omega arith in

@@ -1,4 +1,4 @@
--- The line comments that say something: those that begin with `//`, and those that silence a rule.
+-- The line comments that rules need: those that begin with `//`, and those that silence a rule.
 use Rattle.std.specs.Prelude.{ℕ, ◌||◌, Bool, true, false, List, [], ◌∷◌, if◌then◌else◌}
 use Rattle.std.specs.List.{flat_map}
 use Rattle.hcl_tokens.specs.Kinds.{is}
@@ -11,7 +11,7 @@ use Rattle.rule_set.specs.declared.rule.Rule.{Rule}
 pub record Comment (P : Type 0) : Type 0 where
   pub at : P
   pub slashes : Bool  -- it begins with `//`
-  pub silences : List Rule  -- each once, in the order of their names
+  pub silences : List Rule  -- each rule once, in the order of the names
 
 abbrev pub is_any : List Rule → Bool
 is_any [] = false

@@ -1,6 +1,6 @@
--- What a file declares: its top-level blocks `variable`, `output` and `module` with one label, `resource` and `data`
--- with two, and the attributes of its top-level blocks `locals` without labels. Our own choice, after Terraform's
--- documentation of its blocks.
+-- The declarations of a file: its top-level blocks `variable`, `output` and `module` with one label, `resource` and
+-- `data` with two, and the attributes of its top-level blocks `locals` without labels. Our own choice, after
+-- Terraform's documentation of its blocks.
 use Rattle.std.specs.Prelude.{ℕ, ◌-◌, ◌==◌, ◌&&◌, Bool, true, false, not, List, [], ◌∷◌, ◌++◌, length, filter, map, take, drop, codes, Option, Some, None, if◌then◌else◌, find, option_map, option_and_then}
 use Rattle.std.specs.List.{list_any}
 use Rattle.std.specs.Str.{bytes_eq}
@@ -25,13 +25,13 @@ pub record SourceAt (P : Type 0) : Type 0 where
 pub record Declaration (P : Type 0) : Type 0 where
   pub kind : DeclarationKind
   pub names : List (List ℕ)  -- the texts of the labels, or the name of the attribute
-  pub at : P  -- the block's kind, or the attribute's name
+  pub at : P  -- the token of the block's kind, or of the attribute's name
   pub described : Bool  -- there is an attribute `description`
   pub typed : Bool
   pub versioned : Bool
-  pub source : Option (SourceAt P)  -- of a module, where it is a plain text
+  pub source : Option (SourceAt P)  -- the source of a module, if it is a plain text
 
--- ---- what follows a block in the list of items
+-- ---- the items after a block in the list of items
 
 abbrev pub is_inside : Item → Bool
 is_inside (item.Attribute level name first end) = not (is_closed level)
@@ -50,7 +50,7 @@ attribute ts (item.Attribute level name first end) =
     then Some (record { name = text_of ts name; token = name; first = first; end = end }) else None
 attribute ts _ = None
 
--- the labels of a block, where `rest` follows it
+-- the labels of a block; `rest` follows it
 abbrev pub labels_in : List Numbered → List Item → List (List ℕ)
 labels_in ts (item.Label l ∷ rest) = label_text ts l ∷ labels_in ts rest
 labels_in ts _ = []
@@ -59,7 +59,7 @@ abbrev pub with_attribute : Option Attribute → List Attribute → List Attribu
 with_attribute None attributes = attributes
 with_attribute (Some a) attributes = a ∷ attributes
 
--- the attributes directly in its body
+-- the attributes directly in a block's body
 abbrev pub attributes_in : List Numbered → List Item → List Attribute
 attributes_in ts [] = []
 attributes_in ts (i ∷ rest) =
@@ -97,14 +97,14 @@ source_of_plain_text = option_map (λ p. record { source = source_of p.text; at 
 abbrev pub source_of_attribute : List Numbered → Option Attribute → Option (SourceAt ℕ)
 source_of_attribute ts = option_and_then (λ a. source_of_plain_text (plain_text (value_of ts a)))
 
--- by the first attribute `source`
+-- the source of a module, from the first attribute `source`
 abbrev pub module_source : List Numbered → List Attribute → Option (SourceAt ℕ)
 module_source ts attributes =
     source_of_attribute ts (find (λ a. bytes_eq a.name (codes "source")) attributes)
 
 -- ---- declarations
 
--- what a block with this word as its kind declares, and with how many labels
+-- what a block with this word as its kind declares, and how many labels it must have
 pub record Declarer : Type 0 where
   pub kind : DeclarationKind
   pub labels : ℕ
@@ -148,14 +148,14 @@ abbrev pub is_empty : List (List ℕ) → Bool
 is_empty [] = true
 is_empty (x ∷ xs) = false
 
--- what a top-level block declares
+-- the declarations of a top-level block
 abbrev pub of_block : List Numbered → ℕ → List (List ℕ) → List Attribute → List (Declaration ℕ)
 of_block ts token names attributes =
     if bytes_eq (text_of ts token) (codes "locals")
     then (if is_empty names then map of_local attributes else [])
     else by_declarer ts token names attributes (declarer (text_of ts token))
 
--- what an item declares, where `rest` follows it in the list of items
+-- the declarations of an item; `rest` follows it in the list of items
 abbrev pub of_item : List Numbered → Item → List Item → List (Declaration ℕ)
 of_item ts (item.Block level token end) rest =
     if is_closed level then of_block ts token (labels_in ts rest) (attributes_in ts rest) else []

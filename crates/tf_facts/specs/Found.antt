@@ -1,4 +1,4 @@
--- What is found in a file, as the code has it, and what it says in the words of the definitions.
+-- The facts that the code finds in a file, and their views.
 use Rattle.std.specs.Prelude.{ℕ, List, [], ◌∷◌, map}
 use Rattle.std.specs.Option.{option_map}
 use Rattle.tf_facts.specs.Comments.{Comment}
@@ -16,7 +16,7 @@ use Rattle.tf_facts.specs.declared.module_source.ModuleSource.TheVariants.{Other
 use Rattle.tf_facts.specs.declared.names.Names.{Names}
 use Rattle.tf_facts.specs.declared.names.Names.TheVariants as names
 
--- the labels, where there are no more than two
+-- the labels, if there are at most two
 abbrev pub texts_of : Names → List (List ℕ)
 texts_of names.None = []
 texts_of (names.One name) = name.now ∷ []

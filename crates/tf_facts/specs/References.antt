@@ -1,6 +1,7 @@
 -- The references of a file: `var . n`, `local . n` and `data . t . n`, where n and t are identifiers and the first word
--- isn't directly after a dot, over the tokens without comments, blanks and newlines, heredocs included. A reference is
--- told by its text, with nothing around the dots. Left out is `var . n` inside the block of a variable declared as n.
+-- isn't directly after a dot, in the tokens without comments, blanks and newlines, heredocs included. A reference is
+-- identified by its text, without anything around the dots. A self-reference is left out: `var . n` inside the block of
+-- a variable that is declared as n.
 use Rattle.std.specs.Prelude.{ℕ, ◌++◌, ◌&&◌, Bool, false, List, [], ◌∷◌, Option, Some, None, codes, nat_le, nat_lt, filter, map, drop, if◌then◌else◌, option_map, option_and_then}
 use Rattle.std.specs.List.{list_any}
 use Rattle.std.specs.Str.{bytes_eq}
@@ -22,7 +23,7 @@ local_reference n = codes "local." ++ n
 abbrev pub data_reference : List ℕ → List ℕ → List ℕ
 data_reference t n = codes "data." ++ (t ++ (codes "." ++ n))
 
--- the identifier after a dot with which these tokens begin
+-- the identifier in the dot and the name with which these tokens begin
 abbrev pub name_after : List Numbered → Option Numbered
 name_after (d ∷ n ∷ rest) = if is kind.Dot d.kind && is kind.Ident n.kind then Some n else None
 name_after _ = None
@@ -30,7 +31,7 @@ name_after _ = None
 abbrev pub data_of : List ℕ → Option Numbered → Option (List ℕ)
 data_of t = option_map (λ n. data_reference t n.text)
 
--- the reference of a first word and a name after a dot, where `rest` follows
+-- the reference of a first word and a name after a dot; `rest` follows
 abbrev pub reference_of : List ℕ → List ℕ → List Numbered → Option (List ℕ)
 reference_of word n rest =
     if bytes_eq word (codes "var") then Some (variable_reference n)
@@ -47,7 +48,7 @@ reference_at [] = None
 reference_at (w ∷ ts) =
     if is kind.Ident w.kind then by_name w.text (name_after ts) (drop 2 ts) else None
 
--- where a variable is declared, and as what
+-- the block of a variable: its name, its first token and the one after its last
 pub record VariableSpan : Type 0 where
   pub name : List ℕ
   pub first : ℕ
@@ -58,7 +59,7 @@ last_of [] = []
 last_of (x ∷ []) = x
 last_of (x ∷ y ∷ xs) = last_of (y ∷ xs)
 
--- the variable that an item declares, where `rest` follows it in the list of items
+-- the variable that an item declares; `rest` follows it in the list of items
 abbrev pub variable_blocks_of_item : List Numbered → Item → List Item → List VariableSpan
 variable_blocks_of_item ts (item.Block level token end) rest =
     map (λ d. record { name = last_of d.names; first = token; end = end })
@@ -84,7 +85,7 @@ unless_self_reference own number None = []
 unless_self_reference own number (Some text) =
     if is_self_reference own number text then [] else text ∷ []
 
--- the references of significant tokens, where a dot stands before them or not
+-- the references of significant tokens, if a dot precedes them or not
 abbrev pub references_from : List VariableSpan → Bool → List Numbered → List (List ℕ)
 references_from own after_dot [] = []
 references_from own after_dot (t ∷ ts) =

@@ -1,6 +1,6 @@
 -- Line comments that silence issues. After its mark, `#` or `//`, and blanks, such a comment begins with
--- `tflint-ignore:`; what follows, up to a further `#`, has the names of rules between commas, or `all`. It silences
--- the issues of these rules on its own line and on the line below. Our own choice, after TFLint's annotations.
+-- `tflint-ignore:`; after that, up to another `#`, it has the names of rules between commas, or `all`. It silences the
+-- issues of these rules on its own line and on the line below. Our own choice, after TFLint's annotations.
 use Rattle.std.specs.Prelude.{ℕ, ◌==◌, ◌||◌, Bool, List, [], codes, length, drop, filter, if◌then◌else◌}
 use Rattle.std.specs.List.{list_any, before_first, slice_split}
 use Rattle.std.specs.Str.{bytes_eq}
@@ -26,11 +26,11 @@ trim_blanks part = without_end is_margin (without_front is_margin part)
 abbrev pub keyword : List ℕ
 keyword = codes "tflint-ignore:"
 
--- what a comment says after its mark and blanks
+-- the text of a comment after its mark and blanks
 abbrev pub comment_words : List ℕ → List ℕ
 comment_words text = without_front is_blank (without_mark text)
 
--- the parts between commas of what follows the keyword, up to a `#`
+-- the parts between commas after the keyword, up to a `#`
 abbrev pub parts : List ℕ → List (List ℕ)
 parts rest =
     if begins keyword rest

@@ -1,5 +1,5 @@
--- What the source of a module is, by its text. Our own choice, after Terraform's documentation of module sources: a
--- text that begins with `./` or `../` is a local path, and never an address in a registry.
+-- The sort of a module's source, by its text. Our own choice, after Terraform's documentation of module sources: a text
+-- that begins with `./` or `../` is a local path, and never an address in a registry.
 use Rattle.std.specs.Prelude.{ℕ, ◌||◌, ◌&&◌, ◌==◌, Bool, false, not, List, [], ◌∷◌, Option, codes, length, drop, if◌then◌else◌, find}
 use Rattle.std.specs.List.{list_any, list_all, slice_split}
 use Rattle.std.specs.Char.{is_ascii_digit, is_ascii_lowercase, is_ascii_uppercase}
@@ -23,19 +23,19 @@ is_git text =
 abbrev pub is_mercurial : List ℕ → Bool
 is_mercurial text = begins (codes "hg::") text
 
--- what follows the first `?`, or nothing
+-- the text after the first `?`, or nothing
 abbrev pub after_question : List ℕ → List ℕ
 after_question [] = []
 after_question (b ∷ bs) = if b == 63 then bs else after_question bs
 
--- the parts of it between `&`
+-- the parts between `&` of the text after the first `?`
 abbrev pub parameters : List ℕ → List (List ℕ)
 parameters text = slice_split (λ b. b == 38) (after_question text)
 
 abbrev pub value_after : List ℕ → Option (List ℕ) → List ℕ
 value_after front part = option_map_or (drop (length front)) part []
 
--- what follows this front in the first parameter that begins with it, or nothing
+-- the text after this front in the first parameter that begins with it, or nothing
 abbrev pub revision : List ℕ → List ℕ → List ℕ
 revision front text = value_after front (find (begins front) (parameters text))
 
@@ -67,7 +67,7 @@ is_host_byte b = is_alphanumeric b || (b == 45) || (b == 46) || (b == 58)
 abbrev pub is_host : List ℕ → Bool
 is_host h = list_all is_host_byte h && list_any (λ b. b == 46) h
 
--- what stands before the first `//`, or all
+-- the text before the first `//`, or all of it
 abbrev pub before_slashes : List ℕ → List ℕ
 before_slashes [] = []
 before_slashes (b ∷ bs) = if begins (codes "//") (b ∷ bs) then [] else b ∷ before_slashes bs
@@ -82,7 +82,7 @@ abbrev pub is_registry : List ℕ → Bool
 is_registry text =
     not (is_local text) && is_address (slice_split (λ b. b == 47) (before_slashes text))
 
--- WHAT THE SOURCE IS
+-- THE SORT OF A SOURCE
 abbrev pub source_of : List ℕ → Source
 source_of text =
     if is_git text then pinned_to (revision (codes "ref=") text)

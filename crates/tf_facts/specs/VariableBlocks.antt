@@ -1,4 +1,4 @@
--- The blocks of variables, as the code keeps them.
+-- The blocks of variables, as the code stores them.
 use Rattle.std.specs.Prelude.{◌≡◌, ◌≤◌, ◌<◌, ◌++◌, ℕ, max, List, [], ◌∷◌, drop, slice_get, Some}
 use Rattle.tf_facts.specs.References.{VariableSpan, is_self_reference}
 use Rattle.tf_facts.specs.declared.variable_block.VariableBlock.{VariableBlock}
@@ -6,17 +6,17 @@ use Rattle.tf_facts.specs.declared.variable_block.VariableBlock.{VariableBlock}
 abbrev pub block_view : VariableBlock → VariableSpan
 block_view o = record { name = o.name.now; first = o.first; end = o.end }
 
--- the texts with more after them
+-- the old texts, with more after them
 pub record Extends (old new : List (List ℕ)) : Type 0 where
   pub more : List (List ℕ)
   pub is : new ≡ old ++ more
 
--- one after another, from a number on
+-- the blocks follow one another, and the first begins at `from` or later
 abbrev pub Apart : ℕ → List VariableSpan → Type 0
 Apart from [] = Unit {0}
 Apart from (o ∷ own) = (from ≤ o.first) × Apart (max o.first o.end) own
 
--- from a token on the first blocks don't count
+-- from this token on, the first `next` blocks make no difference
 pub record ArePassed (own : List VariableSpan) (next number : ℕ) : Type 0 where
   pub same : (m : ℕ) (text : List ℕ) → number ≤ m
       → is_self_reference (drop next own) m text ≡ is_self_reference own m text

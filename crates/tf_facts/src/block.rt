@@ -1,4 +1,4 @@
-//! What follows a block in the outline of a file: its labels, and what the attributes directly in its body say.
+//! The items after a block in the outline of a file: its labels, and the attributes directly in its body.
 
 ghost use Rattle.std.specs.Prelude.{◌≡◌, ◌<◌, ◌≤◌, ◌+◌, ◌∷◌, ℕ, [], drop, length, slice_get, List, MatchOption, None, Some, false};
 ghost use Rattle.hcl_grammar.specs.Items.{outline};
@@ -19,7 +19,7 @@ struct LabelAt<'s> {
     next: usize,
 }
 
-/// The label of this number in the outline, where it is one.
+/// The label of this number in the outline, if it is one.
 fn label_at<'s>(accepted: &Accepted<'_, 's>, items: &Outline, number: usize) -> Option<LabelAt<'s>>
     requires { items.now ≡ outline accepted.now.tokens }
     ensures { MatchOption result (labels_in (numbered accepted.now.tokens) (drop number items.now)
@@ -40,7 +40,7 @@ fn label_at<'s>(accepted: &Accepted<'_, 's>, items: &Outline, number: usize) -> 
     }
 }
 
-/// The labels of the block after which this number stands.
+/// The labels of the block whose items begin at this one.
 pub fn names<'s>(accepted: &Accepted<'_, 's>, items: &Outline, from: usize) -> Names<'s>
     requires { items.now ≡ outline accepted.now.tokens }
     ensures { AreNames result (labels_in (numbered accepted.now.tokens) (drop from items.now)) }
@@ -57,7 +57,7 @@ pub fn names<'s>(accepted: &Accepted<'_, 's>, items: &Outline, from: usize) -> N
     Names::More
 }
 
-/// Whether an item stands in a block or is one of its labels.
+/// Whether an item is in a block or is one of its labels.
 pub fn is_inside(item: Item) -> bool
     ensures { result ≡ is_inside item }
 {
@@ -78,7 +78,7 @@ pub fn word_at<'s>(accepted: &Accepted<'_, 's>, number: usize) -> &'s str
     token.text
 }
 
-/// What no attribute says.
+/// The body without any attribute.
 fn no_body() -> Body
     ensures { result ≡ body_of [] }
 {
@@ -90,14 +90,14 @@ fn no_body() -> Body
     }
 }
 
-/// Whether an item is an attribute. No other says anything here.
+/// Whether an item is an attribute. No other item matters here.
 fn is_attribute(item: Item) -> bool
     ensures { result ≡ false → (ts : List Numbered) → attribute ts item ≡ None }
 {
     matches!(item, Item::Attribute { .. })
 }
 
-/// What an item says, where it is an attribute directly in the body of a top-level block.
+/// The body with this item alone, if it is an attribute directly in the body of a top-level block.
 fn body_of_item(accepted: &Accepted<'_, '_>, item: Item) -> Body
     requires { (i : ℕ) × (slice_get (outline accepted.now.tokens) i ≡ Some item) }
     ensures { result ≡ body_of (with_attribute (attribute (numbered accepted.now.tokens) item) []) }
@@ -123,7 +123,7 @@ fn body_of_item(accepted: &Accepted<'_, '_>, item: Item) -> Body
     }
 }
 
-/// What is said first, and then.
+/// The body of two bodies, one after the other.
 fn both(one: Body, other: Body) -> Body
     ensures { result ≡ both one other }
 {
@@ -135,7 +135,7 @@ fn both(one: Body, other: Body) -> Body
     }
 }
 
-/// What the attributes directly in the body of the block say after which this number stands.
+/// The body of the block whose items begin at this one, from the attributes directly in it.
 pub fn body(accepted: &Accepted<'_, '_>, items: &Outline, from: usize) -> Body
     requires { items.now ≡ outline accepted.now.tokens }
     ensures { result ≡ body_of (attributes_in (numbered accepted.now.tokens)

@@ -23,21 +23,21 @@ fn is_line_comment(kind: Kind) -> bool
     matches!(kind, Kind::LineComment)
 }
 
-/// Whether there is a rule in a set.
+/// Whether a set has a rule.
 pub fn is_any(set: RuleSet) -> bool
     ensures { result ≡ is_any (rules_of set) }
 {
     set.holds_any()
 }
 
-/// Whether a comment says something.
+/// Whether rules need a comment.
 fn is_telling(slashes: bool, silences: RuleSet) -> bool
     ensures { result ≡ (slashes || is_any (rules_of silences)) }
 {
     slashes || is_any(silences)
 }
 
-/// What the line comment of this number and text says, where it says something.
+/// The line comment of this number and text, if rules need it.
 fn telling_comment(number: usize, text: &[u8]) -> Option<FoundComment>
     ensures { comment_listed result
         ≡ if_telling (record {
@@ -58,7 +58,7 @@ fn telling_comment(number: usize, text: &[u8]) -> Option<FoundComment>
     })
 }
 
-/// What the token of this number says, where it is a line comment that says something.
+/// The line comment of the token of this number, if it is one that rules need.
 fn comment_at(tokens: &Tokens<'_>, number: usize) -> Option<FoundComment>
     requires { number < length tokens.now.tokens }
     ensures { (t : Lexeme) → slice_get tokens.now.tokens number ≡ Some t
@@ -71,7 +71,7 @@ fn comment_at(tokens: &Tokens<'_>, number: usize) -> Option<FoundComment>
     telling_comment(number, token.text.as_bytes())
 }
 
-/// Puts what the token of this number says last, where it is a line comment that says something.
+/// Pushes the line comment of the token of this number, if it is one that rules need.
 pub fn push_comment(
     tokens: &Tokens<'_>,
     number: usize,

@@ -1,6 +1,6 @@
 //! A text in two parts.
 
-/// What stands before a byte, and what follows it where it is there.
+/// The text before a byte, and the text after it if the byte is there.
 #[derive(Clone, Copy)]
 pub struct Cut<'a> {
     pub part: &'a [u8],

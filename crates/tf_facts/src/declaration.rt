@@ -1,4 +1,4 @@
-//! What the top-level blocks of a file declare, by its outline.
+//! The declarations of a file's top-level blocks, by its outline.
 
 ghost use Rattle.std.specs.Prelude.{◌≡◌, ◌<◌, ◌≤◌, ◌+◌, ◌^◌, ◌==◌, ◌++◌, [], ℕ, List, codes, drop, length, map, slice_get, Option, Some, None, IfOk, IfSome, OnOk, if◌then◌else◌};
 ghost use Rattle.std.specs.Option.{option_map};
@@ -22,7 +22,7 @@ use crate::value::Value;
 use hcl_grammar::{Accepted, Item, Outline};
 use std::alloc::{AllocError, Global};
 
-/// What a block with this word as its kind declares, and with how many labels.
+/// What a block with this word as its kind declares, and how many labels it must have.
 fn declarer(word: &str) -> Option<Declarer>
     ensures is { option_map declarer_of result ≡ declarer word.now }
     ensures few { IfSome result (λ d. d.labels ≤ 2) }
@@ -60,7 +60,7 @@ fn declarer(word: &str) -> Option<Declarer>
     None
 }
 
-/// Whether there are so many labels.
+/// Whether there are this many labels.
 fn are_as_many(names: Names<'_>, labels: usize) -> bool
     requires { labels ≤ 2 }
     ensures { (texts : List (List ℕ)) → AreNames names.entry texts
@@ -80,7 +80,7 @@ fn is_module(kind: DeclarationKind) -> bool
     matches!(kind, DeclarationKind::Module)
 }
 
-/// The source that the value of the first attribute `source` gives, where it is a plain text.
+/// The source in the value of the first attribute `source`, if that is a plain text.
 fn module_source(accepted: &Accepted<'_, '_>, value: Option<Value>) -> Option<FoundSource>
     requires { IfSome value (λ v. v.end ≤ length accepted.now.tokens) }
     ensures { (a : Option Attribute) → option_map value_of_attribute a ≡ value
@@ -117,7 +117,7 @@ fn source_in(
     None
 }
 
-/// What a top-level block other than `locals` declares, by the number of its kind and that of the item after it.
+/// The declaration of a top-level block other than `locals`, by the number of its kind and that of the item after it.
 fn declared_by<'s>(
     accepted: &Accepted<'_, 's>,
     items: &Outline,
@@ -151,7 +151,7 @@ fn declared_by<'s>(
     })
 }
 
-/// Puts what is there after what was found.
+/// Pushes the declaration, if there is one.
 fn put<'s>(declared: Option<Declared<'s>>, found: &mut Vec<Declared<'s>>) -> Result<(), AllocError>
     ensures { OnOk result (map declaration found.new.items
         ≡ map declaration found.old.items ++ listed declared.entry) }
@@ -163,7 +163,7 @@ fn put<'s>(declared: Option<Declared<'s>>, found: &mut Vec<Declared<'s>>) -> Res
     Ok(())
 }
 
-/// What an item in the body of a `locals` block declares.
+/// The declaration of an item in the body of a `locals` block.
 fn local_of<'s>(accepted: &Accepted<'_, 's>, item: Item) -> Option<Declared<'s>>
     requires { (i : ℕ) × (slice_get (outline accepted.now.tokens) i ≡ Some item) }
     ensures { listed result ≡ map of_local
@@ -186,7 +186,7 @@ fn local_of<'s>(accepted: &Accepted<'_, 's>, item: Item) -> Option<Declared<'s>>
     })
 }
 
-/// Puts the attributes of a `locals` block, by the number of the item after it, after what was found.
+/// Pushes the attributes of a `locals` block; its items begin at this one.
 fn push_locals<'s>(
     accepted: &Accepted<'_, 's>,
     items: &Outline,
@@ -215,7 +215,7 @@ fn is_unlabelled(names: Names<'_>) -> bool
     matches!(names, Names::None)
 }
 
-/// Puts what a top-level block declares, by the number of its kind and that of the item after it, after what was found.
+/// Pushes the declarations of a top-level block, by the number of its kind and that of the item after it.
 fn push_block<'s>(
     accepted: &Accepted<'_, 's>,
     items: &Outline,
@@ -239,7 +239,7 @@ fn push_block<'s>(
     push_locals(accepted, items, from, found)
 }
 
-/// Puts what the item of this number declares after what was found.
+/// Pushes the declarations of the item of this number.
 fn push_item<'s>(
     accepted: &Accepted<'_, 's>,
     items: &Outline,
@@ -263,15 +263,15 @@ fn push_item<'s>(
     push_block(accepted, items, kind, number + 1, found)
 }
 
-/// How many items of an outline there are for each declaration that the list has room for at first. Most files have five
-/// to ten items a declaration, and where there are fewer the list grows.
+/// How many items of an outline there are for each declaration that the list has room for at first. Most files have
+/// five to ten items for each declaration; with fewer the list grows.
 const ITEMS_A_DECLARATION: usize = 6;
 
-/// How many declarations the list has room for at most at first. The room is in fours, since a list's own first room is for
-/// four.
+/// How many declarations the list has room for at first, at most. The room is a multiple of four, since a list's own
+/// first room is for four.
 const MOST_ROOM: usize = 256;
 
-/// What a file declares, in order, by its outline.
+/// The declarations of a file, in order, by its outline.
 pub fn declarations<'s>(
     alloc: Global,
     accepted: &Accepted<'_, 's>,

@@ -1,6 +1,6 @@
-//! What can be declared.
+//! The kinds of declarations.
 
-/// What a top-level block, or an attribute of a `locals` block, declares.
+/// The kind of a top-level block's declaration, or of an attribute in a `locals` block.
 #[derive(Clone, Copy, Debug, PartialEq, Eq)]
 pub enum DeclarationKind {
     Variable,

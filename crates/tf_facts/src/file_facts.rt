@@ -12,7 +12,7 @@ use crate::pattern::found_patterns;
 use hcl_grammar::{Accepted, Outline};
 use std::alloc::{AllocError, Global};
 
-/// The comments that say something, the dots before numbers, the quotes of interpolations alone, and what is declared.
+/// The comments that rules need, the dots before numbers, the quotes of interpolations alone, and the declarations.
 #[derive(Drop)]
 pub struct FileFacts<'s> {
     pub comments: Vec<FoundComment>,

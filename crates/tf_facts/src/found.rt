@@ -1,11 +1,11 @@
-//! What is found in a file, by the numbers of its tokens.
+//! The facts that are found in a file, by the numbers of its tokens.
 
 use crate::declaration_kind::DeclarationKind;
 use crate::module_source::ModuleSource;
 use crate::names::Names;
 use rule_set::RuleSet;
 
-/// What a block with a word as its kind declares, and with how many labels.
+/// What a block with a word as its kind declares, and how many labels it must have.
 #[derive(Clone, Copy)]
 pub struct Declarer {
     pub kind: DeclarationKind,

@@ -4,22 +4,22 @@ ghost use Rattle.std.specs.Prelude.{◌≡◌};
 
 use std::hash::{BuildHasher, DefaultHasher, RandomState};
 
-/// How texts are hashed: each from the same state. Whoever writes a file picks its texts, so with a seed that is known many
-/// can be made that collide, and a set of them takes time by the square of their number.
+/// How texts are hashed: each from the same state. A file's writer chooses its texts. With a known seed many texts that
+/// collide can be written, and a set of them takes time proportional to the square of their number.
 #[derive(Clone, Copy)]
 pub struct Hashing {
     initial: DefaultHasher,
 }
 
 impl Hashing {
-    /// By a seed that all runs share: for texts that nobody makes collide.
+    /// With a seed that all runs share: for texts that nobody chooses so that they collide.
     pub fn with_shared_seed() -> Hashing {
         Hashing {
             initial: DefaultHasher::new(),
         }
     }
 
-    /// By the seed of this run, which nobody who writes a file knows.
+    /// With the seed of this run, which the writers of files don't know.
     pub fn with_seed(seed: RandomState) -> Hashing
         ensures { ⟦<Hashing as BuildHasher>⟧.build_hasher result
             ≡ ⟦<RandomState as BuildHasher>⟧.build_hasher seed }

@@ -1,4 +1,4 @@
-//! What is proved of the definitions alone. No program calls these functions: their contracts are the laws.
+//! Laws about the definitions alone. No program calls these functions: their contracts are the laws.
 
 ghost use Rattle.std.specs.Prelude.{◌≡◌, List};
 ghost use Rattle.hcl_tokens.specs.Lexemes.{Lexeme};

@@ -1,8 +1,8 @@
-//! What one file of a Terraform module says, by the numbers of its tokens.
+//! The facts of one file of a Terraform module, by the numbers of its tokens.
 //!
-//! [`facts_of`] finds what a file declares, the comments that say something and two patterns of tokens, and
+//! [`facts_of`] finds a file's declarations, the comments that rules need and two patterns of tokens, and
 //! [`add_references_of`] collects its references.
-//! The module [`laws`] holds what is proved of the definitions alone.
+//! The module [`laws`] has the laws about the definitions alone.
 #![tactic(auto)]
 
 mod block;

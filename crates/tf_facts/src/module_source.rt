@@ -1,6 +1,6 @@
-//! What the source of a module can be.
+//! The sorts of a module's source.
 
-/// What a source is: not pinned to a revision, pinned to a default branch, an address in a registry, or something else.
+/// The sort of a source: not pinned to a revision, pinned to a default branch, an address in a registry, or another.
 #[derive(Clone, Copy, Debug, PartialEq, Eq)]
 pub enum ModuleSource {
     Other,

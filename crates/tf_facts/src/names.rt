@@ -1,6 +1,6 @@
 //! The labels of a block.
 
-/// Up to two labels, or more.
+/// At most two labels, or more.
 #[derive(Clone, Copy)]
 pub enum Names<'s> {
     None,

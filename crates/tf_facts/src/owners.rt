@@ -1,4 +1,4 @@
-//! Where the variables of a file are declared, and the references that are left without their own.
+//! The blocks of a file's variables, and the references except self-references.
 
 ghost use Rattle.std.specs.Prelude.{◌≡◌, ◌==◌, ◌<◌, ◌+◌, ◌^◌, ◌∷◌, [], ℕ, List, false, drop, length, map, slice_get, Some, IfOk, MatchOption, OnOk, OnErr};
 ghost use Rattle.std.specs.Str.{bytes_eq};
@@ -19,7 +19,7 @@ use crate::variable_block::VariableBlock;
 use hcl_grammar::{Accepted, Item, Outline};
 use std::alloc::{AllocError, Global};
 
-/// The only label, where there is one and no more.
+/// The only label, if there is exactly one.
 fn only<'s>(names: Names<'s>) -> Option<&'s str>
     ensures { (texts : List (List ℕ)) → AreNames names.entry texts
         → MatchOption result ((length texts == 1) ≡ false) (λ name. texts ≡ name.now ∷ []) }
@@ -85,7 +85,7 @@ pub fn variable_blocks<'s>(
     Ok(found)
 }
 
-/// Puts the references of a file into the set, by its outline. On refusal the set is as it was.
+/// Inserts the references of a file into the set, by its outline. A refusal leaves the set unchanged.
 pub fn add_references_of(
     alloc: Global,
     accepted: &Accepted<'_, '_>,

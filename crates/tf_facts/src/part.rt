@@ -1,6 +1,6 @@
-//! What a token means to the walk that finds patterns.
+//! The parts of tokens in the walk that finds patterns.
 
-/// What is done at a token. Where nothing is, it may still be what a pattern asks for ahead.
+/// What the walk does at a token. At a plain token it does nothing, but a pattern may need the token ahead.
 #[derive(Clone, Copy)]
 pub enum Part {
     PassedOver,

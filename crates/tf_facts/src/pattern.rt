@@ -1,11 +1,11 @@
-//! The patterns of tokens that two rules report, found by one walk from the last token to the first, on which line comments
-//! are noted too. So what is ahead of a token is known when the walk comes to it:
+//! The patterns of tokens that two rules report, found in one walk from the last token to the first, which finds line
+//! comments too. So the walk knows what is ahead of each token:
 //!
 //! | Token | Ahead of it |
 //! |---|---|
 //! | a dot | a number: an index |
 //! | an opening quote | an interpolation that is closed directly before a closing quote: an interpolation alone |
-//! | what opens an interpolation | for what is open last, whether a closing quote is directly after its closer |
+//! | an opener of an interpolation | for the innermost opener, whether a closing quote is directly after its closer |
 
 ghost use Rattle.std.specs.Prelude.{◌≡◌, ◌++◌, ◌∷◌, [], ℕ, Bool, suc, false, get_or, map, reverse, IfOk, OnOk, if◌then◌else◌};
 ghost use Rattle.hcl_tokens.specs.Kinds.{is};
@@ -57,7 +57,7 @@ fn part_of(kind: Kind) -> Part
     }
 }
 
-/// Takes the last flag off the list; it is false where there is none.
+/// Pops the last flag of the list; without one it is false.
 #[inline(always)]
 fn take_last(flags: &mut Vec<bool>) -> bool
     ensures taken { result ≡ get_or (reverse flags.old.items) 0 false }
@@ -71,7 +71,7 @@ fn take_last(flags: &mut Vec<bool>) -> bool
     }
 }
 
-/// Puts a number last, where the test holds.
+/// Pushes a number, if the test holds.
 #[inline(always)]
 fn push_if(list: &mut Vec<usize>, test: bool, number: usize) -> Result<(), AllocError>
     ensures { OnOk result (list.new.items ≡ list.old.items ++ (if test then number ∷ [] else [])) }
@@ -83,18 +83,18 @@ fn push_if(list: &mut Vec<usize>, test: bool, number: usize) -> Result<(), Alloc
     Ok(())
 }
 
-/// What the walk finds, by the numbers of tokens.
+/// The facts that the walk finds, by the numbers of tokens.
 #[derive(Drop)]
 pub struct Patterns {
-    /// Line comments that say something.
+    /// The line comments that rules need.
     pub comments: Vec<FoundComment>,
     /// Dots before numbers.
     pub indexes: Vec<usize>,
-    /// Quotes of interpolations alone.
+    /// Quotes that contain one interpolation alone.
     pub interpolations: Vec<usize>,
 }
 
-/// What was found from the last token to the first, in the order of the tokens.
+/// The facts that were found from the last token to the first, in the order of the tokens.
 fn in_order(
     mut comments: Vec<FoundComment>,
     mut indexes: Vec<usize>,
@@ -114,7 +114,7 @@ fn in_order(
     }
 }
 
-/// The patterns of a file and its line comments that say something, in order.
+/// The patterns of a file and the line comments that rules need, in order.
 pub fn found_patterns(alloc: Global, tokens: &Tokens<'_>) -> Result<Patterns, AllocError>
     ensures comments { IfOk result (λ found. map comment found.comments.items
         ≡ comments (numbered tokens.now.tokens)) }
@@ -128,9 +128,9 @@ pub fn found_patterns(alloc: Global, tokens: &Tokens<'_>) -> Result<Patterns, Al
     let mut indexes = Vec::new(alloc);
     let mut interpolations = Vec::new(alloc);
     let mut openers = Vec::new(alloc);
-    // Nothing is ahead of the last token: a kind that no pattern asks for.
+    // Nothing is ahead of the last token, so this is a kind that no pattern needs.
     let mut next = Kind::Newline;
-    // Whether what `next` opens, if it opens anything, is closed directly before a closing quote.
+    // Whether the opener `next`, if it is one, is closed directly before a closing quote.
     let mut is_closed = false;
     let mut number = tokens.len();
     while number > 0 {

@@ -12,7 +12,7 @@ use crate::seen::Seen;
 use crate::value::Plain;
 use hcl_tokens::{Kind, Tokens};
 
-/// Whether tokens of this kind count in a value: comments and newlines don't.
+/// Whether tokens of this kind are part of a value: comments and newlines aren't.
 fn counts(kind: Kind) -> bool
     ensures { result ≡ (not (is_comment kind) && not (is Newline kind)) }
 {
@@ -40,7 +40,7 @@ fn is_lit(kind: Kind) -> bool
     matches!(kind, Kind::Lit)
 }
 
-/// The first token from a number on to before another that is no comment and no newline.
+/// The first token from a number on to before another that is neither a comment nor a newline.
 fn next_value<'s>(tokens: &Tokens<'s>, from: usize, to: usize) -> Option<Seen<'s>>
     requires { to ≤ length tokens.now.tokens }
     ensures { MatchOption result (values tokens.now.tokens from to ≡ [])
@@ -59,7 +59,7 @@ fn next_value<'s>(tokens: &Tokens<'s>, from: usize, to: usize) -> Option<Seen<'s
     None
 }
 
-/// The plain text that these tokens are, comments and newlines aside.
+/// The plain text of these tokens, if they are one without comments and newlines.
 pub fn plain_text<'s>(tokens: &Tokens<'s>, from: usize, to: usize) -> Option<Plain<'s>>
     requires { to ≤ length tokens.now.tokens }
     ensures { option_map plain_text_of result ≡ plain_text (values tokens.now.tokens from to) }

@@ -12,7 +12,7 @@ ghost use Rattle.tf_facts.specs.Inner.Spelled.{IsAfter, spelled};
 use crate::seen::{Seen, is_dot, is_passed_over, next_seen};
 use hcl_tokens::{Kind, Tokens};
 
-/// What a reference names.
+/// The name in a reference.
 #[derive(Clone, Copy)]
 pub enum Reference<'s> {
     Variable(&'s str),
@@ -27,7 +27,7 @@ pub fn is_ident(kind: Kind) -> bool
     matches!(kind, Kind::Ident)
 }
 
-/// Whether a name after a dot can follow a token: whether a dot does, or a token that is passed over.
+/// Whether a dot and a name may follow a token: whether a dot comes next, or a token that is passed over.
 #[inline(always)]
 pub fn may_be_named(tokens: &Tokens<'_>, number: usize) -> bool
     requires within { number < length tokens.now.tokens }
@@ -42,7 +42,7 @@ pub fn may_be_named(tokens: &Tokens<'_>, number: usize) -> bool
     is_dot(kind) || is_passed_over(kind)
 }
 
-/// The identifier after a dot with which the tokens from a number on begin.
+/// The identifier in the dot and the name with which the tokens from a number on begin.
 fn name_after<'s>(tokens: &Tokens<'s>, from: usize) -> Option<Seen<'s>>
     requires { from ≤ length tokens.now.tokens }
     ensures { MatchOption result (name_after (seen_from tokens.now.tokens from) ≡ None)

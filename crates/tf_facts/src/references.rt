@@ -17,7 +17,7 @@ use crate::variable_block::VariableBlock;
 use hcl_tokens::Tokens;
 use std::alloc::{AllocError, Global};
 
-/// Puts the text that identifies a reference in place of another, whose room it takes.
+/// Writes the text that identifies a reference over another text, whose room it reuses.
 fn spell(reference: Reference<'_>, text: &mut String) -> Result<(), AllocError>
     ensures { OnOk result (string_bytes text.new ≡ spelled reference.entry) }
 {
@@ -51,14 +51,14 @@ fn block_at<'s>(blocks: &[VariableBlock<'s>], i: usize) -> VariableBlock<'s>
     blocks[i]
 }
 
-/// Whether the block begins at or before a token, and is that of the variable of this name.
+/// Whether the block is that of the variable of this name, and begins at or before a token.
 fn begins_before(block: VariableBlock<'_>, number: usize, name: &str) -> bool
     ensures { result ≡ (nat_le block.entry.first number && bytes_eq block.entry.name.now name.now) }
 {
     block.first <= number && block.name == name
 }
 
-/// How many blocks end at or before a token, where so many are known to.
+/// How many blocks end at or before a token, if `from` of them are known to.
 fn passed(blocks: &[VariableBlock<'_>], from: usize, number: usize) -> usize
     requires passed { ArePassed (map block_view blocks.now) from number }
     requires within { from ≤ length blocks.now }
@@ -77,8 +77,9 @@ fn passed(blocks: &[VariableBlock<'_>], from: usize, number: usize) -> usize
     next
 }
 
-/// Whether a reference at a token stands in the block of the variable that it names. Blocks before `next` end at or
-/// before the token, and the blocks follow one another, so no other block is asked.
+/// Whether a reference at a token is a self-reference: whether it stands in the block of the variable that it names.
+/// Blocks before `next` end at or before the token, and the blocks follow one another, so only the next block can
+/// contain it.
 fn is_self_reference(
     blocks: &[VariableBlock<'_>],
     next: usize,
@@ -106,12 +107,12 @@ fn is_self_reference(
 #[derive(Clone, Copy)]
 struct Blocks<'b, 's> {
     all: &'b [VariableBlock<'s>],
-    /// How many of them end at or before the token that is looked at.
+    /// How many of them end at or before the current token.
     passed: usize,
 }
 
-/// Puts the reference that begins with a token into the set, unless it stands in the block of its own variable. Its text
-/// is spelled in the room of another's.
+/// Inserts the reference that begins with a token into the set, unless it is a self-reference. Its text is written into
+/// the room of another's.
 fn put(
     alloc: Global,
     tokens: &Tokens<'_>,
@@ -163,8 +164,8 @@ fn next_ident(tokens: &Tokens<'_>, from: usize) -> usize
     number
 }
 
-/// Puts the references of the tokens into the set, in order; `blocks` are those of variables, one after another. On
-/// refusal the set may have some of them after what it had.
+/// Inserts the references of the tokens into the set, in order; `blocks` are those of variables, one after another. A
+/// refusal leaves the set with its old texts, and perhaps with some of these references after them.
 pub fn collect(
     alloc: Global,
     tokens: &Tokens<'_>,
@@ -184,7 +185,7 @@ pub fn collect(
     while next < count {
         let number = next;
         next = next_ident(tokens, number + 1);
-        // Few words can be named, and only of those it matters what is before them.
+        // Few words may have a name after them, and only for those the token before matters.
         if !may_be_named(tokens, number) {
             continue;
         }
@@ -207,7 +208,7 @@ pub fn collect(
     Ok(())
 }
 
-/// The same, where a refusal leaves the set as it was.
+/// Inserts the references of the tokens into the set. A refusal leaves the set unchanged.
 pub fn add_references(
     alloc: Global,
     tokens: &Tokens<'_>,

@@ -1,4 +1,4 @@
-//! The tokens that patterns see: those that are no comment, blank or newline.
+//! The significant tokens, which patterns see: those that are no comment, blank or newline.
 
 ghost use Rattle.std.specs.Prelude.{◌≡◌, ◌<◌, ◌≤◌, ◌+◌, ◌∷◌, [], length, MatchOption};
 ghost use Rattle.hcl_tokens.specs.Kinds.{is};
@@ -8,7 +8,7 @@ ghost use Rattle.tf_facts.specs.Inner.Seen.{after_dot, seen_from, IsNextSeen};
 
 use hcl_tokens::{Kind, Tokens};
 
-/// A token that is seen, and its number.
+/// A significant token, and its number.
 #[derive(Clone, Copy)]
 pub struct Seen<'s> {
     pub number: usize,
@@ -33,7 +33,7 @@ pub fn is_dot(kind: Kind) -> bool
     matches!(kind, Kind::Dot)
 }
 
-/// The first token from a number on that is seen.
+/// The first significant token from a number on.
 pub fn next_seen<'s>(tokens: &Tokens<'s>, from: usize) -> Option<Seen<'s>>
     requires { from ≤ length tokens.now.tokens }
     ensures { MatchOption result (seen_from tokens.now.tokens from ≡ [])
@@ -52,7 +52,7 @@ pub fn next_seen<'s>(tokens: &Tokens<'s>, from: usize) -> Option<Seen<'s>>
     None
 }
 
-/// Whether the last token that is seen before this number is a dot. It looks back over no more than the tokens between.
+/// Whether the last significant token before this number is a dot. It looks back only over the tokens between.
 pub fn is_after_dot(tokens: &Tokens<'_>, number: usize) -> bool
     requires { number ≤ length tokens.now.tokens }
     ensures { result ≡ after_dot tokens.now.tokens number }

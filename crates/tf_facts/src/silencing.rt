@@ -10,7 +10,7 @@ ghost use Rattle.tf_facts.specs.Texts.{without_end, without_front};
 use crate::texts::{after, begins, cut, equals};
 use rule_set::{ALL_RULES, Rule, RuleSet, rule_named};
 
-/// What a silencing comment begins with, after its mark and blanks.
+/// The keyword of a silencing comment, after its mark and blanks.
 const KEYWORD: &[u8] = b"tflint-ignore:";
 
 fn is_blank(byte: u8) -> bool
@@ -100,7 +100,7 @@ fn with_named(set: RuleSet, part: &[u8]) -> RuleSet
     }
 }
 
-/// The rules that a list of names between commas has.
+/// The rules in a list of names between commas.
 fn all_named(list: &[u8]) -> RuleSet
     ensures { (rule : Rule) → holds result rule
         ≡ list_any (λ part. names rule (trim_blanks part)) (slice_split (λ b. b == 44) list.now) }
@@ -112,14 +112,14 @@ fn all_named(list: &[u8]) -> RuleSet
     set
 }
 
-/// What the comment of this text says, after its mark and blanks.
+/// The text of a comment after its mark and blanks.
 pub fn comment_words(text: &[u8]) -> &[u8]
     ensures { result.now ≡ comment_words text.now }
 {
     without_blanks(without_mark(text))
 }
 
-/// The names that the comment of this text lists, with commas between them: none where it isn't meant to silence a rule.
+/// The names in the comment of this text, with commas between them; none unless it is meant to silence a rule.
 pub fn silencing_list(text: &[u8]) -> Option<&[u8]>
     ensures { MatchOption result (parts (comment_words text.now) ≡ [])
         (λ list. parts (comment_words text.now) ≡ slice_split (λ b. b == 44) list.now) }

@@ -1,4 +1,4 @@
-//! What the source of a module is.
+//! The sort of a module's source.
 
 ghost use Rattle.std.specs.Prelude.{◌≡◌, ◌==◌, MatchOption, true, false};
 ghost use Rattle.std.specs.List.{list_all, list_any, slice_split};
@@ -77,7 +77,7 @@ fn is_local(text: &[u8]) -> bool
     begins(b"./", text) || begins(b"../", text)
 }
 
-/// The default branch that a revision is, where it is one.
+/// The default branch with this name, if there is one.
 fn default_branch(revision: &[u8]) -> Option<&'static str>
     ensures { MatchOption result (is_default_branch revision.now ≡ false)
         (λ branch. (is_default_branch revision.now ≡ true) × (branch.now ≡ revision.now)) }
@@ -97,7 +97,7 @@ fn default_branch(revision: &[u8]) -> Option<&'static str>
     None
 }
 
-/// The text before the first `//`, or all.
+/// The text before the first `//`, or all of it.
 fn before_slashes(text: &[u8]) -> &[u8]
     ensures { result.now ≡ before_slashes text.now }
 {
@@ -109,7 +109,7 @@ fn before_slashes(text: &[u8]) -> &[u8]
     text
 }
 
-/// What follows the first `?`, or nothing.
+/// The text after the first `?`, or nothing.
 fn after_question(text: &[u8]) -> &[u8]
     ensures { result.now ≡ after_question text.now }
 {
@@ -121,7 +121,7 @@ fn after_question(text: &[u8]) -> &[u8]
     &text[text.len()..]
 }
 
-/// What follows this front in the first parameter that begins with it, or nothing.
+/// The text after this front in the first parameter that begins with it, or nothing.
 fn revision<'a>(front: &[u8], text: &'a [u8]) -> &'a [u8]
     ensures { result.now ≡ revision front.now text.now }
 {
@@ -134,7 +134,7 @@ fn revision<'a>(front: &[u8], text: &'a [u8]) -> &'a [u8]
     }
 }
 
-/// What a source under version control is, by its revision.
+/// The sort of a source under version control, by its revision.
 fn pinned_to(revision: &[u8]) -> ModuleSource
     ensures { source result ≡ pinned_to revision.now }
 {
@@ -177,7 +177,7 @@ fn is_registry(text: &[u8]) -> bool
     !is_local(text) && is_address(before_slashes(text))
 }
 
-/// What a source is.
+/// The sort of a source.
 pub fn source_of(text: &[u8]) -> ModuleSource
     ensures { source result ≡ source_of text.now }
 {

@@ -1,4 +1,4 @@
-//! Texts, each once, in the order in which they came.
+//! Texts, each once, in the order of their insertion.
 
 ghost use Rattle.std.specs.Prelude.{◌≡◌, length, take, IfOk, OnOk, OnErr, []};
 ghost use Rattle.std.specs.List.{list_any};
@@ -57,7 +57,7 @@ impl TextSet {
         self.texts.contains(text)
     }
 
-    /// Puts a text last, where it is not there yet.
+    /// Inserts a text, unless it is there.
     pub(crate) fn insert(&mut self, text: String) -> Result<(), AllocError>
         ensures ok { OnOk result (self.new ≡ insert_key bytes_eq self.old (string_bytes text)) }
         ensures err { OnErr result (self.new ≡ self.old) }
@@ -68,8 +68,8 @@ impl TextSet {
         Ok(())
     }
 
-    /// Puts a copy of a text last, where it is not there yet. The copy is made before it is known whether it is needed: that
-    /// takes less than to look the text up twice.
+    /// Inserts a copy of a text, unless it is there. The copy is made before the lookup: that takes less time than two
+    /// lookups.
     pub(crate) fn insert_copy(&mut self, alloc: Global, text: &str) -> Result<(), AllocError>
         ensures ok { OnOk result (self.new ≡ insert_key bytes_eq self.old text.now) }
         ensures err { OnErr result (self.new ≡ self.old) }

@@ -23,7 +23,7 @@ pub fn equals(text: &[u8], other: &[u8]) -> bool
     text == other
 }
 
-/// What follows so many bytes, or nothing.
+/// The text after this many bytes, or nothing.
 pub fn after(text: &[u8], count: usize) -> &[u8]
     ensures { result.now ≡ drop count text.now }
 {
@@ -31,7 +31,7 @@ pub fn after(text: &[u8], count: usize) -> &[u8]
     &text[start..]
 }
 
-/// Cuts a text at the first byte that is this one.
+/// Cuts a text at the first byte of this value.
 pub fn cut(text: &[u8], byte: u8) -> Cut<'_>
     ensures { parts_of byte result ≡ slice_split (λ b. b == byte) text.now }
 {

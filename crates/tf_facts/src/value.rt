@@ -1,4 +1,4 @@
-//! The values of attributes, and what those of a block say.
+//! The values of attributes, and the body of a block.
 
 /// The tokens of a value, by the number of the first and the one after the last.
 #[derive(Clone, Copy, Debug, PartialEq, Eq)]
@@ -7,8 +7,7 @@ pub struct Value {
     pub end: usize,
 }
 
-/// What the attributes directly in the body of a block say: which of these names there are, and the value of the first
-/// `source`.
+/// The attributes directly in the body of a block: which of these names there are, and the value of the first `source`.
 #[derive(Clone, Copy)]
 pub struct Body {
     pub is_described: bool,

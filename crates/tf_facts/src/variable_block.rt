@@ -1,6 +1,6 @@
-//! Where a variable is declared.
+//! The block of a variable.
 
-/// The block of a variable, by its name and the numbers of its first token and of the one after its last.
+/// The block of a variable: its name, and the numbers of its first token and of the one after its last.
 #[derive(Clone, Copy)]
 pub struct VariableBlock<'s> {
     pub name: &'s str,

@@ -1,4 +1,4 @@
--- How a run ends that has no paths yet.
+-- The ends of runs that have no paths yet.
 use Rattle.std.proofs.Common.{Result, Ok, Err, IfOk}
 
 pub if_ok_more : {A E : Type 0} (r : Result A E) (P Q : A → Type 0) → IfOk r P → ((x : A) → P x → Q x) → IfOk r Q

@@ -1,4 +1,4 @@
--- How a run over found names goes on to the program's end.
+-- From a run over found names to the end of the program.
 use Rattle.std.proofs.Common.{◌≡◌, ◌∙◌, ◌++◌, [], ℕ, Bool, true, false, List, All, ap, append-nil, map, refl, subst, sym}
 use Rattle.std.specs.Prelude.{◌≢◌, ◌||◌, if◌then◌else◌}
 use Rattle.command_line.specs.Rows.{End, TookBy, Writer}
@@ -35,7 +35,7 @@ errs mode seen answers = concat (map (λ r. r.err) (reports_of mode seen answers
 abbrev statuses : Mode → List Found → List Outcome → ℕ
 statuses mode seen answers = worst_status (map (λ r. r.status) (reports_of mode seen answers))
 
--- what was taken whole stays so, whatever more is said
+-- a text that a writer took whole stays whole, whatever it takes afterwards
 still_whole : (w fin : Writer) (text last : List ℕ) → w.failed ≡ false → fin.before ≡ w.before → TookBy fin.failed w.after fin.after last → HasWhole w text → HasWhole fin text
 still_whole w fin text last good same took has = record {
   more = has.more ++ last;
@@ -45,7 +45,7 @@ still_whole w fin text last good same took has = record {
 }
 
 module _ (shows : Bool) (mode : Mode) (found : List Found) (a c : State) (out err : Writer) (s : ℕ) (run : IsRun shows mode found (λ answers. []) a c (record { out = out; err = err; status = s })) where
-  -- standard error failed: nothing more is said
+  -- standard error failed, so nothing more is written
   run_stopped : (last : List Outcome → List ℕ) → err.failed ≡ true → IsRun shows mode found last a c (record { out = out; err = err; status = 4 })
   run_stopped last bad = record {
     seen = run.seen;
@@ -60,7 +60,7 @@ module _ (shows : Bool) (mode : Mode) (found : List Found) (a c : State) (out er
     exit = sym (ap (λ (v : Bool). if v then 4 else statuses mode run.seen run.answers) (either_true out.failed err.failed bad));
   }
 
-  -- it didn't, and the last words are said
+  -- standard error didn't fail, and the last message is written
   run_said : (last : List Outcome → List ℕ) (fin : Writer) (s' : ℕ) → err.failed ≡ false → fin.before ≡ err.before → TookBy fin.failed err.after fin.after (last run.answers) → s' ≡ (if out.failed || fin.failed then 4 else s)
       → IsRun shows mode found last a c (record { out = out; err = fin; status = s' })
   run_said last fin s' good same took status = record {
@@ -86,7 +86,7 @@ status_kept : (v : Bool) (s s' : ℕ) → s' ≡ (if v then 4 else s) → s' ≢
 status_kept true s s' e ne h = ne e
 status_kept false s s' e ne h = ne (e ∙ h)
 
--- over files, and by a device, of which the walk changed nothing and asked for nothing
+-- over files, with a device; the walk changed no file and asked for no replacement
 module _ (shows quiet : Bool) (mode : Mode) (part : Part) (paths : List Name) (files mid : Files) (was walked : Faults) (asked asked' : Asked) (after : State) (found : List Found) (same : mid ≡ files) (still : asked' ≡ asked)
     (finds : IsPartOf files was walked part paths found) where
   formats_from : (end : End) → IsRun shows mode found (last_words quiet mode end.out.failed) (record { files = mid; faults = walked; asked = asked' }) after end
@@ -106,14 +106,14 @@ module _ (shows quiet : Bool) (mode : Mode) (part : Part) (paths : List Name) (f
   module _ (out err : Writer) (s : ℕ) (tally : Tally) (run : Tallies shows mode found (record { files = mid; faults = walked; asked = asked' }) after (record { out = out; err = err; status = s }) tally)
       (done : s ≢ 4 → All (λ f. Settled mode (mid.told (mid.real f.name.items)) (after.files.told (mid.real f.name.items))) found)
       (untouched : (name : Name) → All (λ f. name ≢ mid.real f.name.items) found → after.files.told name ≡ mid.told name) where
-    -- nothing can be said at the end
+    -- standard error failed, so no last message is written
     pub formats_stopped : err.failed ≡ true → Formats shows quiet mode part paths (record { files = files; faults = was; asked = asked }) after (record { out = out; err = err; status = 4 })
     formats_stopped bad =
         formats_from (record { out = out; err = err; status = 4 })
         (run_stopped shows mode found (record { files = mid; faults = walked; asked = asked' }) after out err s run.0 (last_words quiet mode out.failed) bad)
         (λ ne. absurd (ne refl)) untouched
 
-    -- the last words are said
+    -- the last message is written
     pub formats_finished : (fin : Writer) (s' : ℕ) → err.failed ≡ false → fin.before ≡ err.before → TookBy fin.failed err.after fin.after (words_at_end quiet mode out.failed tally)
         → s' ≡ (if out.failed || fin.failed then 4 else s) → Formats shows quiet mode part paths (record { files = files; faults = was; asked = asked }) after (record { out = out; err = fin; status = s' })
     formats_finished fin s' good before took status =

@@ -1,4 +1,4 @@
--- What is shown of words that ask for no run.
+-- The rows of words that request no run.
 use Rattle.std.proofs.Common.{◌≡◌, List, inr, subst, sym}
 use Rattle.clap.specs.Words.{Text}
 use Rattle.command_line.specs.Rows.{End, Program, Shows}

@@ -1,4 +1,4 @@
--- What the options of a call ask for, in the words of a line.
+-- The request in the code's options, as the definitions have it.
 use Rattle.std.specs.Prelude.{Result, Ok, Err, map}
 use Rattle.file_tree.specs.Choices.{chosen}
 use Rattle.tree_command.specs.Line.{Request, Given, Part}
@@ -23,6 +23,6 @@ abbrev pub result_request : Result TreeOptions Usage → Result Request Usage
 result_request (Ok o) = Ok (request_of o)
 result_request (Err usage) = Err usage
 
--- a part of the files as the code has it
+-- the view of a part of the files
 abbrev pub part_view : PartOfFiles → Part
 part_view part = record { shard = part.shard; chosen = chosen part.choice }

@@ -1,4 +1,4 @@
--- How a run of `tffmt-all` ends. Its texts and statuses are our own choice.
+-- The end of a run of `tffmt-all`. Its texts and statuses are our own choice.
 use Rattle.std.specs.Prelude.{◌≡◌, ◌≢◌, ◌⊎◌, ℕ, Bool, true, false, List, [], Option, Result, Ok, Err, All, codes, if◌then◌else◌}
 use Rattle.command_line.specs.Rows.{End, Row, Shows, fails_with, message_row, out_of_memory, output_row, write_failed}
 use Rattle.clap.specs.Words.{Text}
@@ -26,7 +26,7 @@ use Rattle.tree_command.specs.declared.usage.Usage.TheVariants.{Help, Version, B
 abbrev pub read_failed : Row
 read_failed = fails_with formatter (codes "read failed")
 
--- what is said at the end of a run of which this is the tally: how many files there were, unless it is to be quiet
+-- the last message of a run with this tally: the number of files, unless the run is quiet, or that a write failed
 abbrev pub words_at_end : Bool → Mode → Bool → Tally → List ℕ
 words_at_end quiet mode out_failed tally =
     if out_failed then write_failed formatter else (if quiet then [] else end_line mode tally)
@@ -34,32 +34,32 @@ words_at_end quiet mode out_failed tally =
 abbrev pub last_words : Bool → Mode → Bool → List Outcome → List ℕ
 last_words quiet mode out_failed answers = words_at_end quiet mode out_failed (tally_of answers)
 
--- what was found is what these paths stand for, but for links to files that are found under another name as well, and as far
--- as it is of the part; what can't be looked at is there since a call failed
+-- the found names are those that these paths stand for, without links to files that are found under another name as
+-- well, and as far as the part takes them; a name that can't be looked at is among them because a call failed
 abbrev pub IsPartOf : Files → Faults → Faults → Part → List Name → List Found → Type 0
 IsPartOf files was walked part paths found =
     (all : List Found) × Finds files part.chosen paths all
     × AreReal files part.chosen paths was walked all
     × ((once : List Found) × KeepsOnce all once × (found ≡ picked_of part.shard once))
 
--- THE FILES WERE FOUND that these paths stand for, and then each was looked at. Where what is said is read on a terminal, the
+-- THE FILES WERE FOUND that these paths stand for, and then each was looked at. If messages are read on a terminal, the
 -- lines of faults are shown.
 pub record Formats (shows quiet : Bool) (mode : Mode) (part : Part) (paths : List Name)
     (before after : State) (end : End) : Type 0 where
   pub found : List Found
-  pub walked : Faults  -- those of calls up to the end of the walk
+  pub walked : Faults  -- the faults of calls up to the end of the walk
   pub finds : IsPartOf before.files before.faults walked part paths found
   pub run : IsRun shows mode found (last_words quiet mode end.out.failed)
       (record before { faults = walked }) after end
-  -- unless something failed, nothing is left to do for a file that was found
+  -- unless something failed, each file that was found is settled
   pub done : end.status ≢ 4
       → All (λ f. Settled mode (before.files.told (before.files.real f.name.items))
       (after.files.told (before.files.real f.name.items))) found
-  -- a file to which no name that was found leads keeps its bytes
+  -- a file to which no found name leads keeps its bytes
   pub untouched : (name : Name) → All (λ f. name ≢ before.files.real f.name.items) found
       → after.files.told name ≡ before.files.told name
 
--- nothing was changed or asked to be, and there is nothing but this row
+-- no file was changed, no replacement asked for, and only this row is shown
 abbrev pub SaysOnly : Row → State → State → End → Type 0
 SaysOnly row before after end =
     (after.files ≡ before.files) × (after.asked ≡ before.asked) × Shows formatter row end
@@ -70,12 +70,13 @@ FormatsOr shows quiet mode part paths before after end =
     SaysOnly (out_of_memory formatter) before after end
     ⊎ Formats shows quiet mode part paths before after end
 
--- the same where the paths are those of the line
+-- memory ran out before a file was looked at, or the files that the names of the line stand for were formatted
 abbrev pub FormatsNamed : Bool → Bool → Mode → Part → List Name → State → State → End → Type 0
 FormatsNamed shows quiet mode part names before after end =
     FormatsOr shows quiet mode part (paths_of_line names) before after end
 
--- the same where they are read from standard input, which has these bytes where it tells them, unless its read failed
+-- memory ran out before a file was looked at, or a read of standard input failed, or the files were formatted that its
+-- names stand for; its bytes are `input`, if it tells them
 abbrev pub ReadsAndFormats : Bool → Bool → Mode → Part → Bool → Option (List ℕ) → State → State
     → End → Type 0
 ReadsAndFormats shows quiet mode part failed input before after end =
@@ -94,7 +95,7 @@ help_text =
     codes
     "usage: tffmt-all [--check | --diff | --list] [--in-place] [--sync] [--quiet]\n                 [--shard K/N] [--exclude PATH]... [--any-name] [--null] [--]\n                 [FILE|FOLDER]...\n\nFormats files in place and prints the names of those that it changed.\n\nA folder stands for the .tf, .tfvars, .tofu, .tftest.hcl, .tfmock.hcl,\n.tfquery.hcl and .tofutest.hcl files in it and below. Files and folders whose\nnames begin with a dot or end with ~, and those named #...#, are passed over.\nWithout an operand it is the current folder. A file that is named is taken if\nit is called like these, or if its name ends with .hcl.\n\n  --check          change nothing; report each file that isn't formatted\n  --diff           change nothing; show what would change; --check may stand\n                   beside it\n  --list           change nothing; print the names of the files that would\n                   change\n  --in-place       write over a file where no new one can be put in its place\n  --sync           have each new file on the disk before the next one is\n                   looked at\n  --quiet          say nothing of the run as a whole: no count of the files\n                   at its end\n  --exclude PATH   pass over what has this name or this path, and all that is\n                   below; may be given again\n  --any-name       take a file that is named whatever it is called\n  --shard K/N      take the K-th of N parts of the files\n  -0, --null       read names, each ended by NUL, from standard input\n  -j, --jobs N     taken, and of no use: files are worked on one after the\n                   other\n  -h, --help       print this\n  --version        print the version\n\nStatus: 0  all files are formatted, or are now\n        2  a file was refused, or the command line is wrong\n        3  with --check, --diff or --list: a file isn't formatted, and nothing\n           is worse\n        4  a file could not be read or written\n"
 
--- THE ROW of these texts where they ask for a text, or are no line of this program's
+-- THE ROW of these texts, if they request a text, or are no line of this program
 abbrev pub usage_row : List Text → Usage → Row
 usage_row texts Help = output_row help_text 0
 usage_row texts Version = output_row version_line 0
@@ -109,14 +110,14 @@ usage_row texts NamesTwice =
     message_row (codes "tffmt-all: error: --null takes no names on the command line\n") 2
 usage_row texts OutOfMemory = out_of_memory formatter
 
--- it is shown, or that memory ran out
+-- the row of the texts is shown, or that for running out of memory
 abbrev pub ShowsUsage : List Text → Usage → End → Type 0
 ShowsUsage texts usage end =
     Shows formatter (out_of_memory formatter) end ⊎ Shows formatter (usage_row texts usage) end
 
 -- ---- all runs
 
--- how a run ends that was asked for this
+-- the end of a run with this request
 abbrev pub EndsBy : Bool → Bool → Bool → Mode → Part → List Name → Bool → Option (List ℕ) → State
     → State → End → Type 0
 EndsBy shows true quiet mode part names failed input before after end =
@@ -136,15 +137,15 @@ EndsFor shows texts (Ok asking) failed input before after end =
 EndsFor shows texts (Err usage) failed input before after end =
     SaysOnly (usage_row texts usage) before after end
 
--- the end of a run with these texts, and these names beside them
+-- the end of a run with these texts, and these other words, which are names
 abbrev pub IsEndOf : Bool → List Text → List Name → Bool → Option (List ℕ) → State → State → End
     → Type 0
 IsEndOf shows texts others failed input before after end =
     SaysOnly (out_of_memory formatter) before after end
     ⊎ EndsFor shows texts (request_of_texts texts others) failed input before after end
 
--- THE END of a run with these words, where standard input has these bytes: what the words ask for; or memory ran out before
--- a file was looked at
+-- THE END of a run with these words, if standard input has these bytes: that of the request in the words, or memory ran
+-- out before a file was looked at
 abbrev pub IsEnd : Bool → List (List ℕ) → Bool → Option (List ℕ) → State → State → End → Type 0
 IsEnd shows words failed input before after end =
     IsEndOf shows (texts_in (codes "tffmt-all") words) (others_in words) failed input before after

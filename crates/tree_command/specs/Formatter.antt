@@ -1,11 +1,11 @@
--- The program as its messages have it.
+-- The program, for its messages.
 use Rattle.std.specs.Prelude.{ℕ, List, codes}
 use Rattle.command_line.specs.Rows.{Program}
 
 abbrev pub formatter : Program
 formatter = record { name = codes "tffmt-all"; failure = 4 }
 
--- what lines it has
+-- the usage
 abbrev pub usage_line : List ℕ
 usage_line =
     codes

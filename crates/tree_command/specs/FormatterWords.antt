@@ -1,10 +1,10 @@
--- What `tffmt-all` tells a wrong word by. Our own choice.
+-- The vocabulary with which `tffmt-all` finds and explains a wrong word. Our own choice.
 use Rattle.std.specs.Prelude.{[], ◌∷◌, codes}
 use Rattle.tree_command.specs.Formatter.{usage_line}
 use Rattle.tree_command.specs.Line.{tffmt_all}
 use Rattle.tree_words.specs.WrongWords.{Vocabulary, letters_of, names_of}
 
--- beside its own options, two of `terraform fmt`, with one dash or with two
+-- besides its own options, two of `terraform fmt`, with one dash or with two
 abbrev pub formatter_words : Vocabulary
 formatter_words = record {
   names = names_of tffmt_all;

@@ -1,5 +1,6 @@
--- What the words of a `tffmt-all` line ask for. clap reads those that are UTF-8 as a simple command: its own definitions of the
--- matches and the faults of a line decide. What its options may say, and that the other words are names, is our own choice.
+-- The request in the words of a `tffmt-all` line. clap reads the words that are UTF-8 as a simple command: its own
+-- definitions of the matches and the faults of a line decide. The values of the options are our own choice, and so is
+-- that all other words are names.
 use Rattle.std.specs.Prelude.{ℕ, ◌==◌, ◌&&◌, not, Bool, true, false, List, [], ◌∷◌, ◌++◌, Option, Some, None, Result, Ok, Err, codes, fold, length, if◌then◌else◌}
 use Rattle.std.specs.Option.{option_map_or}
 use Rattle.clap.specs.Words.{App, Row, Rule, Text, fault_of, first_of, matches_of, new_app, new_rule, with_rule}
@@ -17,8 +18,9 @@ use Rattle.tree_words.specs.declared.shard.Shard.{Shard}
 use Rattle.tree_command.specs.declared.usage.Usage.{Usage}
 use Rattle.tree_command.specs.declared.usage.Usage.TheVariants.{Help, Version, BadLine, TwoModes, BadPart, BadJobs, NamesTwice, OutOfMemory}
 
--- what a line gives that is never wrong by itself: whether names are read from standard input, whether nothing is said of the
--- run as a whole, whether a file that is named is taken whatever it is called, what is excluded, and the names of the line
+-- the parts of a line that are never wrong by themselves: whether names are read from standard input, whether the
+-- message about the run as a whole is left out, whether a named file is taken whatever its name, the excluded paths,
+-- and the names of the line
 pub record Given : Type 0 where
   pub null : Bool
   pub quiet : Bool
@@ -26,13 +28,13 @@ pub record Given : Type 0 where
   pub excluded : List Name
   pub names : List Name
 
--- what a line asks for: what is to be done, with which part of the files, and what it gives
+-- the request of a line: the mode, the part of the files, and the parts of the line that are never wrong by themselves
 pub record Request : Type 0 where
   pub mode : Mode
   pub shard : Option Shard
   pub given : Given
 
--- which files a line chooses, of those that its names stand for
+-- the files that a line chooses, among those that its names stand for
 pub record Part : Type 0 where
   pub shard : Option Shard
   pub chosen : Chosen
@@ -48,8 +50,8 @@ abbrev pub exclude_rule : Rule
 exclude_rule =
     record (new_rule (codes "exclude")) { long = Some (codes "exclude"); action = Some Append }
 
--- `tffmt-all [--check | --diff | --list] [--in-place] [--sync] [--quiet] [--shard K/N] [--exclude PATH]... [--any-name] [--jobs NUMBER]
--- [--null] [--version] [--] [FILE|FOLDER]...`
+-- `tffmt-all [--check | --diff | --list] [--in-place] [--sync] [--quiet] [--shard K/N] [--exclude PATH]... [--any-name]
+-- [--jobs NUMBER] [--null] [--version] [--] [FILE|FOLDER]...`
 abbrev pub tffmt_all : App
 tffmt_all =
     fold with_rule (new_app (codes "tffmt-all"))
@@ -59,9 +61,9 @@ tffmt_all =
     ∷ null_rule ∷ option_rule (codes "shard") ∷ exclude_rule
     ∷ jobs_rule ∷ file_rule ∷ [])
 
--- ---- what is to be done
+-- ---- the mode
 
--- one of the three flags, or none of them; `--check --diff` is `--diff`, which has the status of the check
+-- the mode of one of the three flags, or of none; `--check --diff` is `--diff`, which has the status of the check
 abbrev pub mode_by : Bool → Bool → Bool → Ending → Writing → Option Mode
 mode_by false false false ending writing = Some (Write writing)
 mode_by true false false ending writing = Some Check
@@ -70,7 +72,7 @@ mode_by true true false ending writing = Some Diff
 mode_by false false true ending writing = Some (Listed ending)
 mode_by _ _ _ ending writing = None
 
--- with `--null` names are printed as they are read
+-- with `--null` a printed name ends as those that are read
 abbrev pub ending_by : Bool → Ending
 ending_by null = if null then Null else Line
 
@@ -82,7 +84,7 @@ mode_asked rows =
 
 -- ---- the line
 
--- names are to be read from standard input, and stand on the line too
+-- names are to be read from standard input, and the line has names too
 abbrev pub has_names_twice : Given → Bool
 has_names_twice given = given.null && not (length given.names == 0)
 
@@ -94,7 +96,7 @@ request_by (Some mode) (Some shard) true given =
     if has_names_twice given then Err NamesTwice
     else Ok (record { mode = mode; shard = shard; given = given })
 
--- the names of a line are those that clap finds, and then the other ones
+-- the names of a line are those that clap finds, and then the words that aren't UTF-8
 abbrev pub given_by : List Name → List Row → Given
 given_by others rows = record {
   null = is_given (codes "null") rows;
@@ -114,23 +116,23 @@ request_of_rows others rows =
     if is_given (codes "version") rows then Err Version
     else request_with rows (given_by others rows)
 
--- what these texts ask for, and these names beside them, unless memory runs out
+-- the request in these texts, and these other words, which are names, unless memory runs out
 abbrev pub request_of_texts : List Text → List Name → Result Request Usage
 request_of_texts texts others =
     unless_fault (usage_by OutOfMemory Help BadLine) (fault_of tffmt_all texts)
     (request_of_rows others (matches_of tffmt_all texts))
 
--- what they ask to be done with files, where clap finds no fault in them
+-- the mode that these texts request, if clap finds no fault in them
 abbrev pub mode_of_texts : List Text → Option Mode
 mode_of_texts texts = mode_asked (matches_of tffmt_all texts)
 
 -- ---- all words
 
--- WHAT THE WORDS ASK FOR, the program's name first, unless memory runs out
+-- THE REQUEST in the words, the program's name first, unless memory runs out
 abbrev pub request_of_words : List (List ℕ) → Result Request Usage
 request_of_words words = request_of_texts (texts_in (codes "tffmt-all") words) (others_in words)
 
--- whether what is asked for needs names from standard input
+-- whether the request needs names from standard input
 abbrev pub reads_names : Result Request Usage → Bool
 reads_names (Ok asking) = asking.given.null
 reads_names (Err usage) = false

@@ -1,4 +1,4 @@
-//! What `tffmt-all` tells a wrong word by.
+//! The vocabulary with which `tffmt-all` finds and explains a wrong word.
 
 ghost use Rattle.std.specs.Prelude.{◌≡◌};
 ghost use Rattle.tree_command.specs.FormatterWords.{formatter_words};
@@ -34,7 +34,7 @@ static FOREIGN: &[Foreign] = &[
     },
 ];
 
-/// What the program tells a wrong word by.
+/// The vocabulary with which the program finds and explains a wrong word.
 pub(crate) fn formatter_words() -> Vocabulary
     ensures { vocabulary_of result ≡ formatter_words }
 {

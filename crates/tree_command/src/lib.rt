@@ -1,5 +1,5 @@
-//! What the program `tffmt-all` does, over any tree of files and any devices: it finds the files that its words name,
-//! formats them in place or says which aren't formatted, and reports.
+//! The program `tffmt-all` over any tree of files and any devices: it finds the files that its words name, formats them
+//! in place or reports which aren't formatted, and shows a message about the whole run.
 #![tactic(auto)]
 
 mod formatter_words;

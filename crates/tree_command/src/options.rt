@@ -17,14 +17,14 @@ use tree_words::jobs::{are_jobs_good, jobs};
 use tree_words::options::{counted_flag, file, is_given, names_in, names_of, null};
 use tree_words::shard::{Shard, shard_of};
 
-/// What the words give that is never wrong by itself.
+/// The parts of the words that are never wrong by themselves.
 #[derive(Debug, Drop)]
 pub struct Given<'a> {
     /// The names are read from standard input.
     pub null: bool,
-    /// Nothing is said of the run as a whole.
+    /// No message about the run as a whole is shown.
     pub quiet: bool,
-    /// A file that is named is taken whatever it is called.
+    /// A named file is taken whatever its name.
     pub any_name: bool,
     /// Names and paths that are excluded.
     pub excluded: Vec<&'a [u8]>,
@@ -32,14 +32,14 @@ pub struct Given<'a> {
     pub names: Vec<&'a [u8]>,
 }
 
-/// What the words ask for.
+/// The request in the words.
 #[derive(Debug, Drop)]
 pub struct TreeOptions<'a> {
-    /// What is to be done with the files.
+    /// What to do with the files.
     pub mode: Mode,
-    /// The part of the files that is taken, where it isn't all.
+    /// The part of the files that is taken, unless all are.
     pub shard: Option<Shard>,
-    /// What else the words give.
+    /// The other parts of the words.
     pub given: Given<'a>,
 }
 
@@ -73,7 +73,7 @@ fn command<'a>(alloc: Global) -> Result<Command<'a>, AllocError>
         .arg(file(alloc))
 }
 
-/// The mode that these flags ask for, where they go together.
+/// The mode of these flags, if they may stand together.
 fn mode_by(check: bool, diff: bool, list: bool, ending: Ending, writing: Writing) -> Option<Mode>
     ensures { result ≡ mode_by check diff list ending writing }
 {
@@ -86,14 +86,14 @@ fn mode_by(check: bool, diff: bool, list: bool, ending: Ending, writing: Writing
     }
 }
 
-/// How names are printed.
+/// How a printed name ends.
 fn ending_by(null: bool) -> Ending
     ensures { result ≡ ending_by null }
 {
     if null { Ending::Null } else { Ending::Line }
 }
 
-/// The mode that is asked for.
+/// The mode in the matches of a line.
 fn mode_of(matches: &ArgMatches<'_>) -> Option<Mode>
     ensures { result ≡ mode_asked (rows_of (found_of matches.now)) }
 {
@@ -108,14 +108,14 @@ fn mode_of(matches: &ArgMatches<'_>) -> Option<Mode>
     mode_by(check, diff, list, ending, writing)
 }
 
-/// Whether names are to come from standard input and stand on the line too.
+/// Whether names are to come from standard input and the line has names too.
 fn has_names_twice(given: &Given<'_>) -> bool
     ensures { result ≡ has_names_twice (given_of given.now) }
 {
     given.null && !given.names.is_empty()
 }
 
-/// The options of these parts of a line.
+/// The options with these parts of a line.
 fn options_by<'a>(
     mode: Option<Mode>,
     shard: Option<Option<Shard>>,
@@ -140,7 +140,7 @@ fn options_by<'a>(
     Ok(TreeOptions { mode, shard, given })
 }
 
-/// The options that the matches of a line give, which gives this.
+/// The options in the matches of a line, whose other parts are given.
 fn options_with<'a>(given: Given<'a>, matches: &ArgMatches<'a>) -> Result<TreeOptions<'a>, Usage>
     ensures asked { result_request result
         ≡ request_with (rows_of (found_of matches.now)) (given_of given.entry) }
@@ -152,7 +152,7 @@ fn options_with<'a>(given: Given<'a>, matches: &ArgMatches<'a>) -> Result<TreeOp
     options_by(mode, shard, are_jobs_good(matches), given)
 }
 
-/// What is excluded by a line of which the matches are these.
+/// The excluded paths in the matches of a line.
 fn excluded_in<'a>(alloc: Global, matches: &ArgMatches<'a>) -> Result<Vec<&'a [u8]>, AllocError>
     ensures { IfOk result (λ names. map (λ name. name.now) names.items
         ≡ texts_of (codes "exclude") (rows_of (found_of matches.now))) }
@@ -163,7 +163,7 @@ fn excluded_in<'a>(alloc: Global, matches: &ArgMatches<'a>) -> Result<Vec<&'a [u
     }
 }
 
-/// What a line gives of which the matches are these, and beside which there are these names.
+/// The parts of a line that are never wrong by themselves: from its matches, and with these names besides.
 fn given_in<'a>(
     alloc: Global,
     others: &[&'a [u8]],
@@ -183,7 +183,7 @@ fn given_in<'a>(
     })
 }
 
-/// The options that the matches of a line give, beside which there are these names.
+/// The options in the matches of a line, with these names besides.
 fn options_of<'a>(
     alloc: Global,
     others: &[&'a [u8]],
@@ -204,8 +204,8 @@ fn options_of<'a>(
     }
 }
 
-/// The options that the words give, the program's name first, and the names beside them, or the usage that they have. Where
-/// memory runs out it answers `OutOfMemory`.
+/// The options in the words, with the program's name first, and with the other words as names, or their usage. If
+/// memory runs out it returns `OutOfMemory`.
 pub fn options<'a>(
     alloc: Global,
     words: &'a [&'a str],
@@ -214,7 +214,7 @@ pub fn options<'a>(
     ensures asked { (result ≡ Err OutOfMemory)
         ⊎ (result_request result ≡ request_of_texts (map (λ word. word.now) words.entry.now)
         (map (λ name. name.now) others.now)) }
-    // What is to be done with files is what the words ask for.
+    // The mode is the one that the words request.
     ensures mode { IfOk result
         (λ options. mode_of_texts (map (λ word. word.now) words.entry.now) ≡ Some options.mode) }
 {

@@ -1,4 +1,4 @@
-//! Which files are taken, of those that names stand for.
+//! The files that are taken, among those that names stand for.
 
 ghost use Rattle.std.specs.Prelude.{◌≡◌};
 ghost use Rattle.tree_command.specs.Asked.{request_of, part_view};
@@ -8,16 +8,16 @@ use crate::options::TreeOptions;
 use file_tree::choice::Choice;
 use tree_words::shard::Shard;
 
-/// Which files are taken, of those that names stand for.
+/// The files that are taken, among those that names stand for.
 #[derive(Clone, Copy, Debug)]
 pub struct Part<'a> {
-    /// The part that is taken where several share the files.
+    /// The part that is taken, if several runs share the files.
     pub shard: Option<Shard>,
-    /// What is excluded, and how a file may be called that is named.
+    /// The excluded paths, and whether a named file is taken whatever its name.
     pub choice: Choice<'a>,
 }
 
-/// The files that these options take.
+/// The part of the files that these options take.
 pub fn part_of<'a>(options: &'a TreeOptions<'_>) -> Part<'a>
     ensures { part_view result ≡ part_of (request_of options.now) }
 {

@@ -36,7 +36,7 @@ const FAILURE: u8 = 4;
 
 static READ_FAILED: &str = "tffmt-all: error: read failed\n";
 
-/// This program as its messages have it.
+/// This program, for its messages.
 fn formatter() -> Program
     ensures { result ≡ formatter }
 {
@@ -48,7 +48,8 @@ fn formatter() -> Program
     )
 }
 
-/// The files that these names stand for, each once as far as links lead to it, and as far as they are of the part.
+/// The files that these names stand for, without links to files that are found under another name as well, as far as
+/// the part takes them.
 fn find_part<T: Tree>(
     alloc: Global,
     part: Part<'_>,
@@ -65,17 +66,17 @@ fn find_part<T: Tree>(
     pick(alloc, found, part.shard)
 }
 
-/// What a run does.
+/// What a run is to do.
 #[derive(Clone, Copy)]
 struct Job<'p> {
-    /// Nothing is said of the run as a whole.
+    /// No message about the run as a whole is shown.
     quiet: bool,
     mode: Mode,
-    /// The files of which it takes its part.
+    /// The part of the files that it takes.
     part: Part<'p>,
 }
 
-/// Says the last words of a run, and gives its status.
+/// Writes the last message of a run, and returns its status.
 fn finish<O: ByteSink, E: ByteSink>(job: Job<'_>, ran: &Ran, out: &O, err: &mut E) -> u8
     requires err { E.failed err.old ≡ false }
     ensures took { Took (writer E.ByteSink err.old err.new)
@@ -91,7 +92,7 @@ fn finish<O: ByteSink, E: ByteSink>(job: Job<'_>, ran: &Ran, out: &O, err: &mut 
     }
 }
 
-/// Finds the files and goes over them.
+/// Finds the files and looks at each.
 #[tactic(auto, using(tree_format::proofs::KeptFormatLemmas::kept_same, tree_format::proofs::KeptFormatLemmas::kept_still, tree_format::proofs::KeptFormatLemmas::kept_from))]
 fn run<T: WritableTree, P: Progress, O: ByteSink, E: ByteSink>(
     alloc: Global,
@@ -103,7 +104,7 @@ fn run<T: WritableTree, P: Progress, O: ByteSink, E: ByteSink>(
 ) -> u8
     requires out { O.failed streams.old.out ≡ false }
     requires err { E.failed streams.old.err ≡ false }
-    // However the run goes, each file is then as it was, or, where files are to be written, it has the format of its bytes.
+    // However the run ends, each file is unchanged, or, if files are to be written, it has the format of its bytes.
     ensures kept { (name : List ℕ)
         → MayBecome job.entry.mode ((T.files tree.old).told name) ((T.files tree.new).told name) }
     ensures ends { FormatsOr (P.shows progress.old) job.entry.quiet job.entry.mode
@@ -125,7 +126,7 @@ fn run<T: WritableTree, P: Progress, O: ByteSink, E: ByteSink>(
     }
 }
 
-/// Takes the names from a device.
+/// Reads the names from a device, and formats their files.
 #[tactic(auto, using(tree_format::proofs::KeptFormatLemmas::kept_same, tree_format::proofs::KeptFormatLemmas::kept_still, tree_format::proofs::KeptFormatLemmas::kept_from))]
 fn run_null<T: WritableTree, P: Progress, R: ByteSource, O: ByteSink, E: ByteSink>(
     alloc: Global,
@@ -138,7 +139,7 @@ fn run_null<T: WritableTree, P: Progress, R: ByteSource, O: ByteSink, E: ByteSin
     requires input { R.failed input.old ≡ false }
     requires out { O.failed streams.old.out ≡ false }
     requires err { E.failed streams.old.err ≡ false }
-    // However the run goes, each file is then as it was, or, where files are to be written, it has the format of its bytes.
+    // However the run ends, each file is unchanged, or, if files are to be written, it has the format of its bytes.
     ensures kept { (name : List ℕ)
         → MayBecome job.entry.mode ((T.files tree.old).told name) ((T.files tree.new).told name) }
     ensures ends { ReadsAndFormats (P.shows progress.old) job.entry.quiet job.entry.mode
@@ -160,7 +161,7 @@ fn run_null<T: WritableTree, P: Progress, R: ByteSource, O: ByteSink, E: ByteSin
     }
 }
 
-/// Takes the names from the line.
+/// Formats the files of the line's names.
 #[tactic(auto, using(tree_format::proofs::KeptFormatLemmas::kept_same, tree_format::proofs::KeptFormatLemmas::kept_still, tree_format::proofs::KeptFormatLemmas::kept_from))]
 fn run_named<T: WritableTree, P: Progress, O: ByteSink, E: ByteSink>(
     alloc: Global,
@@ -172,7 +173,7 @@ fn run_named<T: WritableTree, P: Progress, O: ByteSink, E: ByteSink>(
 ) -> u8
     requires out { O.failed streams.old.out ≡ false }
     requires err { E.failed streams.old.err ≡ false }
-    // However the run goes, each file is then as it was, or, where files are to be written, it has the format of its bytes.
+    // However the run ends, each file is unchanged, or, if files are to be written, it has the format of its bytes.
     ensures kept { (name : List ℕ)
         → MayBecome job.entry.mode ((T.files tree.old).told name) ((T.files tree.new).told name) }
     ensures ends { FormatsNamed (P.shows progress.old) job.entry.quiet job.entry.mode
@@ -186,7 +187,7 @@ fn run_named<T: WritableTree, P: Progress, O: ByteSink, E: ByteSink>(
     }
 }
 
-/// Says of a line that is none of this program's which word is wrong, and what the lines are.
+/// Shows the wrong word of a line that this program doesn't have, and the usage.
 fn bad_line<O: ByteSink, E: ByteSink>(
     alloc: Global,
     words: &[&str],
@@ -203,7 +204,7 @@ fn bad_line<O: ByteSink, E: ByteSink>(
     }
 }
 
-/// Says what words are answered that ask for no run.
+/// Shows the answer to words that request no run.
 fn say<O: ByteSink, E: ByteSink>(
     alloc: Global,
     words: &[&str],
@@ -227,7 +228,7 @@ fn say<O: ByteSink, E: ByteSink>(
     }
 }
 
-/// Does what is asked for.
+/// Does what the options request.
 #[tactic(auto, using(tree_format::proofs::KeptFormatLemmas::safe_same, tree_format::proofs::KeptFormatLemmas::safe_kept))]
 fn run_request<T: WritableTree, P: Progress, R: ByteSource, O: ByteSink, E: ByteSink>(
     alloc: Global,
@@ -240,7 +241,7 @@ fn run_request<T: WritableTree, P: Progress, R: ByteSource, O: ByteSink, E: Byte
     requires input { R.failed input.old ≡ false }
     requires out { O.failed streams.old.out ≡ false }
     requires err { E.failed streams.old.err ≡ false }
-    // However the run goes, each file is then as it was, or, where files are to be written, it has the format of its bytes.
+    // However the run ends, each file is unchanged, or, if files are to be written, it has the format of its bytes.
     ensures kept { (name : List ℕ)
         → MayBecome options.now.mode ((T.files tree.old).told name) ((T.files tree.new).told name) }
     // Standard input is read only for names.
@@ -262,7 +263,7 @@ fn run_request<T: WritableTree, P: Progress, R: ByteSource, O: ByteSink, E: Byte
     run_named(alloc, job, given.names.as_slice(), tree, progress, streams)
 }
 
-/// The program of words that are texts, and names beside them.
+/// The whole program for words that are texts, and other words, which are names.
 #[tactic(auto, using(tree_format::proofs::KeptFormatLemmas::safe_same, tree_format::proofs::KeptFormatLemmas::safe_kept))]
 fn run_line<'w, T: WritableTree, P: Progress, R: ByteSource, O: ByteSink, E: ByteSink>(
     alloc: Global,
@@ -275,10 +276,10 @@ fn run_line<'w, T: WritableTree, P: Progress, R: ByteSource, O: ByteSink, E: Byt
     requires input { R.failed input.old ≡ false }
     requires out { O.failed streams.old.out ≡ false }
     requires err { E.failed streams.old.err ≡ false }
-    // However the run goes, each file is then as it was, or has the format of its bytes.
+    // However the run ends, each file is unchanged, or has the format of its bytes.
     ensures safe { (name : List ℕ)
         → IsSafe ((T.files tree.old).told name) ((T.files tree.new).told name) }
-    // It has its format only where the words ask for that.
+    // A file is changed to its format only if the words request that.
     ensures kept { (mode : Mode)
         → mode_of_texts (map (λ word. word.now) line.entry.texts.now) ≡ Some mode
         → (name : List ℕ) → MayBecome mode ((T.files tree.old).told name)
@@ -286,7 +287,7 @@ fn run_line<'w, T: WritableTree, P: Progress, R: ByteSource, O: ByteSink, E: Byt
     // Standard input is read only for names.
     ensures unread { reads_names (request_of_texts (map (λ word. word.now) line.entry.texts.now)
         (map (λ name. name.now) line.entry.others.now)) ≡ false → input.new ≡ input.old }
-    // What was looked at and said, and with which status it ends.
+    // The files that were looked at, the messages, and the status.
     ensures ends { IsEndOf (P.shows progress.old) (map (λ word. word.now) line.entry.texts.now)
         (map (λ name. name.now) line.entry.others.now) (R.failed input.new) (R.left input.old)
         (state_of T.Tree tree.old) (state_of T.Tree tree.new)
@@ -298,7 +299,8 @@ fn run_line<'w, T: WritableTree, P: Progress, R: ByteSource, O: ByteSink, E: Byt
     }
 }
 
-/// The whole program over any tree and any devices. The words are those of the process, its name first.
+/// The whole program over any tree and any devices. The words are the process's arguments, with the program's name
+/// first.
 #[tactic(auto, using(tree_format::proofs::KeptFormatLemmas::safe_same, tree_format::proofs::KeptFormatLemmas::safe_kept))]
 pub fn program<T: WritableTree, P: Progress, R: ByteSource, O: ByteSink, E: ByteSink>(
     alloc: Global,
@@ -311,17 +313,17 @@ pub fn program<T: WritableTree, P: Progress, R: ByteSource, O: ByteSink, E: Byte
     requires input { R.failed input.old ≡ false }
     requires out { O.failed streams.old.out ≡ false }
     requires err { E.failed streams.old.err ≡ false }
-    // However the run goes, each file is then as it was, or has the format of its bytes.
+    // However the run ends, each file is unchanged, or has the format of its bytes.
     ensures safe { (name : List ℕ)
         → IsSafe ((T.files tree.old).told name) ((T.files tree.new).told name) }
-    // It has its format only where the words ask for that.
+    // A file is changed to its format only if the words request that.
     ensures kept { (mode : Mode) → mode_of_words (map (λ word. word.now) words.now) ≡ Some mode
         → (name : List ℕ) → MayBecome mode ((T.files tree.old).told name)
         ((T.files tree.new).told name) }
-    // Standard input is read only where the words ask for names from there.
+    // Standard input is read only if the words request names from there.
     ensures unread { reads_names (request_of_words (map (λ word. word.now) words.now)) ≡ false
         → input.new ≡ input.old }
-    // What was looked at and said, and with which status it ends.
+    // The files that were looked at, the messages, and the status.
     ensures ends { IsEnd (P.shows progress.old) (map (λ word. word.now) words.now)
         (R.failed input.new) (R.left input.old)
         (state_of T.Tree tree.old) (state_of T.Tree tree.new)

@@ -1,4 +1,4 @@
-//! Why a line of words has no options, and what is then said.
+//! Why a line of words has no options, and the texts that are then shown.
 
 /// Why there are no options.
 #[derive(Clone, Copy, Debug, PartialEq, Eq)]
@@ -9,19 +9,19 @@ pub enum Usage {
     Version,
     /// The words are no line of this program.
     BadLine,
-    /// `--list` stands beside `--check` or `--diff`.
+    /// `--list` is given with `--check` or `--diff`.
     TwoModes,
-    /// `--shard` says no part.
+    /// The text after `--shard` names no part.
     BadPart,
-    /// `--jobs` says no number of jobs.
+    /// The text after `--jobs` is no number of jobs.
     BadJobs,
-    /// `--null` stands beside names.
+    /// `--null` is given with names.
     NamesTwice,
     /// Memory ran out.
     OutOfMemory,
 }
 
-/// What lines this program has.
+/// The usage: the lines that this program has.
 pub static USAGE: &str = "\
 usage: tffmt-all [--check | --diff | --list] [--in-place] [--sync] [--quiet]
                  [--shard K/N] [--exclude PATH]... [--any-name] [--null] [--]
@@ -39,10 +39,10 @@ pub(crate) static BAD_JOBS: &str = "tffmt-all: error: --jobs takes a number from
 pub(crate) static NAMES_TWICE: &str =
     "tffmt-all: error: --null takes no names on the command line\n";
 
-/// What `--version` says.
+/// The answer to `--version`.
 pub static VERSION: &str = "tffmt-all 0.3.0\n";
 
-/// What `--help` says.
+/// The answer to `--help`.
 pub static HELP: &str = "\
 usage: tffmt-all [--check | --diff | --list] [--in-place] [--sync] [--quiet]
                  [--shard K/N] [--exclude PATH]... [--any-name] [--null] [--]

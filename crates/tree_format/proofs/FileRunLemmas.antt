@@ -1,4 +1,4 @@
--- A run over names that were found, one look after the other.
+-- A run over found names, one look after another.
 use Rattle.std.proofs.Common.{◌≡◌, ◌∙◌, ◌++◌, ◌∷◌, [], ◌<◌, ◌+◌, ℕ, Bool, true, false, List, Option, Some, None, ap, append_assoc, append-nil, arith, cond, drop, length, length-append, map, refl, subst, suc, sym, take}
 use Rattle.std.specs.Prelude.{◌≢◌, ◌||◌, ◌==◌, ◌-◌, fold, max, if◌then◌else◌}
 use Rattle.std.specs.List.{concat, count_by}
@@ -39,7 +39,7 @@ good_answer mode name (outcome.Differs text) good = refl
 good_answer mode name (outcome.Refused fault snippet) good = refl
 good_answer mode name (outcome.Failed fault) good = absurd (good refl)
 
--- ---- one look more
+-- ---- one more look
 
 pub looked_more : (shows : Bool) (mode : Mode) (seen : List Found) (answers : List Outcome) (found : Found) (answer : Outcome) (a b c : State)
     → LooksAtAll shows mode seen answers a b → Sees shows mode found answer b c → LooksAtAll shows mode (seen ++ found ∷ []) (answers ++ answer ∷ []) a c
@@ -63,7 +63,7 @@ fold_more : (n : ℕ) (rs : List Report) (r : Report) → fold worse_status n (m
 fold_more n [] r = refl
 fold_more n (x ∷ rs) r = fold_more (worse_status n x.status) rs r
 
--- what the run says, and its statuses
+-- the texts of the run so far, and its statuses
 
 abbrev outs : Mode → List Found → List Outcome → List ℕ
 outs mode seen answers = concat (map (λ r. r.out) (reports_of mode seen answers))
@@ -139,7 +139,7 @@ so_far_more shows mode seen more found answer a b c o o' o'' e e' e'' s s' t t' 
         → Appends x z (concat (map f (reports_of mode (seen ++ found ∷ []) (before.answers ++ answer ∷ []))))
     text f x y z p q = subst (Appends x z) (sym (ap (λ rs. concat (map f rs)) reports ∙ one_text f (reports_of mode seen before.answers) (report_of mode found.name.items answer))) (appends_then x y z _ _ p q)
 
--- one file more can be counted
+-- one more file can be counted
 pub can_grow : (shows : Bool) (mode : Mode) (seen : List Found) (a b : State) (o o' e e' : Option (List ℕ)) (s : ℕ) (t : Tally) → SoFar shows mode seen a b o o' e e' s t → length seen < 18446744073709551615 → CanGrow t
 can_grow shows mode seen a b o o' e e' s t before lt = subst CanGrow (sym before.counts) (record {
   changed = below is_changed;
@@ -151,7 +151,7 @@ can_grow shows mode seen a b o o' e e' s t before lt = subst CanGrow (sym before
     below : (p : Outcome → Bool) → count_by p before.answers + 1 < 18446744073709551616
     below p = omega (arith, count_by-le-length p before.answers, answers_of shows mode seen before.answers a b before.looks, lt)
 
--- ---- its end
+-- ---- the end of a run
 
 failed_either : (f g : Bool) → (f || g) ≡ true → (f || g) ≡ false → ⊥
 failed_either f g h k = cc
@@ -161,7 +161,7 @@ take_front xs x =
     let size : length (xs ++ x ∷ []) - 1 ≡ length xs = omega (arith, length-append xs (x ∷ [])) in
     ap (λ n. take n (xs ++ x ∷ [])) size ∙ take-append-le (length xs) xs (x ∷ []) (omega arith) ∙ take_all (length xs) xs (omega arith)
 
--- a text was taken whole, of one that was
+-- if a writer took a text whole, it took each front of it whole
 whole_part : (w : Writer) (all text rest : List ℕ) → all ≡ text ++ rest → w.failed ≡ false → Appends w.before w.after all → HasWhole w text
 whole_part w all text rest e good took = by w.before w.after refl refl (subst (Appends w.before w.after) e took)
   where
@@ -178,14 +178,14 @@ whole_part w all text rest e good took = by w.before w.after refl refl (subst (A
     by (Some a) None ea ec p = absurd p
     by (Some a) (Some c) ea ec p = at (Some a) (Some c) ea ec (Some (a ++ text)) refl (p ∙ sym (append_assoc a text rest))
 
--- of a list of reports, all but the last
+-- the writer took all reports of a list but the last one whole
 whole_reports : (w : Writer) (f : Report → List ℕ) (rs : List Report) → w.failed ≡ false → Appends w.before w.after (concat (map f rs)) → HasWhole w (concat (map f (but_last rs)))
 whole_reports w f rs good took =
     whole_part w (concat (map f rs)) (concat (map f (but_last rs))) (concat (map f (drop (length rs - 1) rs)))
     (ap (λ l. concat (map f l)) (sym (take-append-drop (length rs - 1) rs)) ∙ ap concat (map-append f (but_last rs) (drop (length rs - 1) rs)) ∙ concat-append (map f (but_last rs)) (map f (drop (length rs - 1) rs)))
     good took
 
--- a report could not be written
+-- the run ended because a report couldn't be written
 pub run_cut : (shows : Bool) (mode : Mode) (found seen rest : List Found) (here : Found) (answer : Outcome) (a b c : State) (o' e' : Option (List ℕ)) (s : ℕ) (t t' : Tally) (out err : Writer)
     → found ≡ seen ++ here ∷ rest → SoFar shows mode seen a b out.before o' err.before e' s t → t' ≡ tally_with t answer → Sees shows mode here answer b c → (out.failed || err.failed) ≡ true
     → TookBy out.failed o' out.after (report_of mode here.name.items answer).out → TookBy err.failed e' err.after (report_of mode here.name.items answer).err
@@ -225,7 +225,7 @@ run_cut shows mode found seen rest here answer a b c o' e' s t t' out err all be
       later = q;
     }
 
--- all are reported
+-- the run reported all files
 pub run_whole : (shows : Bool) (mode : Mode) (found : List Found) (a c : State) (s : ℕ) (t : Tally) (out err : Writer) → SoFar shows mode found a c out.before out.after err.before err.after s t → out.failed ≡ false → err.failed ≡ false
     → Tallies shows mode found a c (record { out = out; err = err; status = s }) t
 run_whole shows mode found a c s t out err before good good' = (

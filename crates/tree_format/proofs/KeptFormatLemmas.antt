@@ -1,4 +1,4 @@
--- What a run may make of a file, one look after the other.
+-- What may become of a file in a run, one look after another.
 use Rattle.std.proofs.Common.{Global, Vec, ◌≡◌, ◌∙◌, ◌≤◌, ◌++◌, ◌⊎◌, ◌<◌, ℕ, Bool, true, false, List, [], Option, Some, None, refl, sym, ap, subst, inl, inr, length, append-nil, arith, ⊎_elim}
 use Rattle.std.specs.Prelude.{◌&&◌, Result, Ok, Err, option_map, if◌then◌else◌}
 use Rattle.std.specs.Str.{bytes_eq}
@@ -48,7 +48,7 @@ use Rattle.tree_format.specs.declared.mode.Mode.TheVariants.{Write, Check, List 
 use Rattle.tree_format.specs.declared.outcome.Outcome.{Outcome}
 use Rattle.tree_format.specs.declared.outcome.Outcome.TheVariants as outcome
 
--- ---- formatted once, formatted for good
+-- ---- a formatted file stays formatted
 
 pub format_once : (x y z : List ℕ) → IsFormat x y → IsFormat y z → z ≡ y
 format_once x y z f g =
@@ -122,7 +122,7 @@ left_real Check old new name formatted other l = same_real old new other l
 left_real (Listed ending) old new name formatted other l = same_real old new other l
 left_real Diff old new name formatted other l = same_real old new other l
 
--- where names lead, no look changes
+-- no look changes where names lead
 pub visit_real : (shows : Bool) (mode : Mode) (old new : Files) (given : Name) (name : Name) (answer : Outcome) → Visits shows mode old new given name answer → (other : Name)
     → new.real other ≡ old.real other
 visit_real shows mode old new given name outcome.Formatted v other = same_real old new other v.2.1
@@ -239,7 +239,7 @@ module _ (mode : Mode) (old new : Files) (given : Name) (name : Name) where
       subst (λ t. Looks false mode old new given name t answer) same
       (makes_looks s accepted answer (subst IsText (sym same) is) (subst (λ t. Scans t s.tokens) (sym same) scans) v m)
 
--- a text whose scan failed
+-- a look at a text whose scan failed
 
 pub scan_looks : (mode : Mode) (files : Files) (given name text : List ℕ) (e : ScanError) (answer : Outcome) → answer ≡ outcome_of_scan e → IsText text → IsScanError text e → Looks false mode files files given name text answer
 scan_looks mode files given name text (scan_error.Fault fault) answer h is (at, found, there, none) =
@@ -247,7 +247,7 @@ scan_looks mode files given name text (scan_error.Fault fault) answer h is (at, 
     subst (Looks false mode files files given name text) (sym h) (inr (is, inl verdict_is), refl, refl)
 scan_looks mode files given name text scan_error.OutOfMemory answer h is e = subst (Looks false mode files files given name text) (sym h) refl
 
--- ---- what is asked for
+-- ---- replacements that are asked for
 
 module _ (given : Name) (told : Option (List ℕ)) (before after : Asked) (s : Scanned) (is : IsText s.text) (scans : Scans s.text s.tokens) (accepted : IsAccepted s.tokens) (tells : Tells told s.text) where
   asks_print : (mode : Mode) (r : Result Replaced TreeFault) → PrintAsked mode given s before after r → AsksIn mode given told before after r
@@ -304,9 +304,9 @@ pub asks_loaded : (mode : Mode) (given : Name) (old mid : Files) (a b c : Asked)
 asks_loaded mode given old mid a b c answer same e asks =
     subst (λ (files : Files). Asks mode given (files.told (files.real given)) a c answer) same (subst (λ (x : Asked). Asks mode given (mid.told (mid.real given)) x c answer) e asks)
 
--- ---- a look at a file that was read, or wasn't
+-- ---- a look at a file, whether it could be read or not
 
--- bytes that are no text have no line that is shown
+-- no line is shown for bytes that are no text
 no_line : (shows : Bool) (bytes : List ℕ) (fault : Fault) → IsLoadFault bytes fault → shown_line shows bytes fault ≡ []
 no_line shows bytes fault l = ap (λ v. snippet_if v bytes fault.at) (about shows fault.kind l.1)
   where
@@ -374,7 +374,7 @@ completed_asks shows mode given text told a b (outcome.Refused fault was) outcom
 completed_asks shows mode given text told a b (outcome.Refused fault was) (outcome.Changed how) l e = absurd e
 completed_asks shows mode given text told a b (outcome.Refused fault was) (outcome.Differs shown) l e = absurd e
 
--- a refusal is no failure
+-- a refused file is no failed look
 refused_notes : (a b : Faults) (fault : Fault) (was : Option (Vec ℕ Global)) → Notes a b (outcome.Refused fault was) → b ≡ a
 refused_notes a b fault was n = by n.is
   where
@@ -393,7 +393,7 @@ completed_notes shows text a b (outcome.Refused fault was) outcome.Formatted l e
 completed_notes shows text a b (outcome.Refused fault was) (outcome.Changed how) l e = absurd e
 completed_notes shows text a b (outcome.Refused fault was) (outcome.Differs shown) l e = absurd e
 
--- ---- nothing is left to do
+-- ---- settled files
 
 pub no_format : (x y : List ℕ) (f : Fault) → IsFault x f → IsFormat x y → ⊥
 no_format x y f (inl l) g = text_or_fault x f g.text l
@@ -455,7 +455,7 @@ visit_settled shows Check old new given name answer v good = tt
 visit_settled shows (Listed ending) old new given name answer v good = tt
 visit_settled shows Diff old new given name answer v good = tt
 
--- one file more, of the files of these names
+-- one more of the files with these names is settled
 module _ {X : Type 0} (mode : Mode) (name : X → List ℕ) (first old new : Name → Option (List ℕ)) (kept : (n : Name) → MayBecome mode (old n) (new n)) where
   pub all_settled : (xs : List X) (i : ℕ) (x : X) → i < length xs → All (λ x. Settled mode (first (name x)) (old (name x))) (take i xs)
       → Settled mode (first (name (get_or xs i x))) (new (name (get_or xs i x))) → All (λ x. Settled mode (first (name x)) (new (name x))) (take (i + 1) xs)
@@ -478,7 +478,7 @@ settled_after Diff a b c k s = tt
 
 -- ---- whole runs
 
--- a run over files of which a walk changed nothing
+-- a run over files, after a walk that changed nothing
 pub kept_from : (mode : Mode) (old mid new : Files) → mid ≡ old → ((name : Name) → MayBecome mode (mid.told name) (new.told name)) → (name : Name) → MayBecome mode (old.told name) (new.told name)
 kept_from mode old mid new same k name = subst (λ (files : Files). MayBecome mode (files.told name) (new.told name)) same (k name)
 
@@ -495,7 +495,7 @@ safe_kept Check a b k = safe_same a b k
 safe_kept (Listed ending) a b k = safe_same a b k
 safe_kept Diff a b k = safe_same a b k
 
--- ---- failures are real
+-- ---- failed looks have real faults
 
 pub notes_call : (before after : Faults) (answer : Outcome) → after ≡ with_fault before (failure_of answer) → Notes before after answer
 notes_call before after answer e = record { is = inl e }
@@ -513,7 +513,7 @@ notes_shown before after given s (outcome.Differs text) e shown = record { is = 
 notes_shown before after given s (outcome.Refused fault snippet) e shown = absurd shown
 notes_shown before after given s (outcome.Failed fault) e shown = notes_memory before after fault e shown
 
--- a reader is given back
+-- the faults of a load are those of its reader, which was given back
 pub notes_load : (before after : Faults) (failed : Bool) (loaded : Result (List ℕ) LoadError) (answer : Result (List ℕ) Outcome)
     → after ≡ with_fault before (fault_of_reader failed) → failed ≡ is_failed_load loaded → answer ≡ outcome_by loaded → LoadNotes before after answer
 notes_load before after failed loaded answer e f is = subst (LoadNotes before after) (sym is) (by loaded (e ∙ ap (λ v. with_fault before (fault_of_reader v)) f))

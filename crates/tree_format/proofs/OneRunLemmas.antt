@@ -1,4 +1,4 @@
--- Unless something fails, what is seen and done is a function of the files.
+-- Unless something fails, the outputs and the changes of a run are a function of the files.
 use Rattle.std.proofs.Common.{◌≡◌, ◌∙◌, ◌⊎◌, ◌++◌, ◌∷◌, [], ◌<◌, ℕ, Bool, true, false, List, Option, Some, None, ap, append-nil, inl, inr, length, map, refl, subst, sym}
 use Rattle.std.specs.Prelude.{◌≢◌, ◌||◌, IsSome, Result, Ok, Err, fold, if◌then◌else◌}
 use Rattle.std.specs.List.{list_any}
@@ -60,7 +60,7 @@ one_left Check old new new' name y z e l m = l ∙ sym m
 one_left (Listed ending) old new new' name y z e l m = l ∙ sym m
 one_left Diff old new new' name y z e l m = l ∙ sym m
 
--- an answer that another look needn't give: it failed, or the rights to the file were narrowed
+-- an answer that another look needn't repeat: the look failed, or the rights to the file were narrowed
 abbrev is_uneven : Outcome → Bool
 is_uneven (outcome.Failed fault) = true
 is_uneven (outcome.Changed Narrowed) = true
@@ -116,7 +116,7 @@ module _ (shows : Bool) (mode : Mode) (old new new' : Files) (given name bytes :
       let shown = l.2 ∙ ap (shown_line shows bytes) reason ∙ sym m.2 in
       ((λ i. record { out = []; err = refused_words given (reason i) (shown i); status = 2 }), l.1 ∙ sym m.1)
 
--- ---- of a file whose bytes are told
+-- ---- a look at a file whose bytes the device tells
 
 told_bytes : (told : Option (List ℕ)) (x y : List ℕ) → told ≡ Some x → Tells told y → y ≡ x
 told_bytes told x y e t = sym (subst (λ o. Tells o y) e t)
@@ -141,7 +141,7 @@ one_visit shows mode old new new' given name answer other some v w good good' = 
     by (Some bytes) e some =
         one_look shows mode old new new' given name bytes answer other (looks_of shows mode old new given name bytes answer e v) (looks_of shows mode old new' given name bytes other e w) good good'
 
--- ---- what looks make of the files, whatever they ask for
+-- ---- the files after looks, whatever replacements they ask for
 
 abbrev VisitsBy : Bool → Mode → Name → Option TreeFault → Outcome → State → State → Type 0
 VisitsBy shows mode name (Some fault) answer before after = (answer ≡ outcome.Failed fault) × (after ≡ before)
@@ -171,7 +171,7 @@ one_seen_by shows mode name None answer other a b a' b' some same s t good good'
     one_visit shows mode a.files b.files b'.files name (a.files.real name) answer other some s
     (subst (λ (files : Files). Visits shows mode files b'.files name (files.real name) other) same t) good good'
 
--- ---- what is told stays told
+-- ---- a device that tells the bytes of a file tells them afterwards too
 
 kept_some : (mode : Mode) (x y : Option (List ℕ)) → MayBecome mode x y → IsSome x → IsSome y
 kept_some (Write w) None y k some = absurd (cc)
@@ -192,7 +192,7 @@ told_after : (shows : Bool) (mode : Mode) (name : Name) (fault : Option TreeFaul
 told_after shows mode name (Some fault) answer a b other s some = subst (λ (state : State). IsSome (state.files.told (state.files.real other))) (sym s.1) some
 told_after shows mode name None answer a b other s some = told_after_visit shows mode a.files b.files name (a.files.real name) other answer s some
 
--- ---- one look after the other
+-- ---- one look after another
 
 first_false : (v w : Bool) → (v || w) ≡ false → v ≡ false
 first_false true w e = e
@@ -225,7 +225,7 @@ even_answers (x ∷ xs) e f =
     ap (λ v. v || list_any is_uneven xs) (even_answer x (first_false (is_failed x) (list_any is_failed xs) e) (first_false (is_narrowed x) (list_any is_narrowed xs) f))
     ∙ even_answers xs (second_false (is_failed x) (list_any is_failed xs) e) (second_false (is_narrowed x) (list_any is_narrowed xs) f)
 
--- ---- the same where rights were narrowed
+-- ---- reports and statuses of runs that may have narrowed rights
 
 abbrev plain : Outcome → Outcome
 plain (outcome.Changed how) = outcome.Changed AllKept
@@ -317,7 +317,7 @@ good_writers : (v : Bool) (status n : ℕ) → status ≡ (if v then 4 else n) �
 good_writers true status n e ne = absurd (ne e)
 good_writers false status n e ne = (refl, e)
 
--- what is known of a run that doesn't have status 4
+-- a run that doesn't have status 4
 record Good (shows : Bool) (mode : Mode) (found : List Found) (before after : State) (answers : List Outcome) (status : ℕ) : Type 0 where
   pub looks : Visited shows mode found answers before after
   pub good : list_any is_failed answers ≡ false

@@ -112,7 +112,7 @@ formatted_look shows mode old given name bytes formatted room is false e =
     no : true ≡ false → ⊥
     no h = cc
 
--- what holds a text, as a refusal of these bytes
+-- a refusal of these bytes, from an answer that holds the line of their fault
 refused_with : (mode : Mode) (old : Files) (given name bytes : List ℕ) (fault : Fault) → IsFault bytes fault → (answer : Outcome) → Holds answer (shown_line true bytes fault) → SomeLook true mode old given name bytes
 refused_with mode old given name bytes fault is (outcome.Differs text) h = (outcome.Refused fault (Some text), old, (is, refl, h), refl)
 refused_with mode old given name bytes fault is outcome.Formatted h = absurd h
@@ -138,7 +138,7 @@ visits_by shows mode old new given name bytes (outcome.Differs text) e l = (byte
 visits_by shows mode old new given name bytes (outcome.Refused fault snippet) e l = (bytes, subst (λ o. Tells o bytes) (sym e) refl, l)
 visits_by shows mode old new given name bytes (outcome.Failed fault) e l = l
 
--- what is then asked for
+-- the replacements that this look asks for
 some_asked : (shows : Bool) (mode : Mode) (old new : Files) (given name bytes : List ℕ) (answer : Outcome) (before : Asked) → Looks shows mode old new given name bytes answer
     → (after : Asked) × Asks mode given (Some bytes) before after answer
 some_asked shows mode old new given name bytes outcome.Formatted before l = (before, refl)
@@ -160,7 +160,7 @@ no_failure_of (outcome.Differs text) e = refl
 no_failure_of (outcome.Refused fault snippet) e = refl
 no_failure_of (outcome.Failed fault) e = absurd (cc)
 
--- there is a look at what a name leads to that doesn't fail
+-- there is a look at the file of a name that doesn't fail
 abbrev SomeSight : Bool → Mode → Name → Option TreeFault → State → Type 0
 SomeSight shows mode name fault before = (answer : Outcome) × (after : State) × SeesBy shows mode name fault answer before after × (is_failed answer ≡ false)
 
@@ -182,7 +182,7 @@ some_sight shows mode name fault before none ready = subst (λ f. SomeSight show
           look.3,
         )
 
--- ---- what is ready stays ready
+-- ---- files that are ready stay ready
 
 formatted_again : (x y : List ℕ) → IsFormat x y → IsFormat y y
 formatted_again x y f =
@@ -198,7 +198,7 @@ formatted_again x y f =
       fits = f.fits;
     }
 
--- bytes that are formatted need no room for the line of a fault
+-- formatted bytes need no room for the line of a fault
 line_room : (shows : Bool) (bytes : List ℕ) → IsFormat bytes bytes → HasLineRoom shows bytes
 line_room false bytes f = tt
 line_room true bytes f = λ fault is. absurd (no_format bytes bytes fault is f)
@@ -239,7 +239,7 @@ some_looks shows mode (f ∷ more) before ready =
     (All-tail (λ g. (g.fault ≡ None) × IsReady shows mode g.name.items (before.files.told (before.files.real g.name.items))) f more ready)) in
     (one.0 ∷ rest.0, rest.1, (one.1, one.2, rest.2), ap (λ v. v || list_any is_failed rest.0) one.3 ∙ rest.3)
 
--- a writer that tells nothing
+-- a writer that doesn't tell what it takes
 abbrev quiet : Writer
 quiet = record { before = None; after = None; failed = false; flushed = false; flushes_before = Never; flushes_after = Never }
 

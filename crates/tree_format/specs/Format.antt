@@ -1,4 +1,4 @@
--- What bytes are for the formatter: they have a format, or a fault for which they have none.
+-- The formatter's answer for bytes: they have a format, or a fault because of which they have none.
 use Rattle.std.specs.Prelude.{◌≡◌, ◌⊎◌, ◌≤◌, ◌<◌, ℕ, List, Ok, Err, length}
 use Rattle.hcl_source.specs.Load.{max_source, IsText, IsLoadFault, print_too_large}
 use Rattle.hcl_source.specs.declared.fault.Fault.{Fault}
@@ -14,13 +14,13 @@ pub record IsFormat (bytes formatted : List ℕ) : Type 0 where
   pub printed : formatted ≡ print source.tokens
   pub fits : length formatted ≤ max_source
 
--- a text is refused for this: by its verdict, or since its print is too large
+-- the fault because of which a text is refused: that of its verdict, or that its print is too large
 abbrev pub IsTextFault : List ℕ → Fault → Type 0
 IsTextFault text fault =
     IsTextVerdict text (Err fault)
     ⊎ ((source : Scanned) × IsTextVerdict text (Ok source)
     × (max_source < length (print source.tokens)) × (fault ≡ print_too_large))
 
--- THE FAULT for which bytes have no format
+-- THE FAULT because of which bytes have no format
 abbrev pub IsFault : List ℕ → Fault → Type 0
 IsFault bytes fault = IsLoadFault bytes fault ⊎ (IsText bytes × IsTextFault bytes fault)

@@ -1,4 +1,5 @@
--- What the laws say of runs in which nothing fails: the files are told, and nothing stands in the way of a look. Our own words.
+-- Runs in which nothing fails, for the laws: the device tells the files, and nothing prevents a look. Our own
+-- definitions.
 use Rattle.std.specs.Prelude.{◌≡◌, ◌≢◌, ◌⊎◌, ℕ, Bool, true, false, List, Option, Some, None, All, IsSome}
 use Rattle.hcl_source.specs.declared.fault.Fault.{Fault}
 use Rattle.file_tree.specs.Files.{Files, Name}
@@ -12,7 +13,7 @@ use Rattle.tree_format.specs.declared.mode.Mode.TheVariants.{Write, Check, List 
 use Rattle.tree_format.specs.declared.outcome.Outcome.{Outcome}
 use Rattle.tree_format.specs.declared.outcome.Outcome.TheVariants as outcome
 
--- each file has a format, or a fault
+-- the bytes have a format, or a fault
 abbrev pub HasFormatOrFault : List ℕ → Type 0
 HasFormatOrFault bytes =
     ((formatted : List ℕ) × IsFormat bytes formatted) ⊎ ((fault : Fault) × IsFault bytes fault)
@@ -21,7 +22,7 @@ HasFormatOrFault bytes =
 abbrev pub AreTold : Files → List Found → Type 0
 AreTold files found = All (λ f. IsSome (files.told (files.real f.name.items))) found
 
--- a look that shows this text, which is held in memory
+-- the answer of a look that shows this text, which is in memory
 abbrev pub Holds : Outcome → List ℕ → Type 0
 Holds (outcome.Differs text) shown = text.items ≡ shown
 Holds outcome.Formatted shown = ⊥
@@ -29,7 +30,7 @@ Holds (outcome.Changed how) shown = ⊥
 Holds (outcome.Refused fault snippet) shown = ⊥
 Holds (outcome.Failed fault) shown = ⊥
 
--- where what changes in a file is to be shown, there is room for it
+-- if the changes to a file are to be shown, there is memory for them
 abbrev pub HasRoom : Mode → Name → List ℕ → Type 0
 HasRoom (Write writing) name bytes = Unit {0}
 HasRoom Check name bytes = Unit {0}
@@ -38,14 +39,14 @@ HasRoom Diff name bytes =
     (formatted : List ℕ) → IsFormat bytes formatted → formatted ≢ bytes → (answer : Outcome)
     × Holds answer (shown_diff name bytes formatted)
 
--- where the line of a fault is to be shown, there is room for it
+-- if the line of a fault is to be shown, there is memory for it
 abbrev pub HasLineRoom : Bool → List ℕ → Type 0
 HasLineRoom false bytes = Unit {0}
 HasLineRoom true bytes =
     (fault : Fault) → IsFault bytes fault → (answer : Outcome)
     × Holds answer (shown_line true bytes fault)
 
--- the bytes of a file are told, and nothing stands in the way of a look at it
+-- the device tells the bytes of a file, and nothing prevents a look at it
 abbrev pub IsReady : Bool → Mode → Name → Option (List ℕ) → Type 0
 IsReady shows mode name None = ⊥
 IsReady shows mode name (Some bytes) =
@@ -56,7 +57,7 @@ AreReady shows mode files found =
     All (λ f. (f.fault ≡ None)
     × IsReady shows mode f.name.items (files.told (files.real f.name.items))) found
 
--- a file was written whose group couldn't be kept
+-- a file was written, and its group couldn't be kept
 abbrev pub is_narrowed : Outcome → Bool
 is_narrowed (outcome.Changed Narrowed) = true
 is_narrowed _ = false

@@ -1,4 +1,4 @@
--- One look at a file: what it answers, and what the files are then.
+-- One look at a file: its answer, and the files afterwards.
 use Rattle.std.specs.Prelude.{◌≡◌, ◌≢◌, ◌⊎◌, ◌++◌, ℕ, Bool, List, Option, Some, None, Result, Ok, Err, codes}
 use Rattle.file_tree.specs.Asked.{Asked, with_asked}
 use Rattle.file_tree.specs.Files.{Faults, Files, Name, with_fault, put}
@@ -17,7 +17,7 @@ use Rattle.tree_format.specs.declared.mode.Mode.TheVariants.{Write, Diff}
 use Rattle.tree_format.specs.declared.outcome.Outcome.{Outcome}
 use Rattle.tree_format.specs.declared.outcome.Outcome.TheVariants as outcome
 
--- what becomes of the files where the one of this real name isn't formatted
+-- the files after a look at a file with this real name that isn't formatted
 abbrev pub Left : Mode → Files → Files → Name → List ℕ → Type 0
 Left (Write writing) old new name formatted = new ≡ put old name formatted
 Left mode old new name formatted = new ≡ old
@@ -29,14 +29,14 @@ pub record Changes (mode : Mode) (old new : Files) (name : Name) (bytes : List �
   pub changed : formatted ≢ bytes
   pub left : Left mode old new name formatted
 
--- WHAT CHANGES in a file of this name, as it is shown: the name stands in the heads below `old/` and `new/`
+-- THE CHANGES to a file of this name, as they are shown: the heads have its name below `old/` and `new/`
 abbrev pub shown_diff : Name → List ℕ → List ℕ → List ℕ
 shown_diff given bytes formatted =
     diff_of (shown_head (codes "old/" ++ given)) (shown_head (codes "new/"
     ++ given)) bytes formatted
 
--- What a look at bytes of a file answers, of this real name, that was named so, and what the files are then. Where what changes
--- is to be shown, it is; so is the line of a fault, where what is said is read on a terminal.
+-- The answer of a look at a file with this real name, this given name and these bytes, and the files afterwards. If the
+-- changes are to be shown, the answer has them; if messages are read on a terminal, it has the line of a fault.
 abbrev pub Looks : Bool → Mode → Files → Files → Name → Name → List ℕ → Outcome → Type 0
 Looks shows mode old new given name bytes outcome.Formatted = IsFormat bytes bytes × (new ≡ old)
 Looks shows mode old new given name bytes (outcome.Changed how) =
@@ -48,26 +48,26 @@ Looks shows mode old new given name bytes (outcome.Refused fault snippet) =
     IsFault bytes fault × (new ≡ old) × (snippet_text snippet ≡ shown_line shows bytes fault)
 Looks shows mode old new given name bytes (outcome.Failed fault) = new ≡ old
 
--- the same for a file that is read: some bytes, and those that the device tells
+-- the answer of a look that reads a file: it is one for some bytes, which are those that the device tells
 abbrev pub Visits : Bool → Mode → Files → Files → Name → Name → Outcome → Type 0
 Visits shows mode old new given name (outcome.Failed fault) = new ≡ old
 Visits shows mode old new given name answer =
     (bytes : List ℕ) × Tells (old.told name) bytes
     × Looks shows mode old new given name bytes answer
 
--- why a look failed, if it did
+-- the fault of a failed look
 abbrev pub failure_of : Outcome → Option TreeFault
 failure_of (outcome.Failed fault) = Some fault
 failure_of _ = None
 
--- A FAILURE IS REAL: it is that of the one call of the device that failed, or memory ran out. Where a look doesn't fail, no
--- call failed.
+-- A FAILURE IS REAL: its fault is that of the only call of the device that failed, or memory ran out. If a look doesn't
+-- fail, no call failed.
 pub record Notes (before after : Faults) (answer : Outcome) : Type 0 where
   pub is : (after ≡ with_fault before (failure_of answer))
       ⊎ ((failure_of answer ≡ Some OutOfMemory) × (after ≡ before))
 
--- one file was to be replaced: this one, in place of the bytes that it has, by the format of these, in this way; and this
--- was answered
+-- one replacement was asked for: that of the file with this given name and these bytes by their format, in this way of
+-- writing; and this was the answer
 pub record AsksFor (writing : Writing) (given : Name) (told : Option (List ℕ))
     (before after : Asked) (answer : Result Replaced TreeFault) : Type 0 where
   pub bytes : List ℕ
@@ -76,24 +76,19 @@ pub record AsksFor (writing : Writing) (given : Name) (told : Option (List ℕ))
   pub is : IsFormat bytes formatted
   pub changed : formatted ≢ bytes
   pub asked : after
-      ≡ with_asked before (record {
-        name = given;
-        old = bytes;
-        new = formatted;
-        writing = writing;
-        answer = answer;
-      })
+      ≡ with_asked before (record { name = given; old = bytes; new = formatted; writing = writing;
+      answer = answer })
 
--- the same where files are to be written, and nothing otherwise
+-- if files are to be written, that replacement was asked for, and otherwise none
 abbrev pub AsksIn : Mode → Name → Option (List ℕ) → Asked → Asked → Result Replaced TreeFault
     → Type 0
 AsksIn (Write writing) given told before after answer =
     AsksFor writing given told before after answer
 AsksIn mode given told before after answer = after ≡ before
 
--- WHAT A LOOK ASKS FOR, at a file of which the device tells these bytes: where it is to be written and isn't formatted, that it
--- gets its format, in the way that the run was asked for. What the look says of the rights to the file is what was answered.
--- A look that fails may have asked for that too, and then has the fault that was answered.
+-- THE REPLACEMENT THAT A LOOK ASKS FOR, at a file whose bytes the device tells: if the file is to be written and isn't
+-- formatted, it is to get its format, in the run's way of writing. The look reports the rights to the file as the
+-- device answered. A failed look may have asked for the replacement too, and then has the fault that was the answer.
 abbrev pub Asks : Mode → Name → Option (List ℕ) → Asked → Asked → Outcome → Type 0
 Asks mode given told before after outcome.Formatted = after ≡ before
 Asks mode given told before after (outcome.Changed how) =

@@ -1,4 +1,5 @@
--- What is said of each file that a run looks at, and the status of the run: names stand in it as they are shown. The texts and statuses are our own choice.
+-- The report on each file that a run looks at, and the status of the run. Names in it are quoted as messages show them.
+-- The texts and statuses are our own choice.
 use Rattle.std.specs.Prelude.{ℕ, Option, Some, None, List, [], ◌∷◌, ◌++◌, ◌==◌, ◌||◌, codes, fold, max, if◌then◌else◌}
 use Rattle.std.specs.declared.alloc.Global.{Global}
 use Rattle.std.specs.declared.vec.Vec.{Vec}
@@ -16,7 +17,7 @@ use Rattle.tree_format.specs.declared.mode.Mode.TheVariants.{Write, Check, List 
 use Rattle.tree_format.specs.declared.outcome.Outcome.{Outcome}
 use Rattle.tree_format.specs.declared.outcome.Outcome.TheVariants as outcome
 
--- what goes to standard output and to standard error, and the status that the file gives
+-- the texts for standard output and for standard error, and the file's status
 pub record Report : Type 0 where
   pub out : List ℕ
   pub err : List ℕ
@@ -26,7 +27,7 @@ pub record Report : Type 0 where
 abbrev pub about : Name → List ℕ → List ℕ
 about name text = quoted name ++ (codes ": " ++ line text)
 
--- a name that is printed: as it is shown, or as it is
+-- the line of a printed name: quoted as in messages, or the plain name and NUL
 abbrev pub listed : Ending → Name → List ℕ
 listed Line name = line (quoted name)
 listed Null name = name ++ 0 ∷ []
@@ -35,7 +36,7 @@ listed Null name = name ++ 0 ∷ []
 abbrev pub narrowed_text : List ℕ
 narrowed_text = codes "its group cannot be kept: group and others have the rights that both had"
 
--- what is said of the rights to a file that was written
+-- the message about the rights to a file that was written
 abbrev pub rights_words : Replaced → Name → List ℕ
 rights_words Kept name = []
 rights_words Narrowed name = about name narrowed_text
@@ -49,11 +50,11 @@ changed_report Check how name =
 changed_report (Listed ending) how name = record { out = listed ending name; err = []; status = 3 }
 changed_report Diff how name = record { out = line (quoted name); err = []; status = 3 }
 
--- a file is refused: where, and why, and below that what is shown of it
+-- the message for a refused file: the place and the fault, and below it the line that is shown
 abbrev pub refused_words : Name → Fault → List ℕ → List ℕ
 refused_words name fault snippet = (quoted name ++ (codes ":" ++ fault_words fault)) ++ snippet
 
--- what a look keeps of the text of a file that is refused
+-- the line that a look shows of a refused file
 abbrev pub snippet_text : Option (Vec ℕ Global) → List ℕ
 snippet_text None = []
 snippet_text (Some text) = text.items

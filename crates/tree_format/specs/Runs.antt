@@ -1,4 +1,4 @@
--- What a run over files makes of each of them.
+-- Runs over files, and what becomes of each file.
 use Rattle.std.specs.Prelude.{◌≡◌, ◌⊎◌, ◌||◌, ◌-◌, ℕ, Bool, true, false, List, [], ◌∷◌, ◌++◌, Option, Some, None, length, map, take, if◌then◌else◌}
 use Rattle.std.specs.List.{concat}
 use Rattle.command_line.specs.Rows.{End, Took, TookBy, Writer}
@@ -15,14 +15,14 @@ use Rattle.tree_format.specs.declared.mode.Mode.TheVariants.{Write}
 use Rattle.tree_format.specs.declared.outcome.Outcome.{Outcome}
 use Rattle.tree_format.specs.declared.outcome.Outcome.TheVariants as outcome
 
--- a file is as it was, or has the format of the bytes that it had
+-- a file is unchanged, or has the format of the bytes that it had
 abbrev pub IsSafe : Option (List ℕ) → Option (List ℕ) → Type 0
 IsSafe None after = after ≡ None
 IsSafe (Some bytes) after =
     (after ≡ Some bytes)
     ⊎ ((formatted : List ℕ) × IsFormat bytes formatted × (after ≡ Some formatted))
 
--- what a run may make of a file: only where files are to be written it may get its format
+-- what may become of a file in a run: it may get its format only if files are to be written
 abbrev pub MayBecome : Mode → Option (List ℕ) → Option (List ℕ) → Type 0
 MayBecome (Write writing) before after = IsSafe before after
 MayBecome mode before after = after ≡ before
@@ -32,8 +32,8 @@ abbrev pub is_failed : Outcome → Bool
 is_failed (outcome.Failed fault) = true
 is_failed _ = false
 
--- where files are to be written, nothing is left to do for one: it has its format, or there is a fault for which it has
--- none, and it is as it was
+-- if files are to be written, a file is settled: it has its format, or it has a fault because of which it has none, and
+-- is unchanged
 abbrev pub Settled : Mode → Option (List ℕ) → Option (List ℕ) → Type 0
 Settled (Write writing) None after = Unit {0}
 Settled (Write writing) (Some bytes) after =
@@ -43,7 +43,7 @@ Settled mode before after = Unit {0}
 
 -- ---- the run
 
--- a look at a name that was found: it is at the file to which the name leads, unless there is a fault for which it can't be
+-- a look at a found name: at the file to which the name leads, unless a fault of the name prevents it
 abbrev pub SeesBy : Bool → Mode → Name → Option TreeFault → Outcome → State → State → Type 0
 SeesBy shows mode name (Some fault) answer before after =
     (answer ≡ outcome.Failed fault) × (after ≡ before)
@@ -55,7 +55,7 @@ SeesBy shows mode name None answer before after =
 abbrev pub Sees : Bool → Mode → Found → Outcome → State → State → Type 0
 Sees shows mode found = SeesBy shows mode found.name.items found.fault
 
--- looks at names, one after the other, and what each answers
+-- looks at names, one after another, and the answer of each
 abbrev pub LooksAtAll : Bool → Mode → List Found → List Outcome → State → State → Type 0
 LooksAtAll shows mode [] [] before after = after ≡ before
 LooksAtAll shows mode [] (answer ∷ answers) before after = ⊥
@@ -70,25 +70,25 @@ reports_of mode (found ∷ more) (answer ∷ answers) =
 reports_of mode (found ∷ more) [] = []
 reports_of mode [] answers = []
 
--- all but the last one
+-- all elements but the last
 abbrev pub but_last : {X : Type 0} → List X → List X
 but_last xs = take (length xs - 1) xs
 
--- a writer took all of this text, and what came after it is a part of what it took
+-- a writer took all of this text; what it took afterwards is a text or, if it failed, a front of one
 pub record HasWhole (w : Writer) (text : List ℕ) : Type 0 where
   pub more : List ℕ
   pub between : Option (List ℕ)
   pub whole : TookBy false w.before between text
   pub later : TookBy w.failed between w.after more
 
--- all reports but the last one were written whole: so after one that wasn't, no name was looked at
+-- all reports but the last one were written whole: so after a report that wasn't, no name was looked at
 pub record AreWhole (out err : Writer) (reports : List Report) : Type 0 where
   pub output : HasWhole out (concat (map (λ r. r.out) (but_last reports)))
   pub message : HasWhole err (concat (map (λ r. r.err) (but_last reports)))
 
--- THE RUN over names that were found: each is looked at and reported, up to one whose report can't be written, and then the
--- last words are said, which may rest on what was answered. Each writer took what was reported to it, or a part from the front
--- where it failed, and the status is the worst one, or 4 where a writer failed.
+-- THE RUN over found names: each is looked at and reported, up to one whose report can't be written, and then the last
+-- message is shown, which may depend on the answers. Each writer took its reports, or a front of them if it failed; the
+-- status is the worst one, or 4 if a writer failed.
 pub record IsRun (shows : Bool) (mode : Mode) (found : List Found) (last : List Outcome
     → List ℕ) (before after : State) (end : End) : Type 0 where
   pub seen : List Found

@@ -1,4 +1,4 @@
--- What is said at the end of a run of all files that it looked at. Our own choice.
+-- The message about all files at the end of a run. Our own choice.
 use Rattle.std.specs.Prelude.{◌≡◌, ℕ, ◌==◌, ◌&&◌, Bool, true, false, List, [], ◌++◌, codes, decimal, if◌then◌else◌}
 use Rattle.std.specs.List.{count_by}
 use Rattle.command_line.specs.Rows.{End}
@@ -32,11 +32,11 @@ tally_of answers = record {
   failed = count_by is_failed answers;
 }
 
--- after a number of files
+-- the text after a number of files
 abbrev pub files_word : ℕ → List ℕ
 files_word n = if n == 1 then codes " file" else codes " files"
 
--- what was done with those that weren't formatted, or is to be
+-- how the message counts files that weren't formatted: as formatted, or as not formatted
 abbrev pub changed_words : Mode → List ℕ
 changed_words (Write writing) = codes " formatted, "
 changed_words mode = codes " not formatted, "
@@ -46,7 +46,7 @@ counts_words mode t =
     decimal t.changed
     ++ (files_word t.changed ++ (changed_words mode ++ (decimal t.unchanged ++ codes " unchanged")))
 
--- `, N WORD`, or nothing where there are none
+-- `, N WORD`, or nothing if N is 0
 abbrev pub part : ℕ → List ℕ → List ℕ
 part n word = if n == 0 then [] else codes ", " ++ (decimal n ++ word)
 
@@ -57,15 +57,15 @@ faults_words t = part t.refused (codes " refused") ++ part t.failed (codes " fai
 abbrev pub is_empty : Tally → Bool
 is_empty t = t.changed == 0 && t.unchanged == 0 && t.refused == 0 && t.failed == 0
 
--- THE LAST LINE of a run over some files: how many files it formatted, or found not to be, how many are as they were, and how many were refused or
--- could not be looked at, if there are such
+-- THE LAST LINE of a run over some files: how many files it formatted, or found not to be formatted, and how many are
+-- unchanged; and, unless they are 0, how many were refused, and how many could not be looked at
 abbrev pub tally_line : Mode → Tally → List ℕ
 tally_line mode t = counts_words mode t ++ (faults_words t ++ codes "\n")
 
 abbrev pub end_line : Mode → Tally → List ℕ
 end_line mode t = if is_empty t then codes "no files found\n" else tally_line mode t
 
--- a run over these names with nothing said at its end, and the tally of its answers
+-- a run over these names without a last message, and the tally of its answers
 abbrev pub Tallies : Bool → Mode → List Found → State → State → End → Tally → Type 0
 Tallies shows mode found before after end tally =
     (run : IsRun shows mode found (λ answers. []) before after end) × (tally ≡ tally_of run.answers)

@@ -1,4 +1,4 @@
-//! What is proved of the definitions alone. No program calls these functions: their contracts are the laws.
+//! Laws about the definitions alone. No program calls these functions: their contracts are the laws.
 
 ghost use Rattle.std.specs.Prelude.{◌≡◌, ◌≢◌, ◌||◌, ℕ, Bool, List, [], false, map, true};
 ghost use Rattle.std.specs.List.{list_any};
@@ -12,8 +12,8 @@ ghost use Rattle.tree_format.specs.declared.outcome.Outcome.{Outcome};
 
 use hcl_scan::laws::{list_or_fault, text_or_fault};
 
-/// A run over names that were found has status 4 only where a writer failed or a look did. What a failed look says is the
-/// fault of a call of the device, in the walk or in the look, or memory ran out: `LooksAtAll` has it.
+/// A run over found names has status 4 only if a writer failed or a look did. A failed look has the fault of a call of
+/// the device, in the walk or in the look, or memory ran out; this is in the definition `LooksAtAll`.
 pub fn failures_are_real()
     ensures { (shows : Bool) (mode : Mode) (found : List Found) (last : List Outcome → List ℕ)
         (before after : State) (end : End) → (run : IsRun shows mode found last before after end)
@@ -21,9 +21,9 @@ pub fn failures_are_real()
         → (end.out.failed || end.err.failed) ≡ false → list_any is_failed run.answers ≡ true }
 {}
 
-/// Unless something fails, a run is a function of the names that were found and of the files: two runs over the same files,
-/// neither of which has status 4, print the same of each name, and have the same status and the same files after. Where
-/// neither narrowed the rights to a file, they say the same of each name too.
+/// Unless something fails, a run is a function of the found names and of the files: two runs over the same files,
+/// neither of which has status 4, have the same output for each name, the same status, and the same files afterwards.
+/// If neither run narrowed the rights to a file, their messages about each name are the same too.
 pub fn one_run()
     ensures { (shows : Bool) (mode : Mode) (found : List Found)
         (last other_last : List Outcome → List ℕ)
@@ -39,8 +39,8 @@ pub fn one_run()
         → reports_of mode run.seen run.answers ≡ reports_of mode other.seen other.answers) }
 {}
 
-/// Each file has a format, or a fault for which it has none. The body shows it for bytes that are there: it loads and scans,
-/// and keeps nothing.
+/// Each file has a format, or a fault because of which it has none. The body shows it for bytes as a value: it loads
+/// and scans them, and keeps nothing.
 pub fn format_or_fault(bytes: &[u8])
     ensures { HasFormatOrFault bytes.now }
 {
@@ -50,7 +50,7 @@ pub fn format_or_fault(bytes: &[u8])
     }
 }
 
-/// Over names whose files are told, and for which there is memory, there is a run in which nothing fails.
+/// Over names whose files the device tells, and for which there is memory, there is a run in which nothing fails.
 pub fn a_run()
     ensures { (shows : Bool) (mode : Mode) (found : List Found) (before : State)
         → AreReady shows mode before.files found → (after : State) × (end : End)

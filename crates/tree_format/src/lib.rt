@@ -1,4 +1,4 @@
-//! Formats the files that were found, one after the other, or says which of them aren't formatted.
+//! Formats the found files, one after another, or reports which of them aren't formatted.
 #![tactic(auto)]
 
 pub mod laws;

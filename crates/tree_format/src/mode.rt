@@ -1,17 +1,17 @@
-//! What is to be done with files.
+//! What to do with files.
 
 use file_tree::tree::Writing;
 
-/// How names are printed.
+/// How printed names end.
 #[derive(Clone, Copy, Debug, PartialEq, Eq)]
 pub enum Ending {
-    /// Each as it is shown, on a line of its own.
+    /// Quoted as in messages, each on a line of its own.
     Line,
-    /// Each as it is, ended by NUL.
+    /// Unchanged, each ended by NUL.
     Null,
 }
 
-/// What is to be done with files that aren't formatted.
+/// What to do with files that aren't formatted.
 #[derive(Clone, Copy, Debug, PartialEq, Eq)]
 pub enum Mode {
     /// They get their format.
@@ -20,6 +20,6 @@ pub enum Mode {
     Check,
     /// Their names are printed.
     List(Ending),
-    /// What would change is shown.
+    /// Their changes are shown.
     Diff,
 }

@@ -5,7 +5,7 @@ ghost use Rattle.std.specs.Prelude.{◌≡◌, Some, [], false};
 use hcl_scan::{ByteSink, Failed, Flushes};
 use std::alloc::Global;
 
-/// A sink that keeps what it takes. It fails where there is no memory.
+/// A sink that stores the bytes that it takes. It fails if memory runs out.
 #[derive(Debug, Drop)]
 pub struct Printed {
     bytes: Vec<u8>,

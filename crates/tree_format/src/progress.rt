@@ -1,22 +1,22 @@
-//! How far a run is.
+//! The progress of a run.
 
 ghost use Rattle.std.specs.Prelude.{◌≡◌, Bool};
 
 use crate::outcome::Outcome;
 
-/// Who watches a run, and may show on a terminal how far it is.
+/// An observer of a run, which may show its progress on a terminal.
 pub trait Progress {
-    /// What is said is read on a terminal.
+    /// Messages are read on a terminal.
     ghost shows: { Self → Bool };
 
     /// Whether lines of the source are shown below faults.
     fn shows_lines(&self) -> bool
         ensures { result ≡ shows self.now };
 
-    /// A file was looked at, and what came of it is about to be reported.
+    /// A file was looked at, and its outcome is about to be reported.
     fn looked(&mut self, outcome: &Outcome);
 
-    /// It is reported.
+    /// The outcome was reported.
     fn reported(&mut self);
 
     /// The run is at its end.

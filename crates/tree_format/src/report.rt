@@ -1,4 +1,4 @@
-//! What is said of a file.
+//! The report on a file.
 
 ghost use Rattle.std.specs.Prelude.{◌≡◌, ◌||◌, [], false, ◌++◌, codes, is_err, map};
 ghost use Rattle.std.specs.List.{concat};
@@ -17,7 +17,7 @@ use file_tree::tree::Replaced;
 use hcl_scan::{ByteSink, Failed, Fault};
 use itoa::Buffer;
 
-/// Writes a name as it is shown, and then the pieces.
+/// Writes a name, quoted as in messages, and then the parts.
 fn write_named<S: ByteSink>(sink: &mut S, name: &[u8], pieces: &[&[u8]]) -> Result<(), Failed>
     requires { S.failed sink.old ≡ false }
     ensures took { Took (writer S.ByteSink sink.old sink.new)
@@ -58,7 +58,7 @@ fn tell_at<'p, S: ByteSink>(
     write_named(sink, name, &[b":", line, b":", column, b": ", text, b"\n"])
 }
 
-/// Writes where a file is refused, and why.
+/// Writes the place and the fault of a refused file.
 fn tell_fault<S: ByteSink>(sink: &mut S, name: &[u8], fault: &Fault) -> Result<(), Failed>
     requires { S.failed sink.old ≡ false }
     ensures took { Took (writer S.ByteSink sink.old sink.new)
@@ -72,7 +72,7 @@ fn tell_fault<S: ByteSink>(sink: &mut S, name: &[u8], fault: &Fault) -> Result<(
     tell_at(sink, name, line, column, fault.kind.text())
 }
 
-/// Writes where a file is refused, and why, and then what is shown of it.
+/// Writes the place and the fault of a refused file, and then the line that is shown of it.
 fn tell_refused<S: ByteSink>(
     sink: &mut S,
     name: &[u8],
@@ -105,7 +105,7 @@ fn tell_name<S: ByteSink>(sink: &mut S, ending: Ending, name: &[u8]) -> Result<(
     }
 }
 
-/// Says of a file that was written what is left of the rights to it.
+/// Reports the rights to a file that was written, if they were narrowed.
 fn tell_rights<S: ByteSink>(sink: &mut S, how: Replaced, name: &[u8]) -> Result<(), Failed>
     requires { S.failed sink.old ≡ false }
     ensures took { Took (writer S.ByteSink sink.old sink.new) (rights_words how name.now) }
@@ -121,7 +121,7 @@ fn tell_rights<S: ByteSink>(sink: &mut S, how: Replaced, name: &[u8]) -> Result<
     }
 }
 
-/// Says that a file was written.
+/// Reports that a file was written.
 fn tell_written<O: ByteSink, E: ByteSink>(
     how: Replaced,
     name: &[u8],
@@ -141,7 +141,7 @@ fn tell_written<O: ByteSink, E: ByteSink>(
     told
 }
 
-/// Says what became of a file.
+/// Reports the outcome for a file.
 pub fn report<O: ByteSink, E: ByteSink>(
     mode: Mode,
     name: &[u8],
@@ -170,7 +170,7 @@ pub fn report<O: ByteSink, E: ByteSink>(
     }
 }
 
-/// The status that a file gives.
+/// The status for a file.
 pub fn status_of(mode: Mode, outcome: &Outcome) -> u8
     ensures { (name : Name) → result ≡ (report_of mode name outcome.now).status }
 {

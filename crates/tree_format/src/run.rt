@@ -1,4 +1,4 @@
-//! A run over files that were found.
+//! A run over found files.
 
 ghost use Rattle.std.specs.Prelude.{◌≡◌, ◌≢◌, ℕ, List, [], All, false};
 ghost use Rattle.command_line.specs.Rows.{end_of_streams};
@@ -44,16 +44,16 @@ fn look_at<T: WritableTree>(
     }
 }
 
-/// How a run over files ended.
+/// The end of a run over files.
 #[derive(Clone, Copy, Debug, PartialEq, Eq)]
 pub struct Ran {
     /// The worst status of a file, or that of a failed report.
     pub status: u8,
-    /// What came of the files that were looked at.
+    /// The tally of the files that were looked at.
     pub tally: Tally,
 }
 
-/// Goes over the files.
+/// Looks at the files, one after another.
 #[tactic(auto, using(crate::proofs::KeptFormatLemmas::kept_same, crate::proofs::KeptFormatLemmas::kept_trans))]
 pub fn run_over<T: WritableTree, P: Progress, O: ByteSink, E: ByteSink>(
     alloc: Global,
@@ -65,18 +65,18 @@ pub fn run_over<T: WritableTree, P: Progress, O: ByteSink, E: ByteSink>(
 ) -> Ran
     requires out { O.failed streams.old.out ≡ false }
     requires err { E.failed streams.old.err ≡ false }
-    // However the run goes, each file is then as it was, or, where files are to be written, it has the format of its bytes.
+    // However the run ends, each file is unchanged, or, if files are to be written, it has the format of its bytes.
     ensures kept { (name : List ℕ)
         → MayBecome mode ((T.files tree.old).told name) ((T.files tree.new).told name) }
-    // Where nothing failed, nothing is left to do for the files that were found.
+    // If nothing failed, each file that was found is settled.
     ensures done { result.status ≢ 4
         → All (λ f. Settled mode ((T.files tree.old).told ((T.files tree.old).real f.name.items))
         ((T.files tree.new).told ((T.files tree.old).real f.name.items))) all.now }
-    // A file to which no name that was found leads keeps its bytes.
+    // A file to which no found name leads keeps its bytes.
     ensures untouched { (name : List ℕ)
         → All (λ f. name ≢ (T.files tree.old).real f.name.items) all.now
         → (T.files tree.new).told name ≡ (T.files tree.old).told name }
-    // What was seen, reported and answered.
+    // The looks, their reports and their answers.
     ensures ran { Tallies (P.shows progress.old) mode all.now
         (state_of T.Tree tree.old) (state_of T.Tree tree.new)
         (end_of_streams O.ByteSink E.ByteSink streams.old streams.new result.status) result.tally }

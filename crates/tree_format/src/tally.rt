@@ -1,4 +1,4 @@
-//! How many files a run looked at, and what is said of them at its end.
+//! How many files a run looked at, and the message about them at its end.
 
 ghost use Rattle.std.specs.Prelude.{◌≡◌, ◌++◌, [], false, is_err};
 ghost use Rattle.command_line.specs.Rows.{Took, writer};
@@ -14,13 +14,13 @@ use itoa::Buffer;
 /// How many files a run looked at.
 #[derive(Clone, Copy, Debug, PartialEq, Eq)]
 pub struct Tally {
-    /// Those that weren't formatted: they are by now, if files were to be written.
+    /// Files that weren't formatted: they are by now, if files were to be written.
     pub changed: u64,
-    /// Those that were formatted.
+    /// Files that were formatted.
     pub unchanged: u64,
-    /// Those that have no format.
+    /// Files that have no format.
     pub refused: u64,
-    /// Those that could not be looked at, written or shown.
+    /// Files that could not be looked at, written or shown.
     pub failed: u64,
 }
 
@@ -37,7 +37,7 @@ impl Tally {
         }
     }
 
-    /// One file more, of which this came.
+    /// The tally with one more file, which had this outcome.
     pub(crate) fn add(self, outcome: &Outcome) -> Tally
         requires { CanGrow self }
         ensures { result ≡ tally_with self outcome.now }
@@ -70,14 +70,14 @@ fn is_empty(tally: &Tally) -> bool
     tally.changed == 0 && tally.unchanged == 0 && tally.refused == 0 && tally.failed == 0
 }
 
-/// What stands after a number of files.
+/// The text after a number of files.
 fn files_word(count: u64) -> &'static str
     ensures { result.now ≡ files_word count }
 {
     if count == 1 { " file" } else { " files" }
 }
 
-/// What was done with files that weren't formatted, or is to be.
+/// How the message counts files that weren't formatted: as formatted, or as not formatted.
 fn changed_words(mode: Mode) -> &'static str
     ensures { result.now ≡ changed_words mode }
 {
@@ -102,7 +102,7 @@ fn tell_counts<S: ByteSink>(sink: &mut S, mode: Mode, tally: &Tally) -> Result<(
     write_parts(sink, &[changed, word, words, unchanged, b" unchanged"])
 }
 
-/// Writes `, N WORD`, or nothing where there are none.
+/// Writes `, N WORD`, or nothing if N is 0.
 fn tell_part<S: ByteSink>(sink: &mut S, count: u64, word: &'static str) -> Result<(), Failed>
     requires { S.failed sink.old ≡ false }
     ensures took { Took (writer S.ByteSink sink.old sink.new) (part count word.now) }
@@ -116,7 +116,7 @@ fn tell_part<S: ByteSink>(sink: &mut S, count: u64, word: &'static str) -> Resul
     write_parts(sink, &[b", ", digits, word.as_bytes()])
 }
 
-/// Writes how many files were refused, and how many could not be looked at, where there are such.
+/// Writes how many files were refused, and how many could not be looked at, unless the number is 0.
 fn tell_faults<S: ByteSink>(sink: &mut S, tally: &Tally) -> Result<(), Failed>
     requires { S.failed sink.old ≡ false }
     ensures took { Took (writer S.ByteSink sink.old sink.new) (faults_words tally.now) }

@@ -1,4 +1,4 @@
-//! One file.
+//! A look at one file.
 
 ghost use Rattle.std.specs.Prelude.{◌≡◌, ◌≢◌, ◌≤◌, ◌++◌, false, Some, length, IfOk, IfErr};
 ghost use Rattle.hcl_layout.specs.Print.{print};
@@ -41,7 +41,7 @@ fn print_of(alloc: Global, accepted: &Accepted<'_, '_>) -> Result<Printed, TreeF
     }
 }
 
-/// Puts the print in place of a file.
+/// Replaces a file by its print.
 #[tactic(auto, using(crate::proofs::KeptFormatLemmas::notes_call, crate::proofs::KeptFormatLemmas::notes_fault, crate::proofs::KeptFormatLemmas::notes_memory))]
 fn write_print<T: WritableTree>(
     alloc: Global,
@@ -79,7 +79,7 @@ fn head_of(alloc: Global, folder: &[u8], name: &[u8]) -> Result<Vec<u8>, AllocEr
     shown_head(alloc, path.as_slice())
 }
 
-/// What changes in a file of this name, as it is shown.
+/// The changes to a file of this name, as they are shown.
 fn shown_diff(alloc: Global, name: &[u8], old: &[u8], new: &[u8]) -> Result<Vec<u8>, AllocError>
     ensures { IfOk result (λ text. text.items ≡ shown_diff name.now old.now new.now) }
 {
@@ -88,7 +88,7 @@ fn shown_diff(alloc: Global, name: &[u8], old: &[u8], new: &[u8]) -> Result<Vec<
     diff(alloc, old_name.as_slice(), new_name.as_slice(), old, new)
 }
 
-/// Shows what the print changes.
+/// Shows the changes that the print makes.
 fn show_print(alloc: Global, name: &[u8], accepted: &Accepted<'_, '_>) -> Outcome
     ensures { IsShown name.now accepted.now result }
 {
@@ -103,7 +103,7 @@ fn show_print(alloc: Global, name: &[u8], accepted: &Accepted<'_, '_>) -> Outcom
     }
 }
 
-/// Does with an accepted file what is asked for.
+/// Treats an accepted file by the mode.
 #[tactic(auto, using(crate::proofs::KeptFormatLemmas::notes_call, crate::proofs::KeptFormatLemmas::notes_shown))]
 fn change<T: WritableTree>(
     alloc: Global,
@@ -137,7 +137,7 @@ fn change<T: WritableTree>(
     }
 }
 
-/// Does with a source what is asked for.
+/// Treats a source by the mode.
 #[tactic(auto, using(crate::proofs::KeptFormatLemmas::notes_call, crate::proofs::KeptFormatLemmas::notes_memory))]
 fn change_source<T: WritableTree>(
     alloc: Global,
@@ -176,7 +176,7 @@ fn is_about_line(kind: FaultKind) -> bool
     )
 }
 
-/// The same outcome, with the line of the fault where it is to be shown.
+/// The outcome, with the line of its fault if that is to be shown.
 fn with_line(alloc: Global, shows: bool, source: &Source, outcome: Outcome) -> Outcome
     ensures { Completes shows source.now outcome result }
 {
@@ -195,7 +195,7 @@ fn with_line(alloc: Global, shows: bool, source: &Source, outcome: Outcome) -> O
     }
 }
 
-/// What a loaded text is for a look.
+/// A loaded text, or the outcome of a look whose load failed.
 fn outcome_of(loaded: Result<Source, LoadError>) -> Result<Source, Outcome>
     ensures { result ≡ outcome_by loaded }
 {
@@ -207,7 +207,7 @@ fn outcome_of(loaded: Result<Source, LoadError>) -> Result<Source, Outcome>
     }
 }
 
-/// What the error of a scan is for a look.
+/// The outcome of a look whose scan failed.
 fn outcome_of_scan(error: ScanError) -> Outcome
     ensures { result ≡ outcome_of_scan error }
 {
@@ -233,7 +233,7 @@ fn load<T: Tree>(alloc: Global, name: &[u8], tree: &mut T) -> Result<Source, Out
     outcome_of(loaded)
 }
 
-/// Looks at one file and does what is asked for.
+/// Looks at one file and treats it by the mode.
 #[tactic(auto, using(crate::proofs::KeptFormatLemmas::visits_loaded, crate::proofs::KeptFormatLemmas::visits_unloaded, crate::proofs::KeptFormatLemmas::asks_loaded, crate::proofs::KeptFormatLemmas::asks_unloaded))]
 pub fn visit<T: WritableTree>(
     alloc: Global,

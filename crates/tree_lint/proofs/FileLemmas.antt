@@ -86,7 +86,7 @@ keeps_file text size number old new file answer s = by answer
     by (Err file_stop.NotRead) k = absurd k
     by (Err file_stop.OutOfMemory) k = tt
 
--- its text is kept too
+-- the text of the file is kept too
 pub read_kept : (text : List ℕ) (size number : ℕ) (old mid new : Gathered) (more : ℕ) → KeepsFile text size number old mid (Ok more) → new ≡ record mid { texts = new.texts } → new.texts.items ≡ mid.texts.items ++ texts_kept (shows_lines mid.terminals) text
     → AddsRead text size number old new (Ok more)
 read_kept text size number old mid new more k rest texts = (
@@ -103,7 +103,7 @@ read_kept text size number old mid new more k rest texts = (
   },
 )
 
--- memory ran out
+-- memory ran out, so the file isn't kept
 pub read_lost : (text : List ℕ) (size number : ℕ) (old new : Gathered) → AddsRead text size number old new (Err (stop.Failed OutOfMemory))
 read_lost text size number old new = (file_stop.OutOfMemory, tt, refl)
 
@@ -128,7 +128,7 @@ stops_unread shows told size was is (stop.Refused fault line) r = (r.0, (r.1.0, 
 stops_unread shows told size was is stop.TooLarge r = absurd r
 stops_unread shows told size was is (stop.Failed fault) r = r
 
--- ---- where they stop
+-- ---- the file that isn't kept
 
 pub stops_at : (shows shown : Bool) (told : Name → Option (List ℕ)) (names : List Name) (i size : ℕ) (name : Name) (here : Option (List ℕ)) (kept : Kept) (first was is : Faults) (why : Stop) → i < length names → name ≡ get_or names i [] → here ≡ told name → was ≡ first
     → Reached told (take i names) size kept → shown ≡ shows → StopsBy shown here size was is why → StopsAt shows told names first is name why
@@ -142,7 +142,7 @@ stops_at shows shown told names i size name here kept first was is why lt named 
   by = subst (λ n. StopsBy shows (told name) n first is why) p.size_is (subst (λ w. StopsBy shows (told name) size w is why) e (subst (λ t. StopsBy shows t size was is why) same (subst (λ s. StopsBy s here size was is why) on h)));
 }
 
--- ---- all of them
+-- ---- all files
 
 looked_more : (checks : Bool) (fs gs : List File) → comments_looked_for checks (fs ++ gs) ≡ comments_looked_for checks fs ++ comments_looked_for checks gs
 looked_more true fs gs = flat_map-append faults_in fs gs
@@ -214,7 +214,7 @@ have_found told policy names size checks ends terminals all issues linted same s
   texts = p.texts ∙ ap (λ (v : Terminals). texts_shown (shows_lines v) p.reached.files) seen;
 })
 
--- ---- in the code's terms
+-- ---- by the views of the code's values
 
 pub told_here : (later files : Files) (name : Name) → later ≡ files → bytes_of_name later name ≡ bytes_of_name files name
 told_here later files name same = ap (λ f. bytes_of_name f name) same

@@ -9,7 +9,7 @@ use Rattle.tree_lint.specs.declared.kept.KeptRefusals.{KeptRefusals}
 pub keeps_none : (kept : KeptRefusals) → KeepsAll kept kept []
 keeps_none kept whole = (whole, sym (append-nil (map kept_remark kept.refusals.items)))
 
--- some, and then others
+-- the refusals of one list are kept, and then those of another
 pub keeps_more : (a b c : KeptRefusals) (rs qs : List Refusal) → KeepsAll a b rs → KeepsAll b c qs → KeepsAll a c (rs ++ qs)
 keeps_more a b c rs qs first then' whole =
     let later = then' whole in

@@ -1,4 +1,4 @@
--- The report of a module, after others.
+-- The report of a module, after other reports.
 use Rattle.std.proofs.Common.{◌≡◌, ◌∙◌, ◌++◌, ℕ, Bool, true, false, List, [], ◌∷◌, ap, arith, eqb-true, length, refl, sym}
 use Rattle.std.specs.Prelude.{◌==◌, codes, decimal}
 use Rattle.std.specs.List.{flat_map}
@@ -28,7 +28,7 @@ parted_some : (t : List ℕ) → is_some_text t ≡ true → after_empty_line tr
 parted_some [] h = absurd (cc)
 parted_some (b ∷ bs) h = refl
 
--- ---- a report, by what is said of each issue
+-- ---- a report, by the text for each issue
 
 module _ (said : Issue → List ℕ) where
   some_by : (i : Issue) (is : List Issue) → is_some_text (report_by said (i ∷ is)) ≡ true
@@ -48,7 +48,7 @@ module _ (said : Issue → List ℕ) where
   some_report [] e is f = absurd (cc)
   some_report (i ∷ is) e same f = refl
 
--- ---- the report of what is found, with lines and without
+-- ---- the report of a module, with lines of its files and without
 
 pub parted_report : (shows : Bool) (names : List Name) (linted : Linted) (e : Bool) → e ≡ (length linted.issues == 0) → e ≡ false → after_empty_line true (report_of shows names linted) ≡ 10 ∷ report_of shows names linted
 parted_report true names linted e is f = parted_by (shown_issue names linted.texts) linted.issues e is f

@@ -1,4 +1,4 @@
--- What is shown of one module.
+-- The output and the messages for one module.
 use Rattle.std.proofs.Common.{◌≡◌, ◌∙◌, ◌<◌, ◌+◌, ◌++◌, ◌∷◌, [], ℕ, Bool, true, false, Global, List, Option, ap, append-nil, arith, drop, eqb-true, flat_map, get_or, inl, inr, length, map, refl, subst, sym}
 use Rattle.std.specs.Prelude.{◌==◌, ◌&&◌, None, Ok, Err, String, if◌then◌else◌, not, string_bytes}
 use Rattle.comment_faults.specs.CommentFaults.{fault_view}
@@ -36,7 +36,7 @@ use Rattle.tree_lint.proofs.PartedLemmas.{nothing_parted}
 pub shows_as : (task : Task) (m : Module) (P Q : Verdict → Type 0) (out err : Writer) (before after : KeptRefusals) (ended : Ended) → ((v : Verdict) → P v → Q v) → Shows task m P out err before after ended → Shows task m Q out err before after ended
 shows_as task m P Q out err before after ended h s = record { verdict = s.verdict; holds = h s.verdict s.holds; output = s.output; message = s.message; kept = s.kept; exit = s.exit; issues = s.issues; shown = s.shown }
 
--- a writer that isn't called
+-- a writer that isn't called took an empty text
 pub untouched : (f : Bool) (a : Option (List ℕ)) → f ≡ false → TookBy f a a []
 untouched false a e = appends_nothing a
 untouched true a e = absurd (cc)
@@ -89,7 +89,7 @@ pub comments_told : (shows : Bool) (m : Module) (linted : Linted) (names : List 
     → flat_map (λ f. comment_line shows names linted.texts (fault_view f)) faults ≡ verdict_message shows m (Ok linted)
 comments_told shows m linted names faults same e = flat_of fault_view (comment_line shows names linted.texts) faults ∙ (λ i. flat_map (comment_line shows (same i) linted.texts) (sym e i))
 
--- one, and those after it
+-- the text for one comment and for those after it
 pub comment_here : (said : code.CommentFault → List ℕ) (faults : List code.CommentFault) (i : ℕ) (f : code.CommentFault) → i < length faults → f ≡ get_or faults i f → flat_map said (drop i faults) ≡ said f ++ flat_map said (drop (i + 1) faults)
 comment_here said faults i f lt is = ap (flat_map said) (from_here faults i f lt is)
 
@@ -101,7 +101,7 @@ remarks_told names issues faults texts = ap (λ l. map (issue_remark names) issu
     by [] = refl
     by (f ∷ fs) = ap (λ l. comment_remark names (fault_view f) ∷ l) (by fs)
 
--- ---- nothing is found
+-- ---- nothing was found
 
 and_true : (a b : Bool) → (a && b) ≡ true → (a ≡ true) × (b ≡ true)
 and_true true true e = (refl, refl)
@@ -128,7 +128,7 @@ pub names_as : (shows : Bool) (m : Module) (is_after : Bool) (linted : Linted) (
     → after_empty_line is_after (report_of shows names linted) ≡ linted_output None shows is_after m linted
 names_as shows m is_after linted names files e same = ap (λ l. after_empty_line is_after (report_of shows l linted)) (e ∙ map_twice quoted string_bytes files ∙ ap (λ l. map quoted (map string_bytes l)) same)
 
--- in a form, nothing is written of no issue
+-- in a form, nothing is written if there is no remark
 nothing_in_form : (form : Form) (is_after : Bool) → module_text form is_after [] ≡ []
 nothing_in_form Json is_after = refl
 nothing_in_form Sarif is_after = refl
@@ -186,6 +186,6 @@ fault_said f fault told name text e et en ex =
     ∙ sym (append-nil (refusal_line (refusal_of f.name.items (tree_fault_text (reported_fault fault)))))
     ∙ ap (λ o. flat_map refusal_line (refusal_by o f.name.items)) (sym e)
 
--- one, and those after it
+-- the lines for one name and for those after it
 pub fault_here : (faults : List Found) (i : ℕ) (f : Found) → i < length faults → f ≡ get_or faults i f → flat_map fault_lines (drop i faults) ≡ fault_lines f ++ flat_map fault_lines (drop (i + 1) faults)
 fault_here faults i f lt is = ap (flat_map fault_lines) (from_here faults i f lt is)

@@ -1,4 +1,4 @@
--- A run over modules, one after the other.
+-- A run over modules, one after another.
 use Rattle.std.proofs.Common.{◌≡◌, ◌∙◌, ◌++◌, ◌∷◌, ◌+◌, ◌*◌, ◌<◌, ◌≤◌, [], ℕ, Bool, true, false, List, Option, ap, append_assoc, append-nil, arith, cond, flat_map, length, length-append, map, refl, subst, suc, sym}
 use Rattle.std.specs.Prelude.{◌||◌, ◌==◌, ◌&&◌, Ok, Err, fold, if◌then◌else◌, not, sum_by}
 use Rattle.std.specs.List.{count_by, list_any}
@@ -159,7 +159,7 @@ module _ (files : Files) where
     small = omega (arith, ap (λ (c : Counts). c.issues) none);
   }
 
-  -- its numbers have room for one module more
+  -- the numbers of the run have room for one more module
   pub has_room : (manner : Manner) (head : List ℕ) (seen : List Governed) (was is : Faults) (out out' err err' : Option (List ℕ)) (is_after : Bool) (status : ℕ) (counts : Counts) (kept : KeptRefusals) → SoFar manner head seen was is out out' err err' is_after status counts kept
       → length seen < 18446744073709551615 → HasRoom counts
   has_room manner head seen was is out out' err err' is_after status counts kept before lt = subst HasRoom (sym before.counted) (record {
@@ -175,7 +175,7 @@ module _ (files : Files) where
       below : (p : Verdict → Bool) → count_by p before.verdicts + 1 < 18446744073709551616
       below p = omega (arith, count_by-le-length p before.verdicts, judged_length manner.terminals seen before.verdicts was is before.judged, lt)
 
-  -- ---- one module more
+  -- ---- one more module
 
   module _ (manner : Manner) (head : List ℕ) (seen : List Governed) (m : Governed) (was between is : Faults) (o e : Option (List ℕ)) (is_after : Bool) (s : ℕ) (counts : Counts) (kept kept' : KeptRefusals) (out err : Writer) (ended : Ended)
       (before : SoFar manner head seen was between o out.before e err.before is_after s counts kept) (shown : Shows (record { policy = m.policy; manner = manner; is_after = is_after }) m.module (IsVerdict files manner.terminals m.policy m.module between is) out err kept kept' ended) where
@@ -215,7 +215,7 @@ module _ (files : Files) where
       small = subst (λ l. counts'.issues ≤ 18446744073709551615 * length l) (sym all) (more_small counts'.issues counts.issues (length seen) (length (seen ++ m ∷ [])) small before.small (length-append seen (m ∷ [])));
     }
 
-    -- what it says could not be written
+    -- a text for the module couldn't be written
     pub run_cut : (modules rest : List Governed) (fo fe : Flushes) (end : ℕ) (last : RunEnd) → modules ≡ seen ++ m ∷ rest → (out.failed || err.failed) ≡ true → end ≡ 1
         → IsLintRun files manner head modules was is (record { out = record out { before = o; flushes_before = fo }; err = record err { before = e; flushes_before = fe }; status = end }) last
     run_cut modules rest fo fe end last all bad one = record {
@@ -231,9 +231,9 @@ module _ (files : Files) where
       found = λ good. absurd (both (out.failed || err.failed) bad good);
     }
 
-  -- ---- its end
+  -- ---- the end of the run
 
-  -- what stands before all could not be written
+  -- the head of the output couldn't be written
   pub none_run : (manner : Manner) (head : List ℕ) (modules : List Governed) (was : Faults) (out err : Writer) (end : ℕ) (last : RunEnd) → TookBy out.failed out.before out.after head → out.failed ≡ true → err.failed ≡ false → err.after ≡ err.before → end ≡ 1
       → IsLintRun files manner head modules was was (record { out = out; err = err; status = end }) last
   none_run manner head modules was out err end last took bad good same one =
@@ -250,7 +250,7 @@ module _ (files : Files) where
         found = λ fine. absurd (both (out.failed || err.failed) failed fine);
       }
 
-  -- what stands before all was written
+  -- the head of the output was written
   pub headed : (manner : Manner) (head : List ℕ) (modules : List Governed) (was is : Faults) (first : Option (List ℕ)) (fo : Flushes) (out err : Writer) (status : ℕ) (ran : RunEnd) → Appends first out.before head
       → IsLintRun files manner [] modules was is (record { out = out; err = err; status = status }) ran → IsLintRun files manner head modules was is (record { out = record out { before = first; flushes_before = fo }; err = err; status = status }) ran
   headed manner head modules was is first fo out err status ran wrote h = record {

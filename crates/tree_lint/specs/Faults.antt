@@ -10,10 +10,10 @@ abbrev pub refusal_by : Option TreeFault → Name → List Refusal
 refusal_by None name = []
 refusal_by (Some fault) name = refusal_of name (tree_fault_text (reported_fault fault)) ∷ []
 
--- why a name that was found can't be linted, if it can't
+-- the refusal of a found name that can't be linted
 abbrev pub refusal_in : Found → List Refusal
 refusal_in f = refusal_by f.fault f.name.items
 
--- what is said of it
+-- the line of that refusal
 abbrev pub fault_lines : Found → List ℕ
 fault_lines f = flat_map refusal_line (refusal_in f)

@@ -8,7 +8,7 @@ use Rattle.tree_lint.specs.Refusals.{Refusal}
 use Rattle.tree_lint.specs.declared.kept.KeptRefusals.{KeptRefusals}
 use Rattle.tree_lint.specs.declared.kept.KeptRefusal.{KeptRefusal}
 
--- what has no place in its file stands at 1:1
+-- a refusal without a place has the place 1:1
 abbrev pub line_told : Option Position → ℕ
 line_told None = 1
 line_told (Some at) = at.line
@@ -17,24 +17,24 @@ abbrev pub column_told : Option Position → ℕ
 column_told None = 1
 column_told (Some at) = at.column
 
--- A REFUSAL AS A REMARK: forms are UTF-8, and so is the name there
+-- A REFUSAL AS A REMARK: forms are UTF-8, and so is the name in a remark
 abbrev pub refusal_remark : Refusal → Remark
 refusal_remark r =
     record { file = utf8_lossy r.name; line = line_told r.at; column = column_told r.at;
     subject = subject.Refusal; text = r.text }
 
--- the same of one that is kept
+-- a kept refusal as a remark
 abbrev pub kept_remark : KeptRefusal → Remark
 kept_remark k =
     record { file = string_bytes k.name; line = k.line; column = k.column;
     subject = subject.Refusal; text = string_bytes k.text }
 
--- these are kept, and no others, unless one is missing
+-- these refusals are kept, and no others, unless one is missing
 abbrev pub HoldsAll : KeptRefusals → List Refusal → Type 0
 HoldsAll kept rs =
     kept.is_whole ≡ true → map kept_remark kept.refusals.items ≡ map refusal_remark rs
 
--- these are kept beside others, unless one is missing
+-- these refusals are kept after others, unless one is missing
 abbrev pub KeepsAll : KeptRefusals → KeptRefusals → List Refusal → Type 0
 KeepsAll old new rs =
     new.is_whole ≡ true → (old.is_whole ≡ true)

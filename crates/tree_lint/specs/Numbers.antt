@@ -1,4 +1,4 @@
--- What is said at the end of a run over modules: how many issues it found, and in how many of them. Our own choice.
+-- The message at the end of a run over modules: how many issues it found, and in how many of them. Our own choice.
 use Rattle.std.specs.Prelude.{ℕ, ◌==◌, ◌&&◌, not, Bool, true, false, List, ◌++◌, Ok, Err, codes, decimal, length, nat_lt, if◌then◌else◌}
 use Rattle.std.specs.List.{count_by, sum_by}
 use Rattle.module_find.specs.declared.module.Module.{Module}
@@ -6,7 +6,7 @@ use Rattle.tree_lint.specs.Verdicts.{Verdict}
 use Rattle.tree_lint.specs.declared.counts.Counts.{Counts}
 use Rattle.tree_lint.specs.declared.policy.Governed.{Governed}
 
--- a module has a file, or isn't whole
+-- whether a module counts as one: it has a file, or isn't whole
 abbrev pub is_module : Module → Bool
 is_module m = not (length m.files.items == 0 && m.is_whole)
 
@@ -21,7 +21,7 @@ issue_count (Err refusals) = 0
 abbrev pub has_issues : Verdict → Bool
 has_issues v = nat_lt 0 (issue_count v)
 
--- THE NUMBERS of a run over these modules, of which this became
+-- THE NUMBERS of a run over these modules, with these verdicts
 abbrev pub counts_of : List Governed → List Verdict → Counts
 counts_of modules verdicts = record {
   modules = count_by (λ m. is_module m.module) modules;
@@ -30,7 +30,7 @@ counts_of modules verdicts = record {
   issues = sum_by issue_count verdicts;
 }
 
--- ---- what is said of them
+-- ---- the message
 
 abbrev pub modules_word : ℕ → List ℕ
 modules_word n = if n == 1 then codes " module" else codes " modules"

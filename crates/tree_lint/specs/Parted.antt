@@ -1,7 +1,7 @@
--- The reports of several modules, one after another: an empty line stands between two. Our own choice.
+-- The reports of several modules, one after another, with an empty line between two. Our own choice.
 use Rattle.std.specs.Prelude.{ℕ, Bool, true, false, List, [], ◌∷◌}
 
--- a text after others: an empty line stands before it, unless it is empty itself
+-- a text after others, with an empty line before it, unless it is empty itself
 abbrev pub after_empty_line : Bool → List ℕ → List ℕ
 after_empty_line false text = text
 after_empty_line true [] = []

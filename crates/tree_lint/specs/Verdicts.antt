@@ -1,6 +1,5 @@
--- What becomes of a module: it has issues, as `tfrules` finds them in its files, and comments that silence nothing, where they
--- are looked for; or it is refused, and why. Our own choice is
--- which reason is told.
+-- The verdict on a module: it has issues, as `tfrules` finds them in its files, and comments that silence nothing, if
+-- they are checked; or it is refused, for a reason. The choice of the reason that is reported is our own.
 use Rattle.std.specs.Prelude.{◌≡◌, ◌⊎◌, ◌||◌, ◌≤◌, ◌<◌, ◌+◌, ℕ, Bool, true, false, List, [], ◌∷◌, ◌++◌, Option, Some, Result, Ok, Err, codes, if◌then◌else◌, length, map, string_bytes}
 use Rattle.hcl_grammar.specs.Verdict.{IsTextVerdict}
 use Rattle.comment_faults.specs.CommentFaults.{CommentFault, comment_faults}
@@ -36,22 +35,22 @@ names_in m = map string_bytes m.files.items
 
 -- ---- its files
 
--- what is found in a module: its issues, its comments that are meant to silence a rule and don't, and the texts of its files, where
--- lines of them are shown
+-- what is found in a module: its issues, its comments that are meant to silence a rule and don't, and the texts of its
+-- files, if lines of them are shown
 pub record Linted : Type 0 where
   pub issues : List Issue
   pub comments : List CommentFault
   pub texts : List (List ℕ)
 
--- these comments, where they are looked for
+-- the comments of files that are meant to silence a rule and don't, if they are checked
 abbrev pub comments_looked_for : Bool → List File → List CommentFault
 comments_looked_for checks files = if checks then comment_faults files else []
 
--- lines are shown on one of the two outputs: that is so on a terminal
+-- lines are shown on one of the two outputs, because it is a terminal
 abbrev pub shows_lines : Terminals → Bool
 shows_lines terminals = terminals.out || terminals.err
 
--- the texts of these files, where they are shown
+-- the texts of these files, if lines of them are shown
 abbrev pub texts_shown : Bool → List NamedFile → List (List ℕ)
 texts_shown shows files = if shows then map (λ file. file.bytes) files else []
 
@@ -68,16 +67,16 @@ pub record HaveFound (told : Name
   pub comments : linted.comments ≡ comments_looked_for policy.checks (numbered_files 0 sources)
   pub texts : linted.texts ≡ texts_shown (shows_lines terminals) files
 
--- what is shown of bytes that are refused for a fault after others of so many: the line of its place, where that is to be shown.
--- Of bytes that are no text, nothing is
+-- the line that is shown of bytes with a fault, after files of `size` bytes: the line of the fault's place, if lines
+-- are shown. For bytes that are no text it is empty
 abbrev pub IsShownFault : Bool → ℕ → List ℕ → Fault → List ℕ → Type 0
 IsShownFault shows size bytes fault line =
     (IsLoadFault bytes fault × (line ≡ []))
     ⊎ (IsText bytes × (size + length bytes ≤ max_module) × IsTextVerdict bytes (Err fault)
     × (line ≡ snippet_if shows bytes fault.at))
 
--- why a file isn't kept after others of so many bytes, where the device has had these faults before and after: it has a fault
--- or is too much, or the one call that failed says why, or memory ran out
+-- why a file isn't kept after files of `size` bytes, by a device with these faults before and after: the file has a
+-- fault, or is too much, or the one failed call has this fault, or memory ran out
 abbrev pub StopsBy : Bool → Option (List ℕ) → ℕ → Faults → Faults → Stop → Type 0
 StopsBy shows told size was is (stop.Refused fault line) =
     (is ≡ was)
@@ -87,7 +86,7 @@ StopsBy shows told size was is stop.TooLarge =
 StopsBy shows told size was is (stop.Failed fault) =
     (is ≡ with_fault was (Some fault)) ⊎ ((fault ≡ OutOfMemory) × (is ≡ was))
 
--- all files before this one are accepted, and it isn't kept
+-- all files before this one are accepted, and this one isn't kept
 pub record StopsAt (shows : Bool) (told : Name
     → Option (List ℕ)) (names : List Name) (was is : Faults) (name : Name) (why : Stop) : Type 0
     where
@@ -99,7 +98,7 @@ pub record StopsAt (shows : Bool) (told : Name
   pub accepted : AreAccepted before sources
   pub by : StopsBy shows (told name) (size_of before) was is why
 
--- what is said of it
+-- the refusal for that file
 abbrev pub stop_refusal : Name → Stop → Refusal
 stop_refusal name (stop.Refused fault line) =
     record { name = name; at = Some fault.at; text = fault_text fault.kind; snippet = line.items }
@@ -108,7 +107,7 @@ stop_refusal name (stop.Failed fault) = refusal_of name (tree_fault_text fault)
 
 -- ---- the module
 
--- what is said of its folder
+-- a refusal of the module's folder
 abbrev pub of_folder : Module → List ℕ → Refusal
 of_folder m text = refusal_of (place m.folder.items) text
 
@@ -122,8 +121,8 @@ too_many m = of_folder m (codes "more than 256 files")
 abbrev pub CanBeRead : Module → Type 0
 CanBeRead m = (m.is_whole ≡ true) × (length m.files.items ≤ max_files)
 
--- why it is refused, and what is said then: it isn't whole, of which the names are told that can't be looked at, when all modules are
--- linted; or that there are too many files; or at which file it stops; or that memory ran out
+-- why a module is refused, and its refusals: it isn't whole (the names that can't be looked at are reported when all
+-- modules are linted), or has too many files, or a file of it isn't kept, or memory ran out
 abbrev pub IsRefused : Files → Bool → Module → Faults → Faults → List Refusal → Type 0
 IsRefused files shows m was is refusals =
     ((m.is_whole ≡ false) × (is ≡ was) × (refusals ≡ []))
@@ -138,7 +137,7 @@ IsRefused files shows m was is refusals =
 abbrev pub Verdict : Type 0
 Verdict = Result Linted (List Refusal)
 
--- WHAT BECOMES OF A MODULE, by these rules, where the device has had these faults before and after. No call failed that isn't told
+-- THE VERDICT ON A MODULE, by this policy, by a device with these faults before and after. Each failed call is reported
 abbrev pub IsVerdict : Files → Terminals → Policy → Module → Faults → Faults → Verdict → Type 0
 IsVerdict files terminals policy m was is (Ok linted) =
     CanBeRead m × (is ≡ was) × HaveFound (bytes_of_name files) terminals policy (names_in m) linted

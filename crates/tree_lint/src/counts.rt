@@ -1,4 +1,4 @@
-//! What a run over modules found, in numbers, and what is said of them at its end.
+//! The numbers of a run over modules, and the message about them at its end.
 
 ghost use Rattle.std.specs.Prelude.{◌≡◌, ◌≤◌, ◌+◌, [], false, is_err};
 ghost use Rattle.command_line.specs.Rows.{Took, writer};
@@ -9,27 +9,27 @@ use command_line::write_parts;
 use hcl_scan::{ByteSink, Failed};
 use itoa::Buffer;
 
-/// How the run over a module ended.
+/// The end of a run over a module.
 #[derive(Clone, Copy, Debug, PartialEq, Eq)]
 pub(crate) struct Ended {
-    /// 0 or 2, as of `tfrules` over the module alone, or 1 where it is refused.
+    /// 0 or 2, as from `tfrules` over the module alone, or 1 if it is refused.
     pub status: u8,
-    /// How many issues its report has: none if there is no report.
+    /// How many issues its report has: 0 if there is no report.
     pub issues: usize,
-    /// Whether any of what is found went to standard output.
+    /// Whether any output went to standard output.
     pub is_shown: bool,
 }
 
-/// What a run over modules found, in numbers.
+/// The numbers of a run over modules.
 #[derive(Clone, Copy, Debug, PartialEq, Eq)]
 pub struct Counts {
-    /// The modules that have a file, or aren't whole.
+    /// Modules that have a file, or aren't whole.
     pub modules: u64,
-    /// Those that are refused.
+    /// Modules that are refused.
     pub refused: u64,
-    /// Those with issues.
+    /// Modules with issues.
     pub reported: u64,
-    /// The issues of all of them.
+    /// The issues of all modules.
     pub issues: u128,
 }
 
@@ -53,7 +53,7 @@ impl Counts {
         }
     }
 
-    /// One module more, if it is one, and what came of it.
+    /// The numbers with one more module, if it counts as one, which ended in this way.
     pub(crate) fn add(self, is_module: bool, ended: Ended) -> Counts
         requires { HasRoom self }
         ensures sum { result ≡ counts_with self is_module ended.status ended.issues }
@@ -68,14 +68,14 @@ impl Counts {
     }
 }
 
-/// What stands after a number of modules.
+/// The text after a number of modules.
 fn modules_word(count: u64) -> &'static str
     ensures { result.now ≡ modules_word count }
 {
     if count == 1 { " module" } else { " modules" }
 }
 
-/// What stands after a number of issues.
+/// The text after a number of issues.
 fn issues_word(count: u128) -> &'static str
     ensures { result.now ≡ issues_word count }
 {
@@ -103,7 +103,7 @@ fn tell_issues<S: ByteSink>(sink: &mut S, counts: &Counts) -> Result<(), Failed>
     write_parts(sink, &[issues, word, reported, b" of "])
 }
 
-/// Writes how many modules there are, and how many of them were refused, if there are such.
+/// Writes how many modules there are, and, unless it is 0, how many of them were refused.
 fn tell_modules<S: ByteSink>(sink: &mut S, counts: &Counts) -> Result<(), Failed>
     requires { S.failed sink.old ≡ false }
     ensures took { Took (writer S.ByteSink sink.old sink.new) (modules_words counts.now) }

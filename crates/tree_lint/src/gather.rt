@@ -1,4 +1,4 @@
-//! The files of a module, read one after the other.
+//! The files of a module, read one after another.
 
 ghost use Rattle.std.specs.Prelude.{◌≡◌, ◌≤◌, ◌++◌, [], OnOk, false, length, map, string_bytes};
 ghost use Rattle.comment_faults.specs.CommentFaults.{fault_view};
@@ -23,22 +23,22 @@ use tf_rules::{Facts, IssueList};
 use tfrules_command::gather::{ScannedFile, keep_tokens, scan_file};
 use tfrules_command::stop::Stop as FileStop;
 
-/// What is kept of the files of a module.
+/// The facts, comments and texts of a module's files.
 #[derive(Drop)]
 pub(crate) struct Gathered {
     pub facts: Facts,
-    /// Comments are looked for that are meant to silence a rule and don't.
+    /// Comments are checked: those are found that are meant to silence a rule and don't.
     checks: bool,
-    /// Those that were found.
+    /// The comments that were found.
     comments: Vec<CommentFault>,
-    /// Where lines of the files are shown.
+    /// The outputs on which lines of the files are shown.
     terminals: Terminals,
-    /// The texts of the files, if they are.
+    /// The texts of the files, if lines of them are shown.
     texts: Vec<Source>,
 }
 
 impl Gathered {
-    /// No comment and no text, beside these facts.
+    /// These facts, with no comment and no text.
     pub(crate) fn new(alloc: Global, facts: Facts, checks: bool, terminals: Terminals) -> Gathered
         ensures facts { result.facts ≡ facts }
         ensures checks { result.checks ≡ checks }
@@ -55,7 +55,7 @@ impl Gathered {
         }
     }
 
-    /// The comments and the texts, beside these issues.
+    /// These issues, with the comments and the texts.
     pub(crate) fn linted<'a, 'f>(&'a self, issues: &'a IssueList<'f>) -> Linted<'a, 'f>
         ensures { linted_view result ≡ record {
           issues = issues.entry.now;
@@ -71,7 +71,7 @@ impl Gathered {
     }
 }
 
-/// Keeps the comments of a file, where they are looked for.
+/// Keeps the comments of a file, if they are checked.
 fn keep_comments(
     alloc: Global,
     number: u32,
@@ -89,7 +89,8 @@ fn keep_comments(
     Ok(())
 }
 
-/// Keeps the facts and the comments of a file by its tokens, and answers how many bytes the files have with it.
+/// Keeps the facts and the comments of a file by its tokens, and returns how many bytes the files have together with
+/// it.
 fn keep_scanned(
     alloc: Global,
     number: u32,
@@ -108,7 +109,8 @@ fn keep_scanned(
     }
 }
 
-/// Keeps the facts and the comments of a file after others of so many bytes, and answers how many it is then.
+/// Keeps the facts and the comments of a file after others, which have `size` bytes, and returns how many they have
+/// together.
 fn keep(
     alloc: Global,
     number: u32,
@@ -125,7 +127,7 @@ fn keep(
     }
 }
 
-/// Keeps the text of a file, where lines of it may be shown.
+/// Keeps the text of a file, if lines of it may be shown.
 fn keep_text(source: Source, into: &mut Gathered) -> Result<(), AllocError>
     ensures rest { OnOk result (into.new ≡ record into.old { texts = into.new.texts }) }
     ensures texts { OnOk result (into.new.texts.items ≡ into.old.texts.items
@@ -140,7 +142,7 @@ fn keep_text(source: Source, into: &mut Gathered) -> Result<(), AllocError>
     Ok(())
 }
 
-/// Why a file that was read isn't kept, with the line of its fault where that is shown.
+/// Why a file that was read isn't kept, with the line of its fault if that is shown.
 fn stop_with(alloc: Global, shows: bool, source: &Source, stop: FileStop) -> Stop
     ensures { StopsWith shows source.now stop result }
 {
@@ -155,7 +157,7 @@ fn stop_with(alloc: Global, shows: bool, source: &Source, stop: FileStop) -> Sto
     }
 }
 
-/// Keeps what is to be kept of a file that was read after others of so many bytes.
+/// Keeps the facts, the comments and the text of a file that was read after others, which have `size` bytes.
 fn add_read(
     alloc: Global,
     number: u32,
@@ -176,7 +178,7 @@ fn add_read(
     }
 }
 
-/// Reads a file and keeps what is to be kept of it. Its tokens are gone when it returns.
+/// Reads a file and keeps its facts, its comments and its text. Its tokens are dropped before it returns.
 fn add_file<T: Tree + Drop>(
     alloc: Global,
     number: u32,
@@ -197,7 +199,8 @@ fn add_file<T: Tree + Drop>(
     }
 }
 
-/// Reads the files of these names in their order, up to the first that isn't kept, and keeps what is to be kept of them.
+/// Reads the files of these names in their order, up to the first that isn't kept, and keeps their facts, their
+/// comments and their texts.
 pub(crate) fn gather<'n, T: Tree + Drop>(
     alloc: Global,
     names: &'n [String],

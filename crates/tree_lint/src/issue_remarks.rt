@@ -64,7 +64,7 @@ fn comment_remark<'a>(names: &'a [String], fault: &'a CommentFault) -> Remark<'a
     }
 }
 
-/// Adds what is wrong with comments.
+/// Adds the remarks about comments.
 fn add_comments<'a>(
     names: &'a [String],
     comments: &'a [CommentFault],
@@ -80,7 +80,7 @@ fn add_comments<'a>(
     Ok(())
 }
 
-/// What is found in the files of these names, in a form, after that of others or as the first.
+/// What is found in the files of these names, in a form, after the outputs of others or as the first.
 pub(crate) fn linted_text(
     alloc: Global,
     form: Form,

@@ -12,16 +12,16 @@ use hcl_scan::Position;
 use lint_forms::{Remark, Subject};
 use std::alloc::{AllocError, Global};
 
-/// A refusal that stands by itself.
+/// A refusal that owns its texts.
 #[derive(Drop)]
 pub struct KeptRefusal {
-    /// The name of a file or a folder. What isn't UTF-8 in it is replaced.
+    /// The name of a file or a folder. Bytes of it that aren't UTF-8 are replaced.
     pub name: String,
-    /// The line, from 1 on.
+    /// The line, from 1.
     pub line: u32,
-    /// The column, from 1 on.
+    /// The column, from 1.
     pub column: u32,
-    /// What is said of it.
+    /// The message.
     pub text: String,
 }
 
@@ -29,7 +29,7 @@ pub struct KeptRefusal {
 #[derive(Drop)]
 pub struct KeptRefusals {
     pub refusals: Vec<KeptRefusal>,
-    /// Each refusal is there. It isn't so where none is to be kept, or memory ran out for one.
+    /// No refusal is missing. One is missing if none are to be kept, or memory ran out for it.
     pub is_whole: bool,
 }
 
@@ -53,7 +53,7 @@ fn column_told(at: Option<Position>) -> u32
     }
 }
 
-/// A refusal that stands by itself.
+/// A refusal that owns its texts.
 fn kept_of(alloc: Global, refusal: Refusal<'_>) -> Result<KeptRefusal, AllocError>
     ensures { IfOk result
         (λ kept. kept_remark kept ≡ refusal_remark (refusal_view refusal.entry)) }
@@ -82,7 +82,7 @@ fn remark_of(kept: &KeptRefusal) -> Remark<'_>
 }
 
 impl KeptRefusals {
-    /// None, where they are to be kept or not.
+    /// No refusals, which are to be kept or not.
     pub(crate) fn new(alloc: Global, keeps: bool) -> KeptRefusals
         ensures { HoldsAll result [] }
     {
@@ -116,7 +116,7 @@ impl KeptRefusals {
         }
     }
 
-    /// Keeps why a name that was found can't be linted, if it can't.
+    /// Keeps the refusal of a found name, if it can't be linted.
     fn add_fault(&mut self, alloc: Global, found: &Found)
         ensures { KeepsAll self.old self.new (refusal_in found.now) }
     {
@@ -126,7 +126,7 @@ impl KeptRefusals {
         }
     }
 
-    /// Keeps of each name why it can't be linted.
+    /// Keeps the refusals of the names that can't be linted.
     pub fn add_faults(&mut self, alloc: Global, faults: &[Found])
         ensures { KeepsAll self.old self.new (flat_map refusal_in faults.now) }
     {

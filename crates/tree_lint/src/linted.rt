@@ -17,9 +17,9 @@ use tfrules_command::report::has_severe;
 #[derive(Clone, Copy)]
 pub(crate) struct Linted<'a, 'f> {
     pub issues: &'a IssueList<'f>,
-    /// The comments that are meant to silence a rule and don't, where they are looked for.
+    /// The comments that are meant to silence a rule and don't, if they are checked.
     pub comments: &'a [CommentFault],
-    /// The texts of the files, where lines of them are shown.
+    /// The texts of the files, if lines of them are shown.
     pub texts: &'a [Source],
 }
 
@@ -34,7 +34,7 @@ fn status_of(policy: Policy, issues: &IssueList<'_>) -> u8
 }
 
 impl<'a, 'f> Linted<'a, 'f> {
-    /// Whether nothing is.
+    /// Whether nothing is found.
     pub(crate) fn is_nothing(self) -> bool
         ensures { result ≡ is_nothing (linted_view self.entry) }
     {

@@ -62,7 +62,7 @@ impl<'t> ModuleLines<'t> {
         self.lines.snippet(at)
     }
 
-    /// The same where it is to be shown.
+    /// The snippet for a place in the file of this number, if it is to be shown.
     pub(crate) fn snippet_if(&mut self, shows: bool, number: u32, at: Position) -> Snippet
         ensures snippet { result.items ≡ snippet_if shows (get_or self.old number []) at }
         ensures same { self.new ≡ self.old }

@@ -1,4 +1,4 @@
-//! The files of a tree, as those of modules.
+//! The files of a tree, as files of modules.
 
 ghost use Rattle.std.specs.Prelude.{◌≡◌, IfOk, false, is_err, not, true};
 ghost use Rattle.file_tree.specs.Files.{fault_of, fault_of_reader, with_fault};
@@ -14,7 +14,7 @@ use hcl_scan::{ByteSource, LoadError, Source};
 use std::alloc::Global;
 use tfrules_command::Hashing;
 
-/// A tree, from which the files of one module after another are read, one at a time.
+/// A tree whose files are read one at a time, one module after another.
 #[derive(Drop)]
 pub struct ModuleTree<T: Drop> {
     pub tree: T,
@@ -22,7 +22,7 @@ pub struct ModuleTree<T: Drop> {
     is_out: bool,
 }
 
-/// What a loaded text is for a run.
+/// A loaded text, or why it can't be kept.
 fn stop_of(alloc: Global, loaded: Result<Source, LoadError>) -> Result<Source, Stop>
     ensures { StopsLoad loaded result }
 {
@@ -35,7 +35,7 @@ fn stop_of(alloc: Global, loaded: Result<Source, LoadError>) -> Result<Source, S
 }
 
 impl<T: Tree + Drop> ModuleTree<T> {
-    /// The files of a tree, of which none is open. The names in them are hashed as `hashing` says.
+    /// The files of a tree, none of which is open. The names in them are hashed as `hashing` says.
     pub fn new(tree: T, hashing: Hashing) -> ModuleTree<T>
         ensures tree { result.tree ≡ tree }
         ensures hashing { result.hashing ≡ hashing }

@@ -1,22 +1,22 @@
-//! By what modules are linted.
+//! The policies of modules.
 
 use module_find::Module;
 use tf_rules::{Settings, Severity};
 
-/// By what a module is linted.
+/// The policy of a module.
 #[derive(Clone, Copy, Debug, PartialEq, Eq)]
 pub struct Policy {
-    /// The rules to look at, and how names are to be written.
+    /// The rules that are checked, and how names are to be written.
     pub settings: Settings,
-    /// From which severity on an issue fails the run.
+    /// The lowest severity at which an issue fails the run.
     pub minimum: Severity,
-    /// Nothing that is found fails the run.
+    /// No finding fails the run.
     pub force: bool,
-    /// Comments are looked for that are meant to silence a rule and don't.
+    /// Comments are checked: those are found that are meant to silence a rule and don't.
     pub checks: bool,
 }
 
-/// A module, and by what it is linted.
+/// A module, and its policy.
 #[derive(Drop)]
 pub struct Governed {
     pub module: Module,

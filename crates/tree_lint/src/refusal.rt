@@ -1,4 +1,4 @@
-//! What is said of a module that isn't linted.
+//! The messages about a module that isn't linted.
 
 ghost use Rattle.std.specs.Prelude.{◌≡◌, ◌++◌, Some, false, flat_map, is_err, map};
 ghost use Rattle.std.specs.List.{concat};
@@ -15,21 +15,21 @@ use file_tree::walk::Found;
 use hcl_scan::{ByteSink, Failed, Position};
 use itoa::Buffer;
 
-/// Why a module isn't linted, or one of the reasons.
+/// Why a module isn't linted, or one of several reasons.
 #[derive(Clone, Copy)]
 pub struct Refusal<'a> {
     /// The name of a file or a folder.
     pub name: &'a [u8],
-    /// The place in the file, where it has one.
+    /// The place in the file, if there is one.
     pub at: Option<Position>,
-    /// What is said of it.
+    /// The message.
     pub text: &'a str,
-    /// What is shown of the file there.
+    /// The part of the file that is shown there.
     pub snippet: &'a [u8],
 }
 
 impl<'a> Refusal<'a> {
-    /// One without a place.
+    /// A refusal without a place.
     pub fn of_name(name: &'a [u8], text: &'a str) -> Refusal<'a>
         ensures { refusal_view result ≡ refusal_of name.now text.now }
     {
@@ -42,7 +42,7 @@ impl<'a> Refusal<'a> {
     }
 }
 
-/// Writes `:LINE:COLUMN: TEXT`, and what is shown of the file there.
+/// Writes `:LINE:COLUMN: TEXT`, and the part of the file that is shown there.
 fn tell_place<'p, S: ByteSink>(
     sink: &mut S,
     at: Position,
@@ -65,7 +65,7 @@ fn tell_place<'p, S: ByteSink>(
     )
 }
 
-/// Writes what follows the name.
+/// Writes the text after the name.
 fn tell_words<'p, S: ByteSink>(
     sink: &mut S,
     at: Option<Position>,
@@ -83,7 +83,7 @@ fn tell_words<'p, S: ByteSink>(
     }
 }
 
-/// Writes a name as it is shown, and what follows it.
+/// Writes a name, quoted as in messages, and the text after it.
 fn tell_named<S: ByteSink>(sink: &mut S, refusal: Refusal<'_>) -> Result<(), Failed>
     requires { S.failed sink.old ≡ false }
     ensures took { Took (writer S.ByteSink sink.old sink.new)
@@ -96,7 +96,7 @@ fn tell_named<S: ByteSink>(sink: &mut S, refusal: Refusal<'_>) -> Result<(), Fai
     tell_words(sink, refusal.at, refusal.text, refusal.snippet)
 }
 
-/// Writes the line of a refusal, with the name of this program before it.
+/// Writes the line of a refusal, which begins with the name of this program.
 pub fn tell_refusal<S: ByteSink>(sink: &mut S, refusal: Refusal<'_>) -> Result<(), Failed>
     requires { S.failed sink.old ≡ false }
     ensures took { Took (writer S.ByteSink sink.old sink.new)
@@ -109,7 +109,7 @@ pub fn tell_refusal<S: ByteSink>(sink: &mut S, refusal: Refusal<'_>) -> Result<(
     tell_named(sink, refusal)
 }
 
-/// Writes the line of a comment in the file of this name, and what is shown of that file there.
+/// Writes the line of a comment in the file of this name, and the part of the file that is shown there.
 pub(crate) fn tell_comment<'c, S: ByteSink>(
     sink: &mut S,
     name: &'c str,
@@ -132,7 +132,7 @@ pub(crate) fn tell_comment<'c, S: ByteSink>(
     )
 }
 
-/// The fault that is told: `-` is a name that isn't there, as any other.
+/// The fault that is reported: `-` is a missing name like any other.
 pub(crate) fn reported_fault(fault: TreeFault) -> TreeFault
     ensures { result ≡ reported_fault fault }
 {
@@ -142,7 +142,7 @@ pub(crate) fn reported_fault(fault: TreeFault) -> TreeFault
     }
 }
 
-/// Says why a name that was found can't be linted, if it can't.
+/// Writes the line of a found name that can't be linted, if it can't.
 fn tell_fault<S: ByteSink>(sink: &mut S, found: &Found) -> Result<(), Failed>
     requires { S.failed sink.old ≡ false }
     ensures took { Took (writer S.ByteSink sink.old sink.new) (fault_lines found.now) }
@@ -157,7 +157,7 @@ fn tell_fault<S: ByteSink>(sink: &mut S, found: &Found) -> Result<(), Failed>
     }
 }
 
-/// Says of each name why it can't be linted, up to a write that fails.
+/// Writes the lines of the names that can't be linted, up to a write that fails.
 pub fn tell_faults<S: ByteSink>(sink: &mut S, faults: &[Found]) -> Result<(), Failed>
     requires { S.failed sink.old ≡ false }
     ensures took { Took (writer S.ByteSink sink.old sink.new) (flat_map fault_lines faults.now) }

@@ -1,4 +1,4 @@
-//! What is shown of one module.
+//! The output and the messages for one module.
 
 ghost use Rattle.std.specs.Prelude.{◌≡◌, ◌∷◌, [], None, OnErr, OnOk, true, false, flat_map, is_err, map, string_bytes};
 ghost use Rattle.command_line.specs.Rows.{Took, writer};
@@ -29,8 +29,8 @@ use std::alloc::{AllocError, Global};
 use tfrules_command::report::show_issues;
 use tfrules_command::shown_names::ShownNames;
 
-/// Writes the report of issues, with the lines of which they speak where these are shown, or leaves standard output alone
-/// where there is no issue.
+/// Writes the report of issues, with the lines that they are about if these are shown. Without an issue it writes
+/// nothing.
 fn show_report<O: ByteSink, N: ShownNames>(
     shows: bool,
     out: &mut O,
@@ -48,7 +48,7 @@ fn show_report<O: ByteSink, N: ShownNames>(
     show_issues(out, names, linted.issues);
 }
 
-/// Writes an empty line and the report of issues, or leaves standard output alone where there is no issue.
+/// Writes an empty line and the report of issues. Without an issue it writes nothing.
 fn show_parted<O: ByteSink, N: ShownNames>(
     shows: bool,
     out: &mut O,
@@ -68,7 +68,7 @@ fn show_parted<O: ByteSink, N: ShownNames>(
     show_report(shows, out, names, linted);
 }
 
-/// Writes the report of issues, after an empty line where other reports stand before it.
+/// Writes the report of issues, after an empty line if other reports precede it.
 fn show_after<O: ByteSink, N: ShownNames>(
     is_after: bool,
     shows: bool,
@@ -87,28 +87,28 @@ fn show_after<O: ByteSink, N: ShownNames>(
     show_report(shows, out, names, linted);
 }
 
-/// What is said of a module at which memory ran out.
+/// The refusal of a module at which memory ran out.
 pub(crate) fn no_memory(one: &Module) -> Refusal<'_>
     ensures { refusal_view result ≡ no_memory one.now }
 {
     Refusal::of_name(place(one.folder.as_slice()), "out of memory")
 }
 
-/// What is said of a module with too many files.
+/// The refusal of a module with too many files.
 pub(crate) fn too_many(one: &Module) -> Refusal<'_>
     ensures { refusal_view result ≡ too_many one.now }
 {
     Refusal::of_name(place(one.folder.as_slice()), "more than 256 files")
 }
 
-/// How a module ends that is refused.
+/// The end of a run over a refused module.
 pub(crate) const REFUSED: Ended = Ended {
     status: 1,
     issues: 0,
     is_shown: false,
 };
 
-/// Says why a module is refused, and keeps it.
+/// Writes why a module is refused, and keeps the refusal.
 pub(crate) fn refuse<E: ByteSink>(
     alloc: Global,
     refusal: Refusal<'_>,
@@ -126,7 +126,7 @@ pub(crate) fn refuse<E: ByteSink>(
     REFUSED
 }
 
-/// Writes the report of issues, with the names of the files as they are shown.
+/// Writes the report of issues, with quoted names of the files.
 fn show_text<O: ByteSink>(
     alloc: Global,
     task: Task,
@@ -151,7 +151,7 @@ fn show_text<O: ByteSink>(
     Ok(())
 }
 
-/// Writes what is found in a form.
+/// Writes what is found in a module, in a form.
 fn show_form<O: ByteSink>(
     alloc: Global,
     form: Form,
@@ -170,7 +170,7 @@ fn show_form<O: ByteSink>(
     Ok(())
 }
 
-/// Writes what is found as it is to be written.
+/// Writes what is found in a module, as a report or in a form.
 fn show_linted<O: ByteSink>(
     alloc: Global,
     task: Task,
@@ -190,7 +190,7 @@ fn show_linted<O: ByteSink>(
     }
 }
 
-/// Says what is wrong with comments of the files of these names, up to a write that fails.
+/// Writes the lines of comments in the files of these names, up to a write that fails.
 fn tell_comments<E: ByteSink>(
     shows: bool,
     names: &[String],
@@ -211,7 +211,7 @@ fn tell_comments<E: ByteSink>(
     Ok(())
 }
 
-/// Shows what is found in a module, which is something.
+/// Shows what is found in a module, unless that is nothing.
 fn show_some<O: ByteSink, E: ByteSink>(
     alloc: Global,
     task: Task,

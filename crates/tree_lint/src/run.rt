@@ -24,13 +24,13 @@ use std::alloc::Global;
 use tf_rules::Facts;
 use tfrules_command::file_names::MAX_FILES;
 
-/// How a module is linted and shown.
+/// How to lint and to show a module.
 #[derive(Clone, Copy, Debug, PartialEq, Eq)]
 pub(crate) struct Task {
-    /// By what it is linted.
+    /// The policy by which it is linted.
     pub policy: Policy,
     pub manner: Manner,
-    /// Other reports stand before its own.
+    /// Other outputs precede its own.
     pub is_after: bool,
 }
 
@@ -114,28 +114,28 @@ fn either(one: bool, other: bool) -> bool
     one || other
 }
 
-/// Whether there is anything of a module.
+/// Whether a module counts as one: it has a file, or isn't whole.
 fn is_module(one: &Module) -> bool
     ensures { result ≡ is_module one.now }
 {
     !(one.files.is_empty() && one.is_whole)
 }
 
-/// How a run over modules ended.
+/// The end of a run over modules.
 #[derive(Drop)]
 pub struct RunEnd {
     /// The worst status of a module, or that of a failed write.
     pub status: u8,
-    /// What it found, in numbers, unless a write failed.
+    /// Its numbers, unless a write failed.
     pub counts: Counts,
-    /// Whether any of what was found went to standard output, unless a write failed.
+    /// Whether any output went to standard output, unless a write failed.
     pub has_output: bool,
-    /// Why modules are refused, for the end of a form, unless a write failed.
+    /// The refusals, for the end of a form, unless a write failed.
     pub kept: KeptRefusals,
 }
 
 impl RunEnd {
-    /// How a run ends in which a write failed.
+    /// The end of a run in which a write failed.
     fn cut(counts: Counts, kept: KeptRefusals) -> RunEnd
         ensures { result.status ≡ 1 }
     {
@@ -148,7 +148,7 @@ impl RunEnd {
     }
 }
 
-/// Lints modules one after another, each by its own policy, whatever becomes of the others: a refused module stops none.
+/// Lints modules one after another, each by its own policy, whatever the others' verdicts: a refused module stops none.
 fn run_all<T: Tree + Drop, O: ByteSink, E: ByteSink>(
     alloc: Global,
     manner: Manner,
@@ -190,10 +190,10 @@ fn run_all<T: Tree + Drop, O: ByteSink, E: ByteSink>(
     }
 }
 
-/// Lints modules one after another, each by its own policy, whatever becomes of the others: a refused module stops none.
-/// Standard output gets what is to stand before all and the issues of each module, in a form or as the report of `tfrules`, with
-/// an empty line between two. Standard error gets why others are refused, but for those that aren't whole. Answers the worst
-/// status of a module, where 1 is worse than 2. Nothing more is linted once a write failed, which gives status 1.
+/// Lints modules one after another, each by its own policy, whatever the others' verdicts: a refused module stops none.
+/// Standard output gets the head and then the issues of each module, in a form or as the report of `tfrules`, with an
+/// empty line between two. Standard error gets why modules are refused, except those that aren't whole. Returns the
+/// worst status of a module, where 1 is worse than 2. After a failed write nothing more is linted, and the status is 1.
 pub fn run_over<T: Tree + Drop, O: ByteSink, E: ByteSink>(
     alloc: Global,
     written: Written<'_>,
@@ -204,7 +204,7 @@ pub fn run_over<T: Tree + Drop, O: ByteSink, E: ByteSink>(
     requires back { has_reader_out files.old ≡ false }
     requires out { O.failed streams.old.out ≡ false }
     requires err { E.failed streams.old.err ≡ false }
-    // What becomes of each module, what is said of it, the status, and what was found in all.
+    // The verdict on each module, its texts, the status, and the findings of the run.
     ensures ran { IsLintRun (T.files files.old.tree) written.entry.manner written.entry.head.now
         modules.now (T.faults files.old.tree) (T.faults files.new.tree)
         (end_of_streams O.ByteSink E.ByteSink streams.old streams.new result.status) result }

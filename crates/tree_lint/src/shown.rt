@@ -1,4 +1,4 @@
-//! The names of a module's files as they are shown.
+//! The quoted names of a module's files.
 
 ghost use Rattle.std.specs.Prelude.{◌≡◌, ◌++◌, ◌∷◌, [], IfOk, List, OnOk, map, string_bytes, ℕ};
 ghost use Rattle.file_tree.specs.Quotes.{quoted};
@@ -7,14 +7,14 @@ use file_tree::quote::quoted;
 use std::alloc::{AllocError, Global};
 use tfrules_command::shown_names::ShownNames;
 
-/// Names as they are shown, by the numbers of the files.
+/// Quoted names, by the numbers of the files.
 #[derive(Drop)]
 pub(crate) struct Shown {
     names: Vec<Vec<u8>>,
 }
 
 impl Shown {
-    /// Adds the name of one file more.
+    /// Adds the name of one more file.
     fn add(&mut self, alloc: Global, name: &str) -> Result<(), AllocError>
         ensures { OnOk result (map (λ shown. shown.items) self.new.names.items
             ≡ map (λ shown. shown.items) self.old.names.items ++ quoted name.now ∷ []) }
@@ -26,7 +26,7 @@ impl Shown {
         Ok(())
     }
 
-    /// These names as they are shown.
+    /// These names, quoted.
     pub(crate) fn new(alloc: Global, names: &[String]) -> Result<Shown, AllocError>
         ensures { IfOk result (λ shown. map (λ name. name.items) shown.names.items
             ≡ map (λ name. quoted (string_bytes name)) names.now) }

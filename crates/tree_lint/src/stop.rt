@@ -11,7 +11,7 @@ use hcl_scan::Fault;
 /// Why a file isn't kept.
 #[derive(Debug, Drop)]
 pub enum Stop {
-    /// It is no file of the language. This shows the line of the fault, or nothing.
+    /// It is no file of the language. The text is the line of the fault, or empty.
     Refused(Fault, Vec<u8>),
     /// With it the module is larger than `MAX_MODULE`.
     TooLarge,
@@ -27,7 +27,7 @@ pub(crate) struct Stopped<'n> {
 }
 
 impl<'n> Stopped<'n> {
-    /// What is said of it.
+    /// The refusal for this file.
     pub(crate) fn refusal(&self) -> Refusal<'_>
         ensures { refusal_view result ≡ stop_refusal self.now.name.now self.now.why }
     {

@@ -1,4 +1,4 @@
-//! The report of a module as one reads it on a terminal: with the lines of which it speaks.
+//! The report of a module for a terminal, with the lines that issues are about.
 
 ghost use Rattle.std.specs.Prelude.{◌≡◌, flat_map, false, is_err};
 ghost use Rattle.command_line.specs.Rows.{Took, writer};
@@ -13,7 +13,7 @@ use tf_rules::{IssueList, ListedIssue};
 use tfrules_command::report::{show_count, show_issue};
 use tfrules_command::shown_names::ShownNames;
 
-/// Writes an issue, and the line of the text of which it speaks.
+/// Writes an issue, and the line of the text that it is about.
 fn show_with_line<O: ByteSink, N: ShownNames>(
     out: &mut O,
     names: &N,
@@ -52,7 +52,7 @@ fn show_each<O: ByteSink, N: ShownNames>(
     Ok(())
 }
 
-/// Writes the report of issues, of which there is one or more. Nothing more is written once a write failed.
+/// Writes the report of issues, at least one. After a failed write it writes nothing more.
 pub(crate) fn show_lines<O: ByteSink, N: ShownNames>(
     out: &mut O,
     names: &N,

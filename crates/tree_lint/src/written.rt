@@ -1,11 +1,11 @@
-//! How what is found in modules is written.
+//! How to write what is found in modules.
 
 ghost use Rattle.std.specs.Prelude.{◌≡◌};
 ghost use Rattle.tree_lint.specs.Verdicts.{shows_lines};
 
 use lint_forms::Form;
 
-/// Which of the two outputs are read on a terminal: lines of files are shown there.
+/// The outputs that are read on a terminal: lines of files are shown there.
 #[derive(Clone, Copy, Debug, PartialEq, Eq)]
 pub struct Terminals {
     pub out: bool,
@@ -13,7 +13,7 @@ pub struct Terminals {
 }
 
 impl Terminals {
-    /// Whether one of them is.
+    /// Whether one of the outputs is read on a terminal.
     pub(crate) fn shows_lines(self) -> bool
         ensures { result ≡ shows_lines self }
     {
@@ -21,15 +21,15 @@ impl Terminals {
     }
 }
 
-/// How what is found in modules is written.
+/// How to write what is found in modules.
 #[derive(Clone, Copy, Debug, PartialEq, Eq)]
 pub struct Manner {
-    /// In which form; none for the reports of `tfrules`.
+    /// The form; none for the reports of `tfrules`.
     pub form: Option<Form>,
     pub terminals: Terminals,
 }
 
-/// How what is found in modules is written, and what stands before all of it.
+/// How to write what is found in modules, and the head of the output.
 #[derive(Clone, Copy)]
 pub struct Written<'h> {
     pub manner: Manner,

@@ -1,4 +1,4 @@
--- What the parts of a line ask for: numbers, and a part of the files.
+-- The requests of options: numbers, and a part of the files.
 use Rattle.std.proofs.Common.{◌≡◌, ◌∙◌, ◌<◌, ◌≤◌, ◌^◌, ◌+◌, rules, arith, drop, ℕ, Bool, true, false, cond, List, [], Option, Some, None, length, ap, refl, sym}
 use Rattle.std.proofs.lemmas.Bool.Decides.{nat_tests}
 use Rattle.std.proofs.lemmas.List.{drop_all}

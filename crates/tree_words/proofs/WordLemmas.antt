@@ -1,4 +1,4 @@
--- Words that are kept.
+-- Words that are taken into a list.
 use Rattle.std.proofs.Common.{◌≡◌, ◌∙◌, ◌++◌, ◌∷◌, [], ℕ, Bool, true, false, List, ap, append-nil, cond, map, refl, sym}
 use Rattle.std.specs.Borrow.{Bor}
 use Rattle.std.specs.Str.{IsUtf8, is_utf8}
@@ -8,7 +8,7 @@ use Rattle.std.proofs.lemmas.Str.{IsUtf8-from_is_utf8}
 abbrev now_of : Bor (List ℕ) → List ℕ
 now_of word = word.now
 
--- ---- one word more
+-- ---- one more word
 
 pub not_utf8 : (word : List ℕ) → (IsUtf8 word → ⊥) → is_utf8 word ≡ false
 not_utf8 word isnt = by (is_utf8 word) refl

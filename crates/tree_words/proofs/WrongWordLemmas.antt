@@ -1,4 +1,4 @@
--- How the wrong word of a line is found.
+-- The search for a line's wrong word.
 use Rattle.std.proofs.Common.{◌≡◌, ◌∙◌, [], ◌∷◌, Bool, Option, Some, false, List, ap, drop, length, map, refl, sym}
 use Rattle.std.specs.Prelude.{◌==◌, ◌||◌, find, not, option_and_then, option_map, slice_get}
 use Rattle.std.specs.Borrow.{Bor}

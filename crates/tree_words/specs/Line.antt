@@ -1,5 +1,6 @@
--- What the words of a line ask for that the programs of trees read alike. clap reads those that are UTF-8: its own definition
--- of the matches of a line decides. What `--shard` may say, and that the other words are names, is our own choice.
+-- The requests that the programs for trees read alike in the words of a line. clap reads the words that are UTF-8: its
+-- own definition of the matches of a line decides. The values of `--shard` are our own choice, and so is that all other
+-- words are names.
 use Rattle.std.specs.Prelude.{ℕ, ◌==◌, ◌&&◌, not, Bool, false, List, [], ◌∷◌, Option, Some, None, codes, drop, filter, length, nat_le, nat_lt, option_map, slice_get, unwrap_or, if◌then◌else◌}
 use Rattle.std.specs.List.{after_first, before_first, list_all}
 use Rattle.std.specs.Char.{is_ascii_digit}
@@ -37,7 +38,7 @@ texts_of id rows = unwrap_or (all_of id rows) []
 abbrev pub most_digits : ℕ
 most_digits = 5
 
--- decimal digits, of which the first isn't 0
+-- decimal digits, the first of which isn't 0
 abbrev pub is_number : Text → Bool
 is_number text =
     nat_lt 0 (length text)
@@ -63,7 +64,7 @@ shard_in text =
     shard_by (number_in (before_first (λ b. b == 47) text))
     (number_in (after_first (λ b. b == 47) text))
 
--- no part where there is no text, and nothing where it names none
+-- no part if there is no text, and nothing if the text names no part
 abbrev pub shard_given : Option Text → Option (Option Shard)
 shard_given None = Some None
 shard_given (Some text) = option_map Some (shard_in text)
@@ -82,7 +83,7 @@ max_jobs = 9999
 abbrev pub is_jobs : Text → Bool
 is_jobs text = option_map_or (λ n. nat_le n max_jobs) (number_in text) false
 
--- all numbers of jobs are numbers
+-- each text for the number of jobs is a number from 1 to `max_jobs`
 abbrev pub are_jobs_good : List Row → Bool
 are_jobs_good rows = list_all is_jobs (texts_of (codes "jobs") rows)
 
@@ -92,6 +93,6 @@ are_jobs_good rows = list_all is_jobs (texts_of (codes "jobs") rows)
 abbrev pub texts_in : Text → List (List ℕ) → List Text
 texts_in program words = program ∷ filter is_utf8 (drop 1 words)
 
--- the words that aren't: names, wherever they stand
+-- the words that aren't UTF-8: they are names, wherever they stand
 abbrev pub others_in : List (List ℕ) → List Name
 others_in words = filter (λ word. not (is_utf8 word)) (drop 1 words)

@@ -1,5 +1,5 @@
--- Which part of the files a machine takes where several share them. A name's part is told by its bytes alone, so that no file
--- changes its part when others come or go. Our own choice.
+-- The part of the files that a machine takes if several machines share them. A name's part depends on its bytes alone,
+-- so that no file changes its part if others are added or removed. Our own choice.
 use Rattle.std.specs.Prelude.{ℕ, ◌==◌, ◌+◌, ◌*◌, ◌%◌, ◌&&◌, ◌||◌, Bool, not, true, false, List, Option, Some, None, filter, fold, nat_lt, if◌then◌else◌}
 use Rattle.std.specs.Option.{option_map_or}
 use Rattle.file_tree.specs.declared.fault.TreeFault.{TreeFault}
@@ -14,11 +14,11 @@ worth byte = if byte == 10 then 1 else byte
 abbrev pub add_byte : ℕ → ℕ → ℕ
 add_byte sum byte = (sum * 31 + worth byte) % 4294967291
 
--- THE SUM of a name's bytes, by which its part is told
+-- THE SUM of a name's bytes, which decides its part
 abbrev pub sum_of : List ℕ → ℕ
 sum_of name = fold add_byte 0 name
 
--- of no parts at all none has a name
+-- whether the name is in this part; if there are 0 parts, no name is in any
 abbrev pub has_name : Shard → List ℕ → Bool
 has_name shard name = nat_lt 0 shard.count && sum_of name % shard.count + 1 == shard.number
 
@@ -30,7 +30,8 @@ hides_nothing fault.OtherKind = true
 hides_nothing fault.DeadLink = true
 hides_nothing _ = false
 
--- WHAT A PART HAS: the names of its sum. What can't be looked at, and may have files of any part below it, is in each.
+-- THE FILES OF A PART: the names whose sum is the part's. A name that can't be looked at, and may have files of any
+-- part below it, is in each part.
 abbrev pub is_of : Shard → Found → Bool
 is_of shard found =
     option_map_or (λ fault. not (hides_nothing fault)) found.fault false

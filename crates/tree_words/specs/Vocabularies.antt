@@ -1,4 +1,4 @@
--- What a program tells a wrong word by, as the code has it.
+-- The view of a vocabulary, with which a program finds and explains a wrong word.
 use Rattle.std.specs.Prelude.{map}
 use Rattle.tree_words.specs.WrongWords.{Foreign, Vocabulary}
 use Rattle.tree_words.specs.declared.vocabulary.Foreign.{Foreign as ForeignOption}

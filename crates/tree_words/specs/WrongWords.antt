@@ -1,5 +1,5 @@
--- What is said of a line that is none of a program's: the first of its words that is an option's and is none of the
--- program's, what to write in its place, and what lines there are. Our own choice.
+-- The message for a line that a program doesn't have: the first word that is meant as an option and is none of the
+-- program's, what to write instead, and the usage. Our own choice.
 use Rattle.std.specs.Prelude.{ℕ, ◌==◌, ◌||◌, not, Bool, false, List, [], ◌++◌, Option, Some, None, codes, drop, filter_map, find, option_and_then, slice_get, if◌then◌else◌}
 use Rattle.std.specs.List.{before_first, list_any}
 use Rattle.std.specs.Option.{option_map_or}
@@ -8,13 +8,13 @@ use Rattle.clap.specs.Lexer.{long_of, short_of}
 use Rattle.clap.specs.Words.{App, Text, built}
 use Rattle.file_tree.specs.Quotes.{quoted}
 
--- an option of another program, and what is said after it: what to write in its place
+-- an option of another program, and the hint after it: what to write instead
 pub record Foreign : Type 0 where
   pub option : Text
   pub hint : List ℕ
 
--- what a program tells a wrong word by: the names and the letters of its options, what it says before the word, options of
--- other programs, and what lines it has
+-- what a program needs to find and explain a wrong word: the names and the letters of its options, the text before the
+-- word, options of other programs, and the usage
 pub record Vocabulary : Type 0 where
   pub names : List Text
   pub letters : List ℕ
@@ -24,7 +24,7 @@ pub record Vocabulary : Type 0 where
 
 -- ---- the options
 
--- those of a command, and `--help`, which clap adds
+-- the names of a command's options, and `--help`, which clap adds
 abbrev pub names_of : App → List Text
 names_of app = filter_map (λ option. option.long) (built app).top.rules
 
@@ -39,14 +39,15 @@ is_letter v byte = list_any (λ letter. letter == byte) v.letters
 
 -- ---- the wrong word
 
--- clap reads `--NAME` or `--NAME=VALUE` in it, or letters after a dash, and no option has the name or the first letter
+-- clap reads the word as `--NAME` or `--NAME=VALUE`, or as letters after a dash, and no option has this name or the
+-- first of these letters
 abbrev pub is_wrong : Vocabulary → Text → Bool
 is_wrong v word =
     option_map_or (λ option. not (is_name v option.0)) (long_of word)
     (option_map_or (λ letters. not (option_map_or (is_letter v) (slice_get letters 0) false))
     (short_of word) false)
 
--- after this word all others are names
+-- all words after this one are names
 abbrev pub is_end : Text → Bool
 is_end word = bytes_eq word (codes "--")
 
@@ -58,16 +59,16 @@ abbrev pub wrong_word : Vocabulary → List Text → Option Text
 wrong_word v texts =
     option_and_then unless_end (find (λ word. is_end word || is_wrong v word) (drop 1 texts))
 
--- ---- what is said of it
+-- ---- the message
 
--- a word is this option of another program, with a value or without
+-- the word is this option of another program, with a value or without
 abbrev pub is_foreign : Text → Foreign → Bool
 is_foreign word f = bytes_eq f.option word || bytes_eq f.option (before_first (λ b. b == 61) word)
 
 abbrev pub foreign_hint : Vocabulary → Text → List ℕ
 foreign_hint v word = option_map_or (λ f. f.hint) (find (is_foreign word) v.foreign) []
 
--- what to write in its place: an option that has one dash is written with two
+-- what to write instead: an option with one dash is written with two
 abbrev pub hint_of : Vocabulary → Text → List ℕ
 hint_of v word = if is_name v (drop 1 word) then codes "; write -" ++ word else foreign_hint v word
 
@@ -75,6 +76,6 @@ hint_of v word = if is_name v (drop 1 word) then codes "; write -" ++ word else 
 abbrev pub about_word : Vocabulary → Text → List ℕ
 about_word v word = v.error ++ quoted word ++ hint_of v word ++ codes "\n" ++ v.usage
 
--- WHAT IS SAID of a line that is none: its wrong word, where it has one, and the usage
+-- THE MESSAGE for a line that the program doesn't have: its wrong word, if it has one, and the usage
 abbrev pub bad_line_words : Vocabulary → List Text → List ℕ
 bad_line_words v texts = option_map_or (about_word v) (wrong_word v texts) v.usage

@@ -1,4 +1,4 @@
-//! The number of jobs, which a line may have and nothing depends on.
+//! The number of jobs, which a line may give, but which has no effect.
 
 ghost use Rattle.std.specs.Prelude.{◌≡◌, false, map};
 ghost use Rattle.std.specs.List.{list_all};
@@ -38,7 +38,7 @@ fn are_jobs(texts: &[&str]) -> bool
     texts.iter().all(|text| is_jobs(text))
 }
 
-/// Whether all numbers of jobs of a line are numbers.
+/// Whether each number of jobs in a line is one.
 pub fn are_jobs_good(matches: &ArgMatches<'_>) -> bool
     ensures { result ≡ are_jobs_good (rows_of (found_of matches.now)) }
 {

@@ -1,5 +1,5 @@
-//! What the programs that go over trees share: how they read the words of a line, which names a call is to go by, which part
-//! of what was found is taken, and what is said of a line that is none.
+//! The code that the programs for trees share: how they read the words of a line, the names that a call gives, the part
+//! of the found files that is taken, and the message for a line that a program doesn't have.
 #![tactic(auto)]
 
 pub mod jobs;

@@ -1,4 +1,4 @@
-//! Numbers as options take them.
+//! Numbers as values of options.
 
 ghost use Rattle.std.specs.Prelude.{◌≡◌, ◌==◌, false, slice_get};
 ghost use Rattle.std.specs.Char.{is_ascii_digit};
@@ -24,7 +24,7 @@ fn are_digits(digits: &[u8]) -> bool
     digits.iter().all(|b| b.is_ascii_digit())
 }
 
-/// Whether a text is a number without zeros before it.
+/// Whether a text is a number without leading zeros.
 fn is_number(text: &str) -> bool
     ensures { result ≡ is_number text.now }
 {
@@ -35,7 +35,7 @@ fn is_number(text: &str) -> bool
         && are_digits(digits)
 }
 
-/// The number that a text is, where it is one.
+/// The number in a text, if it is one.
 pub fn number_in(text: &str) -> Option<u32>
     ensures { result ≡ number_in text.now }
 {

@@ -1,4 +1,4 @@
-//! The names that a call is to go by: those of the line, or of standard input.
+//! The names that a call gives, in its line or on standard input.
 
 ghost use Rattle.std.specs.Prelude.{◌≡◌, [], false, IfOk, map};
 ghost use Rattle.file_tree.specs.Files.{Tells};
@@ -8,7 +8,7 @@ use file_tree::path::names_in;
 use hcl_scan::{ByteSource, Failed};
 use std::alloc::{AllocError, Global};
 
-/// All that a device has left, unless a read fails or memory runs out.
+/// The rest of a device's bytes, unless a read fails or memory runs out.
 pub fn read_names<R: ByteSource>(alloc: Global, input: &mut R) -> Result<Vec<u8>, AllocError>
     requires { R.failed input.old ≡ false }
     ensures { IfOk result (λ names. Tells (R.left input.old) names.items) }
@@ -25,7 +25,7 @@ pub fn read_names<R: ByteSource>(alloc: Global, input: &mut R) -> Result<Vec<u8>
     Err(AllocError)
 }
 
-/// Names without the NUL at their end.
+/// The names without the last NUL.
 fn without_last_nul(names: &[u8]) -> &[u8]
     ensures { result.now ≡ without_last_nul names.now }
 {
@@ -36,7 +36,7 @@ fn without_last_nul(names: &[u8]) -> &[u8]
     }
 }
 
-/// The names, each ended by NUL, but for the last, which needs none.
+/// The names, each ended by NUL; the last one needs none.
 pub fn operands_in<'a>(alloc: Global, names: &'a [u8]) -> Result<Vec<&'a [u8]>, AllocError>
     ensures { IfOk result
         (λ operands. map (λ operand. operand.now) operands.items ≡ paths_of_input names.entry.now) }
@@ -60,7 +60,7 @@ fn here<'a>(alloc: Global) -> Result<Vec<&'a [u8]>, AllocError>
     }
 }
 
-/// The names of a line, or the current folder where there is none.
+/// The names of a line, or the current folder if there are none.
 pub fn operands_of<'a>(alloc: Global, names: &[&'a [u8]]) -> Result<Vec<&'a [u8]>, AllocError>
     ensures { IfOk result
         (λ operands. map (λ operand. operand.now) operands.items

@@ -1,4 +1,4 @@
-//! Options of a line that both programs have, and the names of one.
+//! Options that the lines of both programs have, and the names in a line.
 
 ghost use Rattle.std.specs.Prelude.{◌≡◌, ◌++◌, codes, false, IfOk, map};
 ghost use Rattle.clap.specs.Words.{found_of, rows_of, rule_of};
@@ -41,7 +41,7 @@ pub fn is_given(matches: &ArgMatches<'_>, name: &str) -> bool
     matches.get_count(name) > 0
 }
 
-/// The names of a line: those that clap found, and the others.
+/// The names in a line: those that clap found, and the others.
 pub fn names_of<'a>(
     alloc: Global,
     given: &[&'a str],
@@ -61,7 +61,7 @@ pub fn names_of<'a>(
     Ok(names)
 }
 
-/// All names of a line of which the matches are these.
+/// All names in a line with these matches.
 pub fn names_in<'a>(
     alloc: Global,
     others: &[&'a [u8]],

@@ -1,4 +1,4 @@
-//! What is of a part of the files.
+//! The names in a part of the files.
 
 ghost use Rattle.std.specs.Prelude.{◌≡◌, ◌<◌, ◌++◌, ◌∷◌, [], IfOk, OnOk, filter};
 ghost use Rattle.tree_words.specs.Shards.{has_name, hides_nothing, is_of, picked_of, sum_of, worth};
@@ -8,13 +8,13 @@ use file_tree::fault::TreeFault;
 use file_tree::walk::Found;
 use std::alloc::{AllocError, Global};
 
-/// By what a sum is multiplied before a byte is added.
+/// The factor by which a sum is multiplied before a byte is added.
 const FACTOR: u64 = 31;
 
 /// The sum is less than this, the largest prime below 2 to the 32.
 const MODULUS: u64 = 4_294_967_291;
 
-/// What a byte adds to the sum: a newline counts as 1.
+/// The number that a byte adds to the sum: a newline counts as 1.
 fn worth(byte: u8) -> u8
     ensures { result ≡ worth byte }
 {
@@ -50,7 +50,7 @@ impl Shard {
         self.count > 0 && sum_of(name) % self.count as u64 + 1 == self.number as u64
     }
 
-    /// Whether what was found is to be looked at in this part.
+    /// Whether a found name is to be looked at in this part.
     fn has(self, found: &Found) -> bool
         ensures { result ≡ is_of self found.now }
     {
@@ -60,7 +60,7 @@ impl Shard {
         }
     }
 
-    /// Adds what was found, where it is in this part.
+    /// Adds a found name, if it is in this part.
     fn keep(self, found: Found, kept: &mut Vec<Found>) -> Result<(), AllocError>
         ensures { OnOk result
             (kept.new.items ≡ kept.old.items ++ filter (is_of self) (found ∷ [])) }
@@ -75,7 +75,7 @@ impl Shard {
     }
 }
 
-/// What is to be looked at in this part, in the same order, or all where there are no parts.
+/// The found names that are to be looked at in this part, in the same order, or all of them if there are no parts.
 pub fn pick(
     alloc: Global,
     found: Vec<Found>,

@@ -1,4 +1,4 @@
-//! A part of the files, where several machines share them, and what `--shard` says of one.
+//! A part of the files, if several machines share them, and the values of `--shard`.
 
 ghost use Rattle.std.specs.Prelude.{◌≡◌, codes, option_map};
 ghost use Rattle.clap.specs.Words.{first_of, found_of, rows_of};
@@ -14,7 +14,7 @@ pub struct Shard {
     pub count: u32,
 }
 
-/// The part of these numbers.
+/// The part with this number and count.
 fn shard_by(number: Option<u32>, count: Option<u32>) -> Option<Shard>
     ensures { result ≡ shard_by number count }
 {
@@ -40,7 +40,7 @@ fn shard_in(text: &str) -> Option<Shard>
     }
 }
 
-/// The part that a text names, where there is one, or nothing where it names none.
+/// The part that a text names, or nothing if it names none. Without a text there is no part.
 fn shard_given(text: Option<&str>) -> Option<Option<Shard>>
     ensures { result ≡ shard_given (option_map (λ text. text.now) text.entry) }
 {
@@ -53,7 +53,7 @@ fn shard_given(text: Option<&str>) -> Option<Option<Shard>>
     }
 }
 
-/// The part that the matches of a line give.
+/// The part in the matches of a line.
 pub fn shard_of(matches: &ArgMatches<'_>) -> Option<Option<Shard>>
     ensures { result ≡ shard_given (first_of (codes "shard") (rows_of (found_of matches.now))) }
 {

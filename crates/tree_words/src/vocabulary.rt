@@ -1,25 +1,25 @@
-//! What a program tells a wrong word of its line by.
+//! The texts with which a program finds and explains a wrong word of its line.
 
-/// An option of another program, and what to write here in its place.
+/// An option of another program, and what to write here instead.
 #[derive(Clone, Copy, Debug)]
 pub struct Foreign {
     /// The option with its dashes, and with its value if only that value is meant.
     pub option: &'static str,
-    /// What is said after the word.
+    /// The text after the word.
     pub hint: &'static str,
 }
 
-/// What a program tells a wrong word by, and what it says of it.
+/// What a program needs to find a wrong word, and to explain it.
 #[derive(Clone, Copy, Debug)]
 pub struct Vocabulary {
     /// The options' names.
     pub names: &'static [&'static str],
     /// The options' letters.
     pub letters: &'static [u8],
-    /// What is said before a wrong word.
+    /// The text before a wrong word.
     pub error: &'static str,
     /// Options of other programs.
     pub foreign: &'static [Foreign],
-    /// What lines there are.
+    /// The usage.
     pub usage: &'static str,
 }

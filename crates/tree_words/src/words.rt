@@ -9,23 +9,23 @@ use std::alloc::{AllocError, Global};
 /// The words of a line.
 #[derive(Debug, Drop)]
 pub struct Words<'a> {
-    /// Those that are texts, the program's name first.
+    /// The words that are texts, the program's name first.
     pub texts: Vec<&'a str>,
-    /// Those that aren't UTF-8.
+    /// The words that aren't UTF-8.
     pub others: Vec<&'a [u8]>,
 }
 
 /// The words of a line, as slices.
 #[derive(Clone, Copy, Debug)]
 pub struct Line<'w> {
-    /// Those that are texts, the program's name first.
+    /// The words that are texts, the program's name first.
     pub texts: &'w [&'w str],
-    /// Those that aren't UTF-8.
+    /// The words that aren't UTF-8.
     pub others: &'w [&'w [u8]],
 }
 
 impl<'a> Words<'a> {
-    /// Takes one word more.
+    /// Takes one more word.
     fn take(&mut self, word: &'a [u8]) -> Result<(), AllocError>
         ensures texts { OnOk result
             (map (λ text. text.now) self.new.texts.items
@@ -48,7 +48,7 @@ impl<'a> Words<'a> {
     }
 }
 
-/// All words but the first.
+/// All words except the first.
 pub(crate) fn after_first<T>(words: &[T]) -> &[T]
     ensures { result.now ≡ drop 1 words.now }
 {
@@ -58,7 +58,7 @@ pub(crate) fn after_first<T>(words: &[T]) -> &[T]
     }
 }
 
-/// The words of a line of bytes, of which the first is the program's name, whatever it is called by.
+/// The words of a line of bytes, whose first word is the program's name, whatever name it is called by.
 pub fn words_of<'a>(
     alloc: Global,
     program: &'a str,

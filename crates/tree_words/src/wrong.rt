@@ -1,4 +1,4 @@
-//! The word for which a line is none of a program's, and what is said of the line.
+//! The word because of which a program doesn't have a line, and the message for the line.
 
 ghost use Rattle.std.specs.Prelude.{◌≡◌, ◌||◌, ◌++◌, ◌==◌, IfOk, OnOk, false, find, map, option_map, slice_get};
 ghost use Rattle.std.specs.List.{before_first, list_any, position_or_len};
@@ -33,7 +33,7 @@ fn is_letter(of: &Vocabulary, byte: u8) -> bool
     of.letters.iter().any(|letter| *letter == byte)
 }
 
-/// Whether an option has the letter that these begin with.
+/// Whether an option has the letter at the front of these.
 fn has_letter(of: &Vocabulary, letters: &[u8]) -> bool
     ensures { result
         ≡ option_map_or (is_letter (vocabulary_of of.now)) (slice_get letters.now 0) false }
@@ -51,14 +51,14 @@ fn name_length(option: &[u8]) -> usize
     option.iter().take_while(|b| **b != b'=').count()
 }
 
-/// What stands before the first `=`.
+/// The text before the first `=`.
 fn before_value(option: &[u8]) -> &[u8]
     ensures { result.now ≡ before_first (λ b. b == 61) option.now }
 {
     &option[..name_length(option)]
 }
 
-/// What follows a dash, where the text begins with one.
+/// The text after a dash, if the text begins with one.
 fn after_dash(text: &[u8]) -> Option<&[u8]>
     ensures { option_map (λ rest. rest.now) result ≡ strip_byte 45 text.now }
 {
@@ -68,7 +68,7 @@ fn after_dash(text: &[u8]) -> Option<&[u8]>
     }
 }
 
-/// Whether a word is an option's, and there is no such option.
+/// Whether a word is meant as an option, and there is no such option.
 fn is_wrong(of: &Vocabulary, word: &[u8]) -> bool
     ensures { result ≡ is_wrong (vocabulary_of of.now) word.now }
 {
@@ -108,7 +108,7 @@ fn unless_end(word: &str) -> Option<&str>
     if is_end(word) { None } else { Some(word) }
 }
 
-/// The wrong word of a line, of which the first word is the program's name.
+/// The wrong word of a line, whose first word is the program's name.
 fn wrong_word<'a>(of: &Vocabulary, words: &[&'a str]) -> Option<&'a str>
     ensures { option_map (λ word. word.now) result
         ≡ wrong_word (vocabulary_of of.now) (map (λ word. word.now) words.now) }
@@ -127,7 +127,7 @@ fn is_foreign(word: &str, foreign: &Foreign) -> bool
     option == word.as_bytes() || option == before_value(word.as_bytes())
 }
 
-/// The option of another program that a word is.
+/// The option of another program that a word is, if it is one.
 fn foreign_in<'a>(foreign: &'a [Foreign], word: &str) -> Option<&'a Foreign>
     ensures { option_map (λ one. one.now) result
         ≡ find (λ one. is_foreign word.now (foreign_of one)) foreign.entry.now }
@@ -135,7 +135,7 @@ fn foreign_in<'a>(foreign: &'a [Foreign], word: &str) -> Option<&'a Foreign>
     foreign.iter().find(|one| is_foreign(word, one))
 }
 
-/// What is to be written in place of an option of another program.
+/// What to write instead of an option of another program.
 fn foreign_hint(of: &Vocabulary, word: &str) -> &'static str
     ensures { result.now ≡ foreign_hint (vocabulary_of of.now) word.now }
 {
@@ -145,7 +145,7 @@ fn foreign_hint(of: &Vocabulary, word: &str) -> &'static str
     }
 }
 
-/// Adds what is to be written in place of a word.
+/// Adds what to write instead of a word.
 fn push_hint(to: &mut Vec<u8>, of: &Vocabulary, word: &str) -> Result<(), AllocError>
     ensures { OnOk result
         (to.new.items ≡ to.old.items ++ hint_of (vocabulary_of of.now) word.now) }
@@ -157,7 +157,7 @@ fn push_hint(to: &mut Vec<u8>, of: &Vocabulary, word: &str) -> Result<(), AllocE
     to.extend_from_slice(foreign_hint(of, word).as_bytes())
 }
 
-/// What is said of a line with this wrong word.
+/// The message for a line with this wrong word.
 fn about_word(alloc: Global, of: &Vocabulary, word: &str) -> Result<Vec<u8>, AllocError>
     ensures { IfOk result (λ text. text.items ≡ about_word (vocabulary_of of.now) word.now) }
 {
@@ -171,7 +171,7 @@ fn about_word(alloc: Global, of: &Vocabulary, word: &str) -> Result<Vec<u8>, All
     Ok(text)
 }
 
-/// What is said of a line that is none of a program's, of which the first word is its name.
+/// The message for a line that a program doesn't have; the first word is the program's name.
 pub fn bad_line_text(alloc: Global, of: &Vocabulary, words: &[&str]) -> Result<Vec<u8>, AllocError>
     ensures { IfOk result (λ text. text.items
         ≡ bad_line_words (vocabulary_of of.now) (map (λ word. word.now) words.now)) }

@@ -1,11 +1,11 @@
--- The items of an outline, as they are kept.
+-- The items of an outline, as they are stored.
 use Rattle.std.specs.Prelude.{List, map}
 use Rattle.hcl_grammar.specs.declared.item.Item.{Item}
 use Rattle.hcl_grammar.specs.declared.item.Item.TheVariants as item
 use Rattle.hcl_grammar.specs.declared.entry.ItemEntry.{ItemEntry}
 use Rattle.hcl_grammar.specs.declared.entry.ItemEntry.TheVariants as entry
 
--- the item that an entry keeps
+-- the item that an entry stores
 abbrev pub item_in : ItemEntry → Item
 item_in (entry.Attribute level name first end) = item.Attribute level name first end
 item_in (entry.Block level kind end) = item.Block level kind end

@@ -1,5 +1,5 @@
--- What a `Tokens` keeps of its tokens.
--- Our own choice of representation: 8 bytes a token, and where a long one stands is in a second list.
+-- The entries of tokens as a `Tokens` stores them. The representation is our own choice: 8 bytes for each token, and a
+-- second list with the spans of long tokens.
 use Rattle.std.specs.Prelude.{◌≡◌, ℕ, ◌+◌, ◌<◌, ◌==◌, List, length, map, get_or, if◌then◌else◌}
 use Rattle.hcl_tokens.specs.declared.token.TokenEntry.{TokenEntry}
 use Rattle.hcl_tokens.specs.declared.entries.StoredEntry.{StoredEntry}
@@ -10,7 +10,7 @@ use Rattle.hcl_tokens.specs.declared.entries.Given.{Given}
 abbrev pub long_mark : ℕ
 long_mark = 65535
 
--- where a token stands that is not long
+-- the span of a token that isn't long
 abbrev pub short_span : StoredEntry → Span
 short_span k = record { start = k.place; length = k.length }
 
@@ -23,10 +23,10 @@ entry_of long k = record { start = (span_of long k).start; end = (span_of long k
 abbrev pub entries_of : List Span → List StoredEntry → List TokenEntry
 entries_of long ks = map (entry_of long) ks
 
--- the entry that is given so
+-- the entry of a token that is given by start and length
 abbrev pub entry_given : Given → TokenEntry
 entry_given g = record { start = g.start; end = g.start + g.length; kind = g.kind; inside_heredoc = g.inside_heredoc }
 
--- a long token stands among the long ones
+-- the stored entry of a long token names a span of the second list
 pub record IsStored (long : List Span) (k : StoredEntry) : Type 0 where
   pub found : k.length ≡ long_mark → k.place < length long

@@ -1,4 +1,4 @@
--- What is done after the modules were linted.
+-- The end of a run after the modules were linted.
 use Rattle.std.specs.Prelude.{◌≡◌, ◌⊎◌, ◌||◌, ℕ, Bool, true, List, Option, codes, is_some, if◌then◌else◌}
 use Rattle.command_line.specs.Rows.{Took, Writer, error_line}
 use Rattle.file_tree.specs.declared.walk.Found.{Found}
@@ -13,7 +13,7 @@ use Rattle.lint_command.specs.Ends.{IsFoot, fault_status, last_words}
 abbrev pub last_status : RunEnd → List Found → Configured → ℕ
 last_status ran faults config = worse_status ran.status (fault_status faults config.unlinted)
 
--- memory ran out for a form, and standard output is as it was; or what stands last was written, and the last words said
+-- memory ran out for a form, and standard output is unchanged; or the foot was written, and the last message shown
 abbrev pub Closes : Option Form → Bool → Configured → List Found → RunEnd → Writer → Writer → Type 0 → ℕ → Type 0
 Closes form quiet config faults ran out err Untouched status =
     ((is_some form ≡ true) × Untouched × Took err (error_line tree_linter (codes "out of memory")) × (status ≡ 1))

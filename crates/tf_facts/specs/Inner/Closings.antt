@@ -1,4 +1,4 @@
--- Whether what is open is closed directly before a closing quote, token by token, as the code finds it.
+-- Whether an open opener is closed directly before a closing quote, token by token, as the code finds it.
 use Rattle.std.specs.Prelude.{◌≡◌, ◌==◌, ℕ, Bool, false, List, get_or, reverse, if◌then◌else◌}
 use Rattle.hcl_tokens.specs.Balanced.{closer_count, opener_count}
 use Rattle.hcl_tokens.specs.Kinds.{is}
@@ -11,19 +11,19 @@ use Rattle.tf_facts.specs.Inner.Seen.{seen_from}
 use Rattle.tf_facts.specs.declared.part.Part.{Part}
 use Rattle.tf_facts.specs.declared.part.Part.TheVariants as part
 
--- what is seen from a number on begins with a closing quote
+-- the significant tokens from a number on begin with a closing quote
 abbrev pub quote_from : List Lexeme → ℕ → Bool
 quote_from tokens n = begins_with_close (seen_from tokens n)
 
--- so does what is seen after the closer of what is open there, where so many more are open
+-- after the closer of the opener at this depth the significant tokens begin with a closing quote
 abbrev pub closes_before_quote : List Lexeme → ℕ → ℕ → Bool
 closes_before_quote tokens depth n = begins_with_close (after_closer depth (seen_from tokens n))
 
--- the answers by depth: for nothing more open last, for one before it, and so on
+-- the answers by depth: the last is for the innermost opener, the one before it for the next, and so on
 abbrev pub AreAhead : List Lexeme → List Bool → ℕ → Type 0
 AreAhead tokens ahead n = (depth : ℕ) → get_or (reverse ahead) depth false ≡ closes_before_quote tokens depth n
 
--- what a token means to the walk that finds patterns
+-- the part of a token's kind in the walk that finds patterns
 abbrev pub part_of : Kind → Part
 part_of k =
     if is kind.LineComment k then part.LineComment

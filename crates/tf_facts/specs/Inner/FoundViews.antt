@@ -1,4 +1,4 @@
--- What contracts see of what the code finds on its way through a file.
+-- The contracts' views of the facts that the code finds on its way through a file.
 use Rattle.std.specs.Prelude.{ℕ, List, [], ◌∷◌, Option, Some, None}
 use Rattle.tf_facts.specs.Comments.{Comment}
 use Rattle.tf_facts.specs.Declarations.{Declaration, Declarer}
@@ -13,7 +13,7 @@ use Rattle.tf_facts.specs.declared.variable_block.VariableBlock.{VariableBlock}
 abbrev pub declarer_of : found.Declarer → Declarer
 declarer_of d = record { kind = d.kind; labels = d.labels }
 
--- one or none
+-- a list of one declaration or none
 abbrev pub listed : Option Declared → List (Declaration ℕ)
 listed None = []
 listed (Some d) = declaration d ∷ []

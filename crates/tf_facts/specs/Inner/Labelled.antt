@@ -1,4 +1,4 @@
--- The labels of a block, as the code keeps them.
+-- The labels of a block, as the code stores them.
 use Rattle.std.specs.Prelude.{◌≡◌, ◌<◌, ℕ, List, [], ◌∷◌, length}
 use Rattle.tf_facts.specs.declared.names.Names.{Names}
 use Rattle.tf_facts.specs.declared.names.Names.TheVariants as names

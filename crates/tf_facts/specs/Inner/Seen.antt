@@ -1,4 +1,4 @@
--- What patterns see of a token list from a number on.
+-- The tokens of a list from a number on that patterns see: the significant ones.
 use Rattle.std.specs.Prelude.{◌≡◌, ◌<◌, ◌≤◌, ◌+◌, ◌^◌, ℕ, zero, suc, Bool, true, false, List, ◌∷◌, Option, None, Some, drop, length, slice_get, if◌then◌else◌}
 use Rattle.hcl_tokens.specs.Kinds.{is}
 use Rattle.hcl_tokens.specs.declared.token.Kind.TheVariants.{Dot, Ident}
@@ -9,14 +9,14 @@ use Rattle.tf_facts.specs.declared.seen.Seen.{Seen}
 abbrev pub seen_from : List Lexeme → ℕ → List Numbered
 seen_from tokens n = significant (numbered_from n (drop n tokens))
 
--- a token under a number
+-- a token with a number
 abbrev pub number_of : ℕ → Lexeme → Numbered
 number_of n t = record { number = n; kind = t.kind; text = t.text }
 
 abbrev pub numbered_of : Seen → Numbered
 numbered_of t = record { number = t.number; kind = t.kind; text = t.text.now }
 
--- the token is the first that is seen from a number on
+-- the token is the first significant one from a number on
 pub record IsNextSeen (tokens : List Lexeme) (from : ℕ) (t : Seen) : Type 0 where
   pub first : seen_from tokens from ≡ numbered_of t ∷ seen_from tokens (t.number + 1)
   pub within : t.number < length tokens
@@ -27,16 +27,16 @@ pub record IsNextSeen (tokens : List Lexeme) (from : ℕ) (t : Seen) : Type 0 wh
 abbrev pub IsIdentAt : List Lexeme → ℕ → Type 0
 IsIdentAt tokens n = (t : Lexeme) → slice_get tokens n ≡ Some t → is Ident t.kind ≡ true
 
--- none is from a number on to before another
+-- no token from a number on to before another is an identifier
 abbrev pub AreNoIdents : List Lexeme → ℕ → ℕ → Type 0
 AreNoIdents tokens from to = (k : ℕ) (t : Lexeme) → from ≤ k → k < to → slice_get tokens k ≡ Some t → is Ident t.kind ≡ false
 
--- a token that is seen is a dot or not; over one that isn't the answer stays
+-- whether a significant token is a dot; at any other token the answer is that of the tokens before
 abbrev pub dot_or : Option Lexeme → Bool → Bool
 dot_or None before = before
 dot_or (Some t) before = if is_passed_over t.kind then before else is Dot t.kind
 
--- the last token that is seen before a number is a dot
+-- the last significant token before a number is a dot
 abbrev pub after_dot : List Lexeme → ℕ → Bool
 after_dot tokens zero = false
 after_dot tokens (suc n) = dot_or (slice_get tokens n) (after_dot tokens n)

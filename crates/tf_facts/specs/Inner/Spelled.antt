@@ -12,7 +12,7 @@ spelled (Variable n) = variable_reference n.now
 spelled (Local n) = local_reference n.now
 spelled (Data t n) = data_reference t.now n.now
 
--- the token is the identifier after a dot with which the tokens from a number on begin
+-- the tokens from a number on begin with a dot and this identifier
 pub record IsAfter (tokens : List Lexeme) (from : ℕ) (t : Seen) : Type 0 where
   pub named : name_after (seen_from tokens from) ≡ Some (numbered_of t)
   pub rest : drop 2 (seen_from tokens from) ≡ seen_from tokens (t.number + 1)

@@ -20,7 +20,7 @@ in_value t = not (is_comment t.kind) && not (is Newline t.kind)
 abbrev pub values : List Lexeme → ℕ → ℕ → List Numbered
 values tokens from to = filter in_value (take (to - from) (drop from (numbered tokens)))
 
--- the token is the first of these
+-- the token is the first of the value's tokens in this range
 pub record IsFirstValue (tokens : List Lexeme) (from to : ℕ) (t : Seen) : Type 0 where
   pub first : values tokens from to ≡ numbered_of t ∷ values tokens (t.number + 1) to
   pub within : t.number < to
@@ -28,7 +28,7 @@ pub record IsFirstValue (tokens : List Lexeme) (from to : ℕ) (t : Seen) : Type
 abbrev pub value_of_attribute : Attribute → Value
 value_of_attribute a = record { first = a.first; end = a.end }
 
--- what attributes say together
+-- the body of a block with these attributes
 abbrev pub body_of : List Attribute → Body
 body_of attributes = record {
   is_described = has (codes "description") attributes;
@@ -37,7 +37,7 @@ body_of attributes = record {
   source = option_map value_of_attribute (find (λ a. bytes_eq a.name (codes "source")) attributes);
 }
 
--- what is said first, and then
+-- the body of two lists of attributes, one after the other
 abbrev pub both : Body → Body → Body
 both one other = record {
   is_described = one.is_described || other.is_described;

@@ -21,19 +21,19 @@ use Rattle.file_tree.specs.declared.fault.TreeFault.{TreeFault}
 use Rattle.file_tree.specs.declared.fault.TreeFault.TheVariants.{ReadFailed, OutOfMemory}
 use Rattle.file_tree.specs.declared.tree.Replaced.{Replaced}
 
--- what a loaded text is for a look
+-- a loaded text, or the outcome of a look whose load failed
 abbrev pub outcome_by : Result (List ℕ) LoadError → Result (List ℕ) Outcome
 outcome_by (Ok text) = Ok text
 outcome_by (Err (error.Fault fault)) = Err (outcome.Refused fault None)
 outcome_by (Err error.ReadFailed) = Err (outcome.Failed ReadFailed)
 outcome_by (Err error.OutOfMemory) = Err (outcome.Failed OutOfMemory)
 
--- what the error of a scan is for a look
+-- the outcome of a look whose scan failed
 abbrev pub outcome_of_scan : ScanError → Outcome
 outcome_of_scan (scan_error.Fault fault) = outcome.Refused fault None
 outcome_of_scan scan_error.OutOfMemory = outcome.Failed OutOfMemory
 
--- what loading a file answers, of which the device tells these bytes
+-- the result of loading a file whose bytes the device tells
 abbrev pub LoadsFile : Option (List ℕ) → Result (List ℕ) Outcome → Type 0
 LoadsFile told (Ok text) = Tells told text × IsText text
 LoadsFile told (Err (outcome.Refused fault snippet)) = (bytes : List ℕ) × Tells told bytes × IsLoadFault bytes fault × (snippet ≡ None)
@@ -42,7 +42,7 @@ LoadsFile told (Err outcome.Formatted) = ⊥
 LoadsFile told (Err (outcome.Changed how)) = ⊥
 LoadsFile told (Err (outcome.Differs text)) = ⊥
 
--- what is answered of accepted tokens of a file that was named so, and what the files are then
+-- the outcome for accepted tokens of a file with this given name, and the files afterwards
 abbrev pub Makes : Mode → Files → Files → Name → Name → Scanned → Outcome → Type 0
 Makes mode old new given name s outcome.Formatted = (print s.tokens ≡ s.text) × (new ≡ old)
 Makes mode old new given name s (outcome.Changed how) =
@@ -53,7 +53,7 @@ Makes mode old new given name s (outcome.Refused fault snippet) =
     (max_source < length (print s.tokens)) × (fault ≡ print_too_large) × (new ≡ old) × (snippet ≡ None)
 Makes mode old new given name s (outcome.Failed fault) = new ≡ old
 
--- the same outcome of a text, with the line of its fault where it is to be shown; or memory ran out for that
+-- the outcome of a text, to which the line of its fault is added if it is to be shown, or memory ran out for the line
 abbrev pub Completes : Bool → List ℕ → Outcome → Outcome → Type 0
 Completes shows text (outcome.Refused fault was) (outcome.Refused same snippet) = (same ≡ fault) × (snippet_text snippet ≡ shown_line shows text fault)
 Completes shows text (outcome.Refused fault was) (outcome.Failed why) = why ≡ OutOfMemory
@@ -62,7 +62,7 @@ Completes shows text (outcome.Refused fault was) (outcome.Changed how) = ⊥
 Completes shows text (outcome.Refused fault was) (outcome.Differs shown) = ⊥
 Completes shows text before after = after ≡ before
 
--- the difference is shown, of a file that was named so, or memory ran out
+-- the difference is shown for a file with this given name, or memory ran out
 abbrev pub IsShown : Name → Scanned → Outcome → Type 0
 IsShown given s (outcome.Differs text) = text.items ≡ shown_diff given s.text (print s.tokens)
 IsShown given s (outcome.Failed fault) = fault ≡ OutOfMemory
@@ -70,12 +70,12 @@ IsShown given s outcome.Formatted = ⊥
 IsShown given s (outcome.Changed how) = ⊥
 IsShown given s (outcome.Refused fault snippet) = ⊥
 
--- the same of a load
+-- a load that succeeds had no failed call; the fault of one that fails is real
 abbrev pub LoadNotes : {X : Type 0} → Faults → Faults → Result X Outcome → Type 0
 LoadNotes before after (Ok x) = after ≡ before
 LoadNotes before after (Err answer) = Notes before after answer
 
--- what is asked for of accepted tokens of a file that was named so, and answered
+-- the replacement that is asked for, with its answer, for accepted tokens of a file with this given name
 abbrev pub PrintAsked : Mode → Name → Scanned → Asked → Asked → Result Replaced TreeFault → Type 0
 PrintAsked (Write writing) given s before after answer =
     (print s.tokens ≢ s.text) × (length (print s.tokens) ≤ max_source)

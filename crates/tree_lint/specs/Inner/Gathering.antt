@@ -1,4 +1,4 @@
--- How far a run has come with the files of a module.
+-- The progress of a run over the files of a module.
 use Rattle.std.specs.Prelude.{◌≡◌, ◌≤◌, ◌+◌, ◌++◌, ◌∷◌, [], ℕ, Bool, false, List, Option, Result, Ok, Err, if◌then◌else◌, length, map}
 use Rattle.hcl_grammar.specs.Verdict.{IsTextVerdict}
 use Rattle.comment_faults.specs.CommentFaults.{fault_view}
@@ -23,7 +23,7 @@ use Rattle.tree_lint.specs.declared.stop.Stop.TheVariants as stop
 use Rattle.tree_lint.specs.declared.stop.Stopped.{Stopped}
 use Rattle.tree_lint.specs.declared.written.Terminals.{Terminals}
 
--- what a loaded text is for a run: of bytes that are no text no line is shown
+-- the answer for a loaded text; the fault of bytes that are no text has no line
 abbrev pub StopsLoad : Result (List ℕ) LoadError → Result (List ℕ) Stop → Type 0
 StopsLoad (Ok text) r = r ≡ Ok text
 StopsLoad (Err (error.Fault fault)) (Err (stop.Refused same line)) = (same ≡ fault) × (line.items ≡ [])
@@ -31,7 +31,8 @@ StopsLoad (Err (error.Fault fault)) _ = ⊥
 StopsLoad (Err error.ReadFailed) r = r ≡ Err (stop.Failed ReadFailed)
 StopsLoad (Err error.OutOfMemory) r = r ≡ Err (stop.Failed OutOfMemory)
 
--- why a file that was read isn't kept, with the line of its fault where that is shown: of those that weren't read, that is never asked
+-- why a file that was read isn't kept, with the line of its fault if that is shown; files that weren't opened or read
+-- are no case here, so anything holds of them
 abbrev pub StopsWith : Bool → List ℕ → FileStop → Stop → Type 0
 StopsWith shows text (file.Refused fault) (stop.Refused same line) = (same ≡ fault) × (line.items ≡ snippet_if shows text fault.at)
 StopsWith shows text (file.Refused fault) stop.TooLarge = ⊥
@@ -41,7 +42,7 @@ StopsWith shows text file.OutOfMemory s = s ≡ stop.Failed OutOfMemory
 StopsWith shows text file.NotOpened s = Unit {0}
 StopsWith shows text file.NotRead s = Unit {0}
 
--- what reading a file answers, of which the device tells these bytes
+-- the answer of reading a file whose bytes the device tells
 abbrev pub ReadsFile : Option (List ℕ) → Faults → Faults → Result (List ℕ) Stop → Type 0
 ReadsFile told was is (Ok text) = (is ≡ was) × Tells told text × IsText text
 ReadsFile told was is (Err (stop.Refused fault line)) = (is ≡ was) × ((bytes : List ℕ) × Tells told bytes × IsLoadFault bytes fault) × (line.items ≡ [])
@@ -54,44 +55,44 @@ pub record IsEmpty (all : Gathered) : Type 0 where
   pub comments : all.comments.items ≡ []
   pub texts : all.texts.items ≡ []
 
--- the comments of a file are kept with others, where they are looked for
+-- the comments of a file are added to others, if they are checked
 pub record AddsComments (file : File) (old new : Gathered) : Type 0 where
   pub checks : new.checks ≡ old.checks
   pub comments : map fault_view new.comments.items ≡ map fault_view old.comments.items ++ comments_looked_for old.checks (file ∷ [])
   pub terminals : new.terminals ≡ old.terminals
   pub texts : new.texts ≡ old.texts
 
--- what keeping scanned tokens answers
+-- the answer of keeping scanned tokens
 abbrev pub KeepsScanned : ScannedFile → ℕ → Gathered → Gathered → Result ℕ FileStop → Type 0
 KeepsScanned file number old new (Ok more) = KeepsTokens file.tokens number file.all old.facts new.facts (Ok more) × AddsComments (record { number = number; source = file.tokens }) old new
 KeepsScanned file number old new (Err why) = KeepsTokens file.tokens number file.all old.facts new.facts (Err why)
 
--- what keeping a text after others of so many bytes answers
+-- the answer of keeping a text after others, which have this many bytes
 abbrev pub KeepsFile : List ℕ → ℕ → ℕ → Gathered → Gathered → Result ℕ FileStop → Type 0
 KeepsFile text size number old new (Ok more) =
     (source : Scanned) × IsTextVerdict text (Ok source) × (more ≡ size + length text) × (more ≤ max_module) × (new.facts ≡ with_file old.facts (record { number = number; source = source }))
     × AddsComments (record { number = number; source = source }) old new
 KeepsFile text size number old new (Err why) = ScansFile text size (Err why)
 
--- the text of one file, where it is kept
+-- the text of one file, if texts are kept
 abbrev pub texts_kept : Bool → List ℕ → List (List ℕ)
 texts_kept shows text = if shows then text ∷ [] else []
 
--- the comments of a file are kept with others, and its text
+-- the comments of a file are added to others, if they are checked, and so is its text, if texts are kept
 pub record AddsFound (file : File) (text : List ℕ) (old new : Gathered) : Type 0 where
   pub checks : new.checks ≡ old.checks
   pub comments : map fault_view new.comments.items ≡ map fault_view old.comments.items ++ comments_looked_for old.checks (file ∷ [])
   pub terminals : new.terminals ≡ old.terminals
   pub texts : new.texts.items ≡ old.texts.items ++ texts_kept (shows_lines old.terminals) text
 
--- what keeping a file answers that was read after others of so many bytes
+-- the answer of keeping a file that was read after others, which have this many bytes
 abbrev pub AddsRead : List ℕ → ℕ → ℕ → Gathered → Gathered → Result ℕ Stop → Type 0
 AddsRead text size number old new (Ok more) =
     (source : Scanned) × IsTextVerdict text (Ok source) × (more ≡ size + length text) × (more ≤ max_module) × (new.facts ≡ with_file old.facts (record { number = number; source = source }))
     × AddsFound (record { number = number; source = source }) text old new
 AddsRead text size number old new (Err why) = (by : FileStop) × ScansFile text size (Err by) × StopsWith old.terminals.err text by why
 
--- a file was read, and what is to be kept of it is kept
+-- a file was read, and its facts, its comments and its text are kept
 pub record AddedFile (told : Option (List ℕ)) (size number : ℕ) (old new : Gathered) (more : ℕ) : Type 0 where
   pub added : Added told size number old.facts new.facts more
   pub found : AddsFound (record { number = number; source = added.source }) added.bytes old new
@@ -100,7 +101,7 @@ abbrev pub AddsFile : Option (List ℕ) → ℕ → ℕ → Faults → Faults �
 AddsFile told size number was is old new (Ok more) = (is ≡ was) × AddedFile told size number old new more
 AddsFile told size number was is old new (Err why) = StopsBy old.terminals.err told size was is why
 
--- the files of these names were accepted, and what is to be kept of them is kept
+-- the files of these names were accepted, and their facts, their comments and their texts are kept
 pub record ReachedAll (told : Name → Option (List ℕ)) (names : List Name) (size : ℕ) (checks : Bool) (terminals : Terminals) (all : Gathered) : Type 0 where
   pub reached : Reached told names size all.facts
   pub checks_are : all.checks ≡ checks

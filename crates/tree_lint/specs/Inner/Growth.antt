@@ -1,11 +1,11 @@
--- How the numbers of a run grow.
+-- The numbers of a run with one more module.
 use Rattle.std.specs.Prelude.{ℕ, ◌<◌, ◌≤◌, ◌+◌, ◌==◌, Bool, if◌then◌else◌, nat_lt}
 use Rattle.tree_lint.specs.declared.counts.Counts.{Counts}
 
 abbrev pub one_if : Bool → ℕ
 one_if is_so = if is_so then 1 else 0
 
--- one module more, if it is one, with this status and so many issues
+-- the numbers with one more module, if it counts as one, with this status and this many issues
 abbrev pub counts_with : Counts → Bool → ℕ → ℕ → Counts
 counts_with c is_one status n = record {
   modules = c.modules + one_if is_one;
@@ -14,7 +14,7 @@ counts_with c is_one status n = record {
   issues = c.issues + n;
 }
 
--- its numbers have room for one module more
+-- the numbers have room for one more module
 pub record HasRoom (c : Counts) : Type 0 where
   pub modules : c.modules + 1 < 18446744073709551616
   pub refused : c.refused + 1 < 18446744073709551616

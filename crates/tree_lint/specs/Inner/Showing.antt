@@ -1,4 +1,4 @@
--- What is shown of one module.
+-- The output and the messages for one module.
 use Rattle.std.specs.Prelude.{◌≡◌, ◌⊎◌, ◌==◌, ◌&&◌, ℕ, Bool, false, List, [], ◌∷◌, Some, Ok, Err, length, map}
 use Rattle.comment_faults.specs.CommentFaults.{fault_view}
 use Rattle.comment_faults.specs.declared.fault.CommentFault as found
@@ -15,14 +15,14 @@ use Rattle.tree_lint.specs.declared.kept.KeptRefusals.{KeptRefusals}
 use Rattle.tree_lint.specs.declared.linted.Linted as code
 use Rattle.tree_lint.specs.declared.run.Task.{Task}
 
--- what was found, in the words of the definitions
+-- the view of what was found in a module
 abbrev pub linted_view : code.Linted → Linted
 linted_view l = record { issues = l.issues.now; comments = map fault_view l.comments.now; texts = l.texts.now }
 
 abbrev pub is_nothing : Linted → Bool
 is_nothing l = (length l.issues == 0) && (length l.comments == 0)
 
--- a verdict of which this holds is shown, and told
+-- a verdict with this property is shown, and its refusals are kept
 pub record Shows (task : Task) (m : Module) (P : Verdict → Type 0) (out err : Writer) (before after : KeptRefusals) (ended : Ended) : Type 0 where
   pub verdict : Verdict
   pub holds : P verdict
@@ -33,14 +33,14 @@ pub record Shows (task : Task) (m : Module) (P : Verdict → Type 0) (out err : 
   pub issues : ended.issues ≡ issue_count verdict
   pub shown : ended.is_shown ≡ is_shown task.manner.form verdict
 
--- this is found in it, or memory ran out
+-- the verdict is what was found in the module, or that memory ran out
 abbrev pub HasOrNoMemory : Module → Linted → Verdict → Type 0
 HasOrNoMemory m linted v = (v ≡ Ok linted) ⊎ (v ≡ Err (no_memory m ∷ []))
 
--- what is said of a comment in the file of this name, of whose text this is shown
+-- the line of a comment in the file of this name, with this part of the file's text
 abbrev pub comment_refusal : Name → List ℕ → found.CommentFault → List ℕ
 comment_refusal name snippet f = refusal_line (record { name = name; at = Some (fault_view f).at; text = (fault_view f).text; snippet = snippet })
 
--- how a module ends that is refused
+-- the end of a run over a refused module
 abbrev pub refused : Ended
 refused = record { status = 1; issues = 0; is_shown = false }

@@ -3,7 +3,7 @@ use Rattle.std.specs.List.{concat}
 use Rattle.command_line.proofs.WriterLemmas.{Goes}
 use Rattle.command_line.proofs.parts.write_parts.Given as goal
 
--- what is taken of the rest from now on is taken of all from the start on
+-- if the writer takes the remaining parts, it has taken all of them
 abbrev pub invariant-loop-piece : goal.invariant-loop-piece
 invariant-loop-piece g l =
     (g.S.ByteSink.failed l.sink ≡ false)

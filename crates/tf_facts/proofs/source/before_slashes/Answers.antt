@@ -9,7 +9,7 @@ none : (xs : List ℕ) → take 0 xs ≡ []
 none [] = refl
 none (x ∷ xs) = refl
 
--- a byte with which no slashes begin
+-- a byte that begins no `//`
 step : (text : List ℕ) (n : ℕ) → n < length text → begins (codes "//") (take (length text - n) (drop n text)) ≡ false → before_slashes text ≡ take n text ++ before_slashes (drop n text)
     → before_slashes text ≡ take (n + 1) text ++ before_slashes (drop (n + 1) text)
 step text n h plain so =

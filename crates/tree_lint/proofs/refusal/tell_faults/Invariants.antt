@@ -4,7 +4,7 @@ use Rattle.command_line.proofs.WriterLemmas.{Goes}
 use Rattle.tree_lint.specs.Faults.{fault_lines}
 use Rattle.tree_lint.proofs.refusal.tell_faults.Given as goal
 
--- what is taken of the rest from now on is taken of all from the start on
+-- if the writer takes the remaining lines, it has taken all of them
 abbrev pub invariant-loop-found : goal.invariant-loop-found
 invariant-loop-found g l =
     (g.S.ByteSink.failed l.sink ≡ false)

@@ -5,7 +5,7 @@ use Rattle.command_line.proofs.WriterLemmas.{Goes}
 use Rattle.tree_lint.specs.Runs.{comment_line}
 use Rattle.tree_lint.proofs.report.tell_comments.Given as goal
 
--- what is taken of the rest from now on is taken of all from the start on
+-- if the writer takes the remaining lines, it has taken all of them
 abbrev pub invariant-loop-fault : goal.invariant-loop-fault
 invariant-loop-fault g l =
     (g.E.ByteSink.failed l.err ≡ false)

@@ -4,7 +4,7 @@ use Rattle.command_line.proofs.WriterLemmas.{Goes}
 use Rattle.tree_lint.specs.Runs.{shown_issue}
 use Rattle.tree_lint.proofs.terminal.show_each.Given as goal
 
--- what is taken of the rest from now on is taken of all from the start on
+-- if the writer takes the remaining lines, it has taken all of them
 abbrev pub invariant-loop-number : goal.invariant-loop-number
 invariant-loop-number g l =
     (g.O.ByteSink.failed l.out ≡ false)

@@ -6,7 +6,7 @@ use Rattle.hcl_tokens.specs.Entries.{lexeme_of}
 use Rattle.hcl_tokens.specs.declared.token.TokenEntry.{TokenEntry}
 use Rattle.hcl_tokens.proofs.tokens.Tokens.is_inside_heredoc.Goals as goal
 
--- a token is inside a heredoc where its entry is
+-- a token is inside a heredoc if and only if its entry is
 inside_of_entry : (text : List ℕ) (o : Option TokenEntry) (b : Bool) → ((e : TokenEntry) → o ≡ Some e → b ≡ e.inside_heredoc) → (t : Lexeme) → option_map (lexeme_of text) o ≡ Some t → b ≡ t.inside_heredoc
 inside_of_entry text None b is t at = absurd (cc)
 inside_of_entry text (Some e) b is t at = let same = is e refl in cc
