@@ -117,21 +117,25 @@ IsUnflushed w = w.flushes_after ≡ w.flushes_before
 abbrev pub error_output : Program → Bool → Row → List ℕ
 error_output program out_failed row = if out_failed then write_failed program else row.err
 
+-- The flushes of a run that shows the row, with this message on standard error: one of standard output, after its text,
+-- and none of standard error.
+pub record IsFlushed (row : Row) (message : List ℕ) (end : End) : Type 0 where
+  pub flush : end.out.failed ≡ false → 0 < length row.out
+      → (end.out.flushed ≡ true) × IsFlushedOnce end.out
+  pub no_output : length row.out ≡ 0 → IsUnflushed end.out
+  pub unflushed : end.err.failed ≡ false → 0 < length message → end.err.flushed ≡ false
+  pub no_flush : IsUnflushed end.err
+
 -- How a run ends that shows the row: each writer took its text, and standard error took the message of the failed write
--- if standard output failed; the status is that of a failure if a writer failed. Standard output is flushed once, after
--- its text; standard error isn't flushed. A writer without a text is not called, so it can't fail.
+-- if standard output failed; the status is that of a failure if a writer failed. A writer without a text is not called,
+-- so it can't fail.
 pub record Shows (program : Program) (row : Row) (end : End) : Type 0 where
   pub output : Took end.out row.out
   pub message : Took end.err (error_output program end.out.failed row)
   pub exit : end.status ≡ (if end.out.failed || end.err.failed then program.failure else row.status)
-  pub flush : end.out.failed ≡ false → 0 < length row.out → end.out.flushed ≡ true
-  pub once : end.out.failed ≡ false → 0 < length row.out → IsFlushedOnce end.out
-  pub unflushed : end.err.failed ≡ false → 0 < length (error_output program end.out.failed row)
-      → end.err.flushed ≡ false
-  pub no_flush : IsUnflushed end.err
   pub no_output : length row.out ≡ 0 → end.out.failed ≡ false
-  pub no_output_flush : length row.out ≡ 0 → IsUnflushed end.out
   pub no_message : length (error_output program end.out.failed row) ≡ 0 → end.err.failed ≡ false
+  pub flushes : IsFlushed row (error_output program end.out.failed row) end
 
 -- a run shows a row that has the property
 abbrev pub ShowsOne : Program → (Row → Type 0) → End → Type 0

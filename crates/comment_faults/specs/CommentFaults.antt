@@ -28,8 +28,11 @@ is_some_text (b ∷ bs) = true
 abbrev pub fault_of : File → Numbered → List CommentFault
 fault_of file t =
     if is LineComment t.kind && is_some_text (fault_text t.text)
-    then record { file = file.number; at = (place_in file t.number).at;
-    text = utf8_lossy (fault_text t.text) } ∷ []
+    then record {
+      file = file.number;
+      at = (place_in file t.number).at;
+      text = utf8_lossy (fault_text t.text);
+    } ∷ []
     else []
 
 -- THOSE of a file, in order

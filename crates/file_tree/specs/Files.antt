@@ -36,14 +36,22 @@ pub record Files : Type 0 where
 -- a device that tells nothing, as the system's does
 abbrev pub silent : Files
 silent =
-    record { kind = λ name. None; entry = λ name. None; listing = λ name. None; real = λ name. name;
-    told = λ name. None; path = λ name. None }
+    record {
+      kind = λ name. None;
+      entry = λ name. None;
+      listing = λ name. None;
+      real = λ name. name;
+      told = λ name. None;
+      path = λ name. None;
+    }
 
 -- the files with these bytes for the one of this real name, if the device tells its bytes
 abbrev pub put : Files → Name → List ℕ → Files
 put files name bytes =
-    record files { told = λ other. if bytes_eq other name
-    then option_map (λ _. bytes) (files.told other) else files.told other }
+    record files {
+      told = λ other. if bytes_eq other name
+          then option_map (λ _. bytes) (files.told other) else files.told other;
+    }
 
 -- the faults of the device's calls so far, if it tells them
 abbrev pub Faults : Type 0

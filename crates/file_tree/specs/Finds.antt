@@ -88,16 +88,16 @@ Accounts told folder (part ∷ parts) last =
 -- THE FILES THAT PATHS STAND FOR, by what the device tells: their names in order, each once, nothing else, and none
 -- passed over unless it is excluded. A named file is in the answer whatever its name
 pub record Finds (files : Files) (chosen : Chosen) (paths : List Name) (found : List Found) : Type 0
-    where
-  pub rises : Rises found
-  pub real : (f : Found) → Contains found f → IsOf files chosen paths f
-  pub given : (path : Name) → Contains paths path → IsNamed surely files chosen path
-      → IsFound found (tidied path) ⊎ HasName found (report_name path)
-  pub other : (path : Name) → Contains paths path → IsOther surely files chosen path
-      → HasName found (tidied path) ⊎ HasName found (report_name path)
-  pub below : (path : Name) (parts : List Name) (last : Name) → Contains paths path
-      → IsBelow surely files chosen path parts last
-      → HasName found (report_name path) ⊎ Accounts (HasName found) (top path) parts last
+  where
+    pub rises : Rises found
+    pub real : (f : Found) → Contains found f → IsOf files chosen paths f
+    pub given : (path : Name) → Contains paths path → IsNamed surely files chosen path
+        → IsFound found (tidied path) ⊎ HasName found (report_name path)
+    pub other : (path : Name) → Contains paths path → IsOther surely files chosen path
+        → HasName found (tidied path) ⊎ HasName found (report_name path)
+    pub below : (path : Name) (parts : List Name) (last : Name) → Contains paths path
+        → IsBelow surely files chosen path parts last
+        → HasName found (report_name path) ⊎ Accounts (HasName found) (top path) parts last
 
 -- ---- reported only after a failed call, or for its name
 

@@ -58,10 +58,10 @@ abbrev pub would_join : Option Lexeme → Lexeme → Lexeme → Bool
 would_join before subject after =
     (is kind.Dot subject.kind && (is kind.Dot after.kind || is kind.Ellipsis after.kind))
     || (is kind.Number subject.kind && not (follows_kind (is kind.Dot) before)
-        && is kind.Dot after.kind)
+    && is kind.Dot after.kind)
     || (is kind.Not subject.kind && begins_with_equals after.text)
     || (opens_sequence subject.kind && is kind.SeqClose after.kind
-        && bytes_eq after.text (codes "~}"))
+    && bytes_eq after.text (codes "~}"))
     || (is kind.Colon subject.kind && begins_with_colon after.text)
 
 -- the word `in`, after the last name that a `for` declares
@@ -88,7 +88,7 @@ has_blank before subject after =
     else if is kind.Comma subject.kind then true
     -- "Quotes": a blank there would be text
     else if is kind.QuoteOpen subject.kind || is kind.Lit subject.kind || is kind.Lit after.kind
-        || is kind.QuoteClose after.kind then false
+    || is kind.QuoteClose after.kind then false
     -- "`in`" is a word of its own, also before a bracket
     else if is_in before subject then true
     -- "Indexes": a bracket hugs the indexed value
@@ -101,12 +101,12 @@ has_blank before subject after =
     else if is kind.BraceOpen subject.kind && is kind.BraceClose after.kind then false
     else if is kind.BraceOpen subject.kind || is kind.BraceClose after.kind then true
     else if (opens_sequence subject.kind && is kind.BraceOpen after.kind)
-        || (is kind.BraceClose subject.kind && is kind.SeqClose after.kind) then true
+    || (is kind.BraceClose subject.kind && is kind.SeqClose after.kind) then true
     -- "Quotes": a blank between a sequence and the next would be text
     else if is kind.SeqClose subject.kind && opens_sequence after.kind then false
     -- "Brackets, parentheses" and sequences hug their contents
     else if is kind.ParenOpen subject.kind || is kind.BracketOpen subject.kind
-        || opens_sequence subject.kind then false
+    || opens_sequence subject.kind then false
     -- "All else" has one blank, except inside a closer
     else not (closes_group after.kind)
 

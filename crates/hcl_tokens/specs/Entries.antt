@@ -8,8 +8,12 @@ use Rattle.hcl_tokens.specs.declared.token.TokenEntry.{TokenEntry}
 -- the token that an entry stands for
 abbrev pub lexeme_of : List ℕ → TokenEntry → Lexeme
 lexeme_of text e =
-    record { kind = e.kind; text = slice_range text e.start e.end; start = e.start;
-    inside_heredoc = e.inside_heredoc }
+    record {
+      kind = e.kind;
+      text = slice_range text e.start e.end;
+      start = e.start;
+      inside_heredoc = e.inside_heredoc;
+    }
 
 abbrev pub lexemes_of : List ℕ → List TokenEntry → List Lexeme
 lexemes_of text es = map (lexeme_of text) es

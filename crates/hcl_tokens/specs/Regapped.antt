@@ -21,8 +21,12 @@ text_with_gaps (p ∷ ps) = replicate p.0 32 ++ (p.1.text ++ text_with_gaps ps)
 abbrev pub placed_tokens : ℕ → List (ℕ × Lexeme) → List Lexeme
 placed_tokens at [] = []
 placed_tokens at (p ∷ ps) =
-    record { kind = p.1.kind; text = p.1.text; start = at + p.0;
-    inside_heredoc = p.1.inside_heredoc } ∷ placed_tokens (at + p.0 + length p.1.text) ps
+    record {
+      kind = p.1.kind;
+      text = p.1.text;
+      start = at + p.0;
+      inside_heredoc = p.1.inside_heredoc;
+    } ∷ placed_tokens (at + p.0 + length p.1.text) ps
 
 -- a token of templates: blanks before it would be literal text
 abbrev pub is_template : Kind → Bool

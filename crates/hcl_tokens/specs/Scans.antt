@@ -96,8 +96,10 @@ HasNone opens after_dot seen =
 -- the text that is hidden from a marker line on
 abbrev pub hides : List ℕ → List ℕ → Hidden
 hides marker line =
-    record { closer = take (closer_len marker line) line;
-    after = drop (closer_len marker line) line }
+    record {
+      closer = take (closer_len marker line) line;
+      after = drop (closer_len marker line) line;
+    }
 
 -- the visible and the hidden text after a token, where `rest` is the visible text that followed it
 abbrev pub Leaves : Kind → List ℕ → List ℕ → List Hidden → List ℕ → List Hidden → Type 0
@@ -131,8 +133,14 @@ pub record Closes (s : State) (t : Lexeme) (next : State) : Type 0 where
   pub start : t.start ≡ s.at
   pub inside : t.inside_heredoc ≡ true
   pub next_is : next
-      ≡ record { at = s.at + length t.text; opens = below; offsets = drop 1 s.offsets;
-      after_dot = false; seen = rest; hidden = above }
+      ≡ record {
+        at = s.at + length t.text;
+        opens = below;
+        offsets = drop 1 s.offsets;
+        after_dot = false;
+        seen = rest;
+        hidden = above;
+      }
 
 -- one token leads from a state to the next
 abbrev pub Next : State → Lexeme → State → Type 0

@@ -161,8 +161,10 @@ pub record LintsModules (terminals : Terminals) (job : Job) (modules : List Modu
   pub config : Configured
   pub looked : Faults  -- the faults of calls before the first module is linted
   pub configures : Configures files job.given.said job.given.reads modules was looked config
-  pub runs : RunsThen files (record { form = job.form;
-      terminals = terminals }) job.quiet config faults looked is end
+  pub runs : RunsThen files (record {
+    form = job.form;
+    terminals = terminals;
+  }) job.quiet config faults looked is end
 
 -- THE MODULES ARE LINTED that these paths stand for, by a device with these faults before and after
 pub record Lints (terminals : Terminals) (job : Job) (paths : List Name) (files : Files)

@@ -77,8 +77,16 @@ given_by (Err usage) naming minimum force checks reads = Err usage
 given_by (Ok rules) (Err usage) minimum force checks reads = Err usage
 given_by (Ok rules) (Ok naming) (Err usage) force checks reads = Err usage
 given_by (Ok rules) (Ok naming) (Ok minimum) force checks reads =
-    Ok (record { said = record { rules = rules; naming = naming; minimum = minimum; force = force;
-    checks = checks }; reads = reads })
+    Ok (record {
+      said = record {
+        rules = rules;
+        naming = naming;
+        minimum = minimum;
+        force = force;
+        checks = checks;
+      };
+      reads = reads;
+    })
 
 abbrev pub given_of_rows : List Row → Result Given Usage
 given_of_rows rows =
@@ -121,8 +129,11 @@ request_by (Ok given) quiet (Some shard) None are_jobs is_good null names = Err 
 request_by (Ok given) quiet (Some shard) (Some form) false is_good null names = Err BadJobs
 request_by (Ok given) quiet (Some shard) (Some form) true false null names = Err NamesTwice
 request_by (Ok given) quiet (Some shard) (Some form) true true null names =
-    Ok (record { job = record { given = given; quiet = quiet; shard = shard; form = form };
-    null = null; names = names })
+    Ok (record {
+      job = record { given = given; quiet = quiet; shard = shard; form = form };
+      null = null;
+      names = names;
+    })
 
 abbrev pub request_with : List Row → List Name → Result Request Usage
 request_with rows names =

@@ -6,5 +6,8 @@ use Rattle.lint_config.specs.declared.text.Config.{Config}
 
 abbrev pub read_of : Config → Read
 read_of c =
-    record { said = options_of c.said; lines = c.lines;
-    faults = map (λ bad. (bad.line, string_bytes bad.text)) c.faults.items }
+    record {
+      said = options_of c.said;
+      lines = c.lines;
+      faults = map (λ bad. (bad.line, string_bytes bad.text)) c.faults.items;
+    }

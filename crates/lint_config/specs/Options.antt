@@ -7,8 +7,13 @@ use Rattle.lint_config.specs.declared.said.Said.{Said}
 
 abbrev pub options_of : Said → Options
 options_of s =
-    record { rules = option_map rules_of s.rules; naming = s.naming; minimum = s.minimum;
-    force = s.force; checks = s.checks }
+    record {
+      rules = option_map rules_of s.rules;
+      naming = s.naming;
+      minimum = s.minimum;
+      force = s.force;
+      checks = s.checks;
+    }
 
 abbrev pub said_by : Result Said ConfigFault → Result Options ConfigFault
 said_by (Ok s) = Ok (options_of s)

@@ -14,8 +14,11 @@ pub record Read : Type 0 where
 abbrev pub read_by : Read → List ℕ → Result Options ConfigFault → Read
 read_by r line (Ok said) = record { said = said; lines = r.lines + 1; faults = r.faults }
 read_by r line (Err fault) =
-    record { said = r.said; lines = r.lines + 1;
-    faults = r.faults ++ (r.lines + 1, fault_words fault line) ∷ [] }
+    record {
+      said = r.said;
+      lines = r.lines + 1;
+      faults = r.faults ++ (r.lines + 1, fault_words fault line) ∷ [];
+    }
 
 abbrev pub read_line : Read → List ℕ → Read
 read_line r line = read_by r line (with_line r.said line)
@@ -23,5 +26,8 @@ read_line r line = read_by r line (with_line r.said line)
 -- THE CONTENTS OF A TEXT, and the message about each wrong line, which adds nothing
 abbrev pub read_text : List ℕ → Read
 read_text text =
-    fold read_line (record { said = nothing; lines = 0;
-    faults = [] }) (slice_split (λ b. b == 10) text)
+    fold read_line (record {
+      said = nothing;
+      lines = 0;
+      faults = [];
+    }) (slice_split (λ b. b == 10) text)

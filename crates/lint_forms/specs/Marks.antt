@@ -25,8 +25,10 @@ pub record Entry : Type 0 where
 -- a remark after others
 abbrev pub entry_after : List Remark → Remark → Entry
 entry_after before r =
-    record { said = r;
-    mark = mark (digits r) (count_by (λ q. bytes_eq (digits r) (digits q)) before + 1) }
+    record {
+      said = r;
+      mark = mark (digits r) (count_by (λ q. bytes_eq (digits r) (digits q)) before + 1);
+    }
 
 abbrev pub entries_after : List Remark → List Remark → List Entry
 entries_after before [] = []

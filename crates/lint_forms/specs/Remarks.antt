@@ -15,5 +15,10 @@ pub record Remark : Type 0 where
 -- a remark in the code's terms
 abbrev pub said_by : code.Remark → Remark
 said_by r =
-    record { file = r.file.now; line = r.line; column = r.column; subject = r.subject;
-    text = r.text.now }
+    record {
+      file = r.file.now;
+      line = r.line;
+      column = r.column;
+      subject = r.subject;
+      text = r.text.now;
+    }

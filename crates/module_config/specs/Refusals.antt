@@ -20,8 +20,12 @@ line_number line = min line 4294967295
 
 abbrev pub line_refusal : Name → BadLine → Refusal
 line_refusal name bad =
-    record { name = name; at = Some (record { line = line_number bad.line; column = 1 });
-    text = string_bytes bad.text; snippet = [] }
+    record {
+      name = name;
+      at = Some (record { line = line_number bad.line; column = 1 });
+      text = string_bytes bad.text;
+      snippet = [];
+    }
 
 abbrev pub text_refusals : Name → ConfigText → List Refusal
 text_refusals name (Says config) = map (line_refusal name) config.faults.items

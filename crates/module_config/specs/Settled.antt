@@ -31,8 +31,12 @@ pub record Wanted : Type 0 where
 
 abbrev pub wanted_of : Policy → Wanted
 wanted_of policy =
-    record { asked = asked_of policy.settings; minimum = policy.minimum; force = policy.force;
-    checks = policy.checks }
+    record {
+      asked = asked_of policy.settings;
+      minimum = policy.minimum;
+      force = policy.force;
+      checks = policy.checks;
+    }
 
 abbrev pub first_said : {A : Type 0} → Option A → Option A → A → A
 first_said (Some line) own default = line
@@ -44,8 +48,10 @@ default_rules = filter is_recommended all_rules
 abbrev pub policy_of : Options → Options → Wanted
 policy_of line own = record {
   asked =
-      record { rules = first_said line.rules own.rules default_rules;
-      naming = first_said line.naming own.naming SnakeCase };
+      record {
+        rules = first_said line.rules own.rules default_rules;
+        naming = first_said line.naming own.naming SnakeCase;
+      };
   minimum = first_said line.minimum own.minimum Notice;
   force = line.force || own.force;
   checks = line.checks || own.checks;

@@ -27,8 +27,12 @@ bad_line name bad = error tree_linter (quoted name ++ line_words bad)
 abbrev pub text_lines : Name → ConfigText → List ℕ
 text_lines name (Says config) = flat_map (bad_line name) config.faults.items
 text_lines name (Refused fault) =
-    refusal_line (record { name = name; at = Some fault.at; text = fault_text fault.kind;
-    snippet = [] })
+    refusal_line (record {
+      name = name;
+      at = Some fault.at;
+      text = fault_text fault.kind;
+      snippet = [];
+    })
 text_lines name (Unread fault) = refusal_line (refusal_of name (tree_fault_text fault))
 
 abbrev pub config_lines : Start → ConfigFile → List ℕ

@@ -135,11 +135,11 @@ told_in f = lost_in (judged f)
 
 -- the module of a folder with these entries: its files, and whether it is whole; and the reports for the folder
 pub record IsModuleOf (name : Name) (found : List Found) (m : Module) (told : List Found) : Type 0
-    where
-  pub folder : m.folder.items ≡ name
-  pub files : map string_bytes m.files.items ≡ flat_map file_in found
-  pub whole : m.is_whole ≡ list_all is_sound found
-  pub lost : map told_as told ≡ map told_as (flat_map told_in found)
+  where
+    pub folder : m.folder.items ≡ name
+    pub files : map string_bytes m.files.items ≡ flat_map file_in found
+    pub whole : m.is_whole ≡ list_all is_sound found
+    pub lost : map told_as told ≡ map told_as (flat_map told_in found)
 
 -- the entries of a folder: it was listed before, or it is now, and then the device has these faults before and after
 abbrev pub StandsIn : Files → List ListedFolder → Name → List Found → Faults → Faults → Type 0

@@ -23,8 +23,11 @@ if_telling c = if c.slashes || is_any c.silences then c ∷ [] else []
 abbrev pub comment_of : Numbered → List (Comment ℕ)
 comment_of t =
     if is kind.LineComment t.kind
-    then if_telling (record { at = t.number; slashes = has_slashes t.text;
-    silences = silenced_rules t.text })
+    then if_telling (record {
+      at = t.number;
+      slashes = has_slashes t.text;
+      silences = silenced_rules t.text;
+    })
     else []
 
 -- THE COMMENTS of numbered tokens, in order

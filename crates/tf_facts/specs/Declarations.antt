@@ -141,8 +141,15 @@ by_declarer ts token names attributes (Some d) =
 
 abbrev pub of_local : Attribute → Declaration ℕ
 of_local a =
-    record { kind = declares.Local; names = a.name ∷ []; at = a.token; described = false;
-    typed = false; versioned = false; source = None }
+    record {
+      kind = declares.Local;
+      names = a.name ∷ [];
+      at = a.token;
+      described = false;
+      typed = false;
+      versioned = false;
+      source = None;
+    }
 
 abbrev pub is_empty : List (List ℕ) → Bool
 is_empty [] = true

@@ -15,5 +15,9 @@ pub record Facts (P : Type 0) : Type 0 where
 -- THE FACTS of numbered tokens, by their numbers
 abbrev pub facts_of : List Numbered → Facts ℕ
 facts_of ts =
-    record { comments = comments ts; indexes = legacy_indexes ts;
-    interpolations = wrapped_interpolations ts; declarations = declarations ts }
+    record {
+      comments = comments ts;
+      indexes = legacy_indexes ts;
+      interpolations = wrapped_interpolations ts;
+      declarations = declarations ts;
+    }

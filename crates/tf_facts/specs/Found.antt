@@ -49,5 +49,9 @@ comment c = record { at = c.at; slashes = c.has_slashes; silences = rules_of c.s
 -- THE FACTS that were found
 abbrev pub facts : FileFacts → Facts ℕ
 facts f =
-    record { comments = map comment f.comments.items; indexes = f.indexes.items;
-    interpolations = f.interpolations.items; declarations = map declaration f.declarations.items }
+    record {
+      comments = map comment f.comments.items;
+      indexes = f.indexes.items;
+      interpolations = f.interpolations.items;
+      declarations = map declaration f.declarations.items;
+    }

@@ -13,11 +13,11 @@ use file_tree::walk::Found;
 use hcl_scan::ByteSink;
 use std::alloc::Global;
 use tree_format::laws::{a_run, failures_are_real, format_or_fault};
-use tree_format::visit::visit;
 use tree_format::mode::Mode;
 use tree_format::outcome::Outcome;
 use tree_format::progress::Progress;
 use tree_format::run::run_over;
+use tree_format::visit::visit;
 
 /// An observer that does nothing.
 #[derive(Drop)]

@@ -76,8 +76,13 @@ pub record AsksFor (writing : Writing) (given : Name) (told : Option (List ℕ))
   pub is : IsFormat bytes formatted
   pub changed : formatted ≢ bytes
   pub asked : after
-      ≡ with_asked before (record { name = given; old = bytes; new = formatted; writing = writing;
-      answer = answer })
+      ≡ with_asked before (record {
+        name = given;
+        old = bytes;
+        new = formatted;
+        writing = writing;
+        answer = answer;
+      })
 
 -- if files are to be written, that replacement was asked for, and otherwise none
 abbrev pub AsksIn : Mode → Name → Option (List ℕ) → Asked → Asked → Result Replaced TreeFault

@@ -20,14 +20,24 @@ column_told (Some at) = at.column
 -- A REFUSAL AS A REMARK: forms are UTF-8, and so is the name in a remark
 abbrev pub refusal_remark : Refusal → Remark
 refusal_remark r =
-    record { file = utf8_lossy r.name; line = line_told r.at; column = column_told r.at;
-    subject = subject.Refusal; text = r.text }
+    record {
+      file = utf8_lossy r.name;
+      line = line_told r.at;
+      column = column_told r.at;
+      subject = subject.Refusal;
+      text = r.text;
+    }
 
 -- a kept refusal as a remark
 abbrev pub kept_remark : KeptRefusal → Remark
 kept_remark k =
-    record { file = string_bytes k.name; line = k.line; column = k.column;
-    subject = subject.Refusal; text = string_bytes k.text }
+    record {
+      file = string_bytes k.name;
+      line = k.line;
+      column = k.column;
+      subject = subject.Refusal;
+      text = string_bytes k.text;
+    }
 
 -- these refusals are kept, and no others, unless one is missing
 abbrev pub HoldsAll : KeptRefusals → List Refusal → Type 0

@@ -49,13 +49,23 @@ module_report shows m linted = report_of shows (map quoted (names_in m)) linted
 -- an issue in the file of its number, as a remark
 abbrev pub issue_remark : List Name → Issue → Remark
 issue_remark names i =
-    record { file = get_or names i.file []; line = i.at.line; column = i.at.column;
-    subject = subject.Rule i.rule; text = i.message }
+    record {
+      file = get_or names i.file [];
+      line = i.at.line;
+      column = i.at.column;
+      subject = subject.Rule i.rule;
+      text = i.message;
+    }
 
 abbrev pub comment_remark : List Name → CommentFault → Remark
 comment_remark names f =
-    record { file = get_or names f.file []; line = f.at.line; column = f.at.column;
-    subject = subject.Comment; text = f.text }
+    record {
+      file = get_or names f.file [];
+      line = f.at.line;
+      column = f.at.column;
+      subject = subject.Comment;
+      text = f.text;
+    }
 
 abbrev pub remarks_by : List Name → Linted → List Remark
 remarks_by names linted =
@@ -78,8 +88,12 @@ has_output (Some form) linted = is_some linted.issues || is_some linted.comments
 -- its text if that is shown
 abbrev pub comment_line : Bool → List Name → List (List ℕ) → CommentFault → List ℕ
 comment_line shows names texts f =
-    refusal_line (record { name = get_or names f.file []; at = Some f.at; text = f.text;
-    snippet = snippet_if shows (get_or texts f.file []) f.at })
+    refusal_line (record {
+      name = get_or names f.file [];
+      at = Some f.at;
+      text = f.text;
+      snippet = snippet_if shows (get_or texts f.file []) f.at;
+    })
 
 -- the text for standard output
 abbrev pub verdict_output : Manner → Bool → Module → Verdict → List ℕ
@@ -106,8 +120,12 @@ refusals_of (Err refusals) = refusals
 -- the part of a policy that decides whether an issue fails the run
 abbrev pub failing_under : Policy → Request
 failing_under policy =
-    record { asked = asked_of policy.settings; minimum = policy.minimum; force = policy.force;
-    files = [] }
+    record {
+      asked = asked_of policy.settings;
+      minimum = policy.minimum;
+      force = policy.force;
+      files = [];
+    }
 
 -- the status of `tfrules`; a comment that silences nothing fails the run too, whatever the minimum severity for issues
 abbrev pub verdict_status : Policy → Verdict → ℕ

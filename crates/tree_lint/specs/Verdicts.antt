@@ -89,14 +89,14 @@ StopsBy shows told size was is (stop.Failed fault) =
 -- all files before this one are accepted, and this one isn't kept
 pub record StopsAt (shows : Bool) (told : Name
     → Option (List ℕ)) (names : List Name) (was is : Faults) (name : Name) (why : Stop) : Type 0
-    where
-  pub before : List NamedFile
-  pub after : List Name
-  pub split : names ≡ names_of before ++ name ∷ after
-  pub are : AreFiles told before
-  pub sources : List Scanned
-  pub accepted : AreAccepted before sources
-  pub by : StopsBy shows (told name) (size_of before) was is why
+  where
+    pub before : List NamedFile
+    pub after : List Name
+    pub split : names ≡ names_of before ++ name ∷ after
+    pub are : AreFiles told before
+    pub sources : List Scanned
+    pub accepted : AreAccepted before sources
+    pub by : StopsBy shows (told name) (size_of before) was is why
 
 -- the refusal for that file
 abbrev pub stop_refusal : Name → Stop → Refusal

@@ -21,8 +21,11 @@ count_rule name = record (new_rule name) { long = Some name; action = Some Count
 -- `-0` and `--null`
 abbrev pub null_rule : Rule
 null_rule =
-    record (new_rule (codes "null")) { long = Some (codes "null"); short = Some 48;
-    action = Some Count }
+    record (new_rule (codes "null")) {
+      long = Some (codes "null");
+      short = Some 48;
+      action = Some Count;
+    }
 
 abbrev pub file_rule : Rule
 file_rule = record (new_rule (codes "file")) { action = Some Append }
@@ -74,8 +77,11 @@ shard_given (Some text) = option_map Some (shard_in text)
 -- `-j NUMBER` and `--jobs NUMBER`, which may be given more than once
 abbrev pub jobs_rule : Rule
 jobs_rule =
-    record (new_rule (codes "jobs")) { long = Some (codes "jobs"); short = Some 106;
-    action = Some Append }
+    record (new_rule (codes "jobs")) {
+      long = Some (codes "jobs");
+      short = Some 106;
+      action = Some Append;
+    }
 
 abbrev pub max_jobs : ℕ
 max_jobs = 9999
