@@ -1,4 +1,4 @@
--- What is kept of the files of a module: places, names and flags, and no source. The issues are a function of it.
+-- The stored facts of a module's files: places, names and flags, and no source. The issues are a function of them.
 use Rattle.std.specs.Prelude.{ℕ, ◌++◌, List, [], Option, option_map, map, fold}
 use Rattle.std.specs.Str.{bytes_eq}
 use Rattle.indexmap.specs.IndexSet.{insert_all}
@@ -11,7 +11,7 @@ use Rattle.rule_set.specs.declared.rule.Rule.{Rule}
 
 pub record Kept : Type 0 where
   pub facts : Facts Place
-  pub references : List (List ℕ)  -- each once
+  pub references : List (List ℕ)  -- each reference once
 
 -- ---- facts at other places
 
@@ -32,7 +32,7 @@ declaration_at f d = record {
 abbrev pub facts_at : {P Q : Type 0} → (P → Q) → Facts P → Facts Q
 facts_at f k = record { comments = map (comment_at f) k.comments; indexes = map f k.indexes; interpolations = map f k.interpolations; declarations = map (declaration_at f) k.declarations }
 
--- ---- of one file, and of more
+-- ---- one file, and several
 
 abbrev pub nothing : Kept
 nothing = record { facts = record { comments = []; indexes = []; interpolations = []; declarations = [] }; references = [] }
@@ -40,18 +40,18 @@ nothing = record { facts = record { comments = []; indexes = []; interpolations 
 abbrev pub both : {P : Type 0} → Facts P → Facts P → Facts P
 both a b = record { comments = a.comments ++ b.comments; indexes = a.indexes ++ b.indexes; interpolations = a.interpolations ++ b.interpolations; declarations = a.declarations ++ b.declarations }
 
--- with one file more
+-- the stored facts with those of one more file
 abbrev pub with_file : Kept → File → Kept
 with_file kept file = record {
   facts = both kept.facts (facts_at (place_in file) (facts_of (tokens_of file)));
   references = insert_all bytes_eq kept.references (references (tokens_of file));
 }
 
--- WHAT IS KEPT of these files
+-- THE STORED FACTS of these files
 abbrev pub kept_of : List File → Kept
 kept_of files = fold with_file nothing files
 
--- ---- what is reported
+-- ---- issues
 
 abbrev pub issue_at : Rule → Finding Place → Issue
 issue_at rule f = record { place = f.at; rule = rule; message = f.message }

@@ -1,13 +1,13 @@
-//! The text of what a rule says, by its pieces.
+//! The text of a rule's message, in parts.
 
-/// The pieces of a message, one after another. Each stands where it was kept, so that whoever writes the message puts no
-/// text together.
+/// The parts of a message, one after another. Each is a text where it is stored, so that a writer of the message builds
+/// no text.
 #[derive(Clone, Copy)]
 pub enum MessageParts<'f> {
     /// A text of the rule's own.
     Whole(&'f str),
-    /// What stands before a name, the name, and what follows.
+    /// The text before a name, the name, and the text after it.
     Named(&'f str, &'f str, &'f str),
-    /// The same of two names: what stands before the first, between them and after the second.
+    /// The text before a name, the name, the text before another name, that name, and the text after it.
     NamedTwice(&'f str, &'f str, &'f str, &'f str, &'f str),
 }

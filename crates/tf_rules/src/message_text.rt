@@ -1,4 +1,4 @@
-//! Messages put together from their pieces.
+//! Messages as texts, from their parts.
 
 ghost use Rattle.std.specs.Prelude.{◌≡◌, ◌++◌, map, IfOk};
 ghost use Rattle.std.specs.List.{concat};
@@ -56,7 +56,7 @@ fn join_five<'p>(
     joined(alloc, &[front, name, between, other, rest])
 }
 
-/// The text of these pieces.
+/// The text of these parts.
 pub fn message_text(alloc: Global, message_parts: MessageParts<'_>) -> Result<String, AllocError>
     ensures { IfOk result (λ text. string_bytes text ≡ text_of_parts message_parts.entry) }
 {
