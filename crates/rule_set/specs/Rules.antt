@@ -30,7 +30,7 @@ severity _ = Warning
 abbrev pub all_rules : List Rule
 all_rules = CommentSyntax ∷ DeprecatedIndex ∷ DeprecatedInterpolation ∷ DocumentedOutputs ∷ DocumentedVariables ∷ ModulePinnedSource ∷ ModuleVersion ∷ NamingConvention ∷ TypedVariables ∷ UnusedDeclarations ∷ []
 
--- the same rule, since no two have one name
+-- both are one rule, since no two have one name
 abbrev pub is_rule : Rule → Rule → Bool
 is_rule a b = bytes_eq (rule_name a) (rule_name b)
 
