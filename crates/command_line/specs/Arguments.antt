@@ -14,7 +14,7 @@ option_rule name = record (new_rule name) { long = Some name; action = Some Set 
 abbrev pub flag_rule : Text → Rule
 flag_rule name = record (new_rule name) { long = Some name; action = Some SetTrue }
 
--- the usage for a fault: running out of memory, a request for help, or a line that the program doesn't have
+-- the usage for a fault: running out of memory, a request for help, or a wrong line
 abbrev pub usage_by : {U : Type 0} → U → U → U → ErrorKind → U
 usage_by memory help line kind.OutOfMemory = memory
 usage_by memory help line kind.DisplayHelp = help

@@ -13,7 +13,7 @@ use hcl_source::ByteSource;
 /// How files are replaced.
 #[derive(Clone, Copy, Debug, PartialEq, Eq)]
 pub struct Writing {
-    /// A file beside which none can be made is overwritten, and may end half written.
+    /// A file is overwritten if no new one can be made beside it, and may end half written.
     pub in_place: bool,
     /// Each new file and its folder are on the disk before the next one is looked at.
     pub sync: bool,

@@ -129,7 +129,7 @@ drops_top : (stack : List Opened) → tops_with (same_opener Heredoc) (openers_o
 drops_top [] h = drops_none []
 drops_top (o ∷ stack) h = drops_one o stack stack h (drops_none stack)
 
--- the same operation on the open constructs
+-- the open constructs change by the same operation
 groups_are_if : (o : Opened) (stack : List Opened) (v : Bool) → openers_of (popped_groups stack) ≡ below_groups (openers_of stack) → openers_of (if v then popped_groups stack else o ∷ stack) ≡ (if v then below_groups (openers_of stack) else opener_of o.by ∷ openers_of stack)
 groups_are_if o stack true e = e
 groups_are_if o stack false e = refl

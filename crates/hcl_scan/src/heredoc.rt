@@ -162,8 +162,8 @@ fn is_ruled_out(text: &[u8], marker: &[u8], place: usize) -> bool
     are_told_apart(&text[place..place + marker.len()], marker)
 }
 
-/// The likely places from the first on at which the marker isn't ruled out. This is a call, since so many loops in one
-/// function take each other's registers; it calls nothing.
+/// The likely places from the first on at which the marker isn't ruled out. This is a call, since more loops in one
+/// function would take each other's registers; it calls nothing.
 #[cold]
 #[inline(never)]
 fn from_first_in_doubt(text: &[u8], marker: &[u8], at: usize, likely: u64) -> u64

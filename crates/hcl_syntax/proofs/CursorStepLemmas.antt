@@ -197,7 +197,7 @@ pub alike : {A : Type 0} {a : A} {count : ℕ} {s s' : Symbol} {m : Newlines} {o
     ((t : Lookahead) → Some t ≡ first mid → row s m t ≡ row s' m t) → mid ≡ shown m old → Advances count (s at m ∷ []) old (Ok a) (s' at m ∷ []) mid
 alike {count = count} {s = s} {s' = s'} {m = m} {old = old} {mid = mid} e f shows = record { same = λ after. alike-at count s s' m after old mid e f shows }
 
--- A read terminal. Only rows of templates go by the number of a token, so the others are named at 0.
+-- A read terminal. Only rows of templates depend on the number of a token, so the others are named at 0.
 pub args-end : (m : Newlines) (k : Class) → fits EndParen k ≡ true → row_of args m 0 k ≡ reads []
 args-end m ParenClose h = refl
 args-end m _ h = cc

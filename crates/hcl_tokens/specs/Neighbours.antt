@@ -1,5 +1,5 @@
--- Neighbours: which tokens may follow a token without a blank. A scan takes the longest text at a place, so a token is
--- read differently only if the text after it extends it.
+-- Neighbours: which texts may follow a token without a blank and leave it as it is. A scan takes the longest text at a
+-- place, so a token is read differently only if the text after it extends it.
 -- The marks are those of the HCL Native Syntax Specification. The law `neighbours` of `hcl_scan` proves that the table
 -- has every pair of them.
 use Rattle.std.specs.Prelude.{ℕ, ◌==◌, ◌||◌, ◌&&◌, not, Bool, true, false, List, [], ◌∷◌, nat_le, get_or, codes}

@@ -45,7 +45,7 @@ pub(crate) fn tree_linter() -> Program
     )
 }
 
-/// Shows the wrong word of a line that this program doesn't have, and the usage.
+/// Shows the wrong word of a wrong line, and the usage.
 fn bad_line<O: ByteSink, E: ByteSink>(
     alloc: Global,
     words: &[&str],

@@ -33,7 +33,7 @@ all_rules =
     ∷ DocumentedVariables ∷ ModulePinnedSource ∷ ModuleVersion ∷ NamingConvention ∷ TypedVariables
     ∷ UnusedDeclarations ∷ []
 
--- the same rule, since no two have one name
+-- both are one rule, since no two have one name
 abbrev pub is_rule : Rule → Rule → Bool
 is_rule a b = bytes_eq (rule_name a) (rule_name b)
 

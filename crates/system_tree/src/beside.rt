@@ -1,4 +1,4 @@
-//! The new file beside the old one, until it replaces that.
+//! The new file beside the old one, until it replaces the old one.
 //!
 //! A run locks the file that it makes at once, and holds the lock until the file is renamed or removed. A file that an
 //! earlier run left is removed only by a run that has its lock, and only while its name still leads to it. So no other

@@ -149,7 +149,7 @@ fn put(
     })
 }
 
-/// Makes a file beside the old one, and replaces that by it. If it can't, it removes the new file.
+/// Makes a file beside the old one, and replaces the old one by it. If this fails, the new file is removed.
 fn replace_by_new(
     rt: &HostRuntime,
     folder: &Folder,

@@ -11,7 +11,7 @@ abbrev pub is_index : List Numbered → Bool
 is_index (d ∷ n ∷ rest) = is kind.Dot d.kind && is kind.Number n.kind
 is_index _ = false
 
--- the tokens after the closer of the innermost opener, if `depth` more openers are open
+-- the tokens after the closer of an open opener, if `depth` more openers are open inside it
 abbrev pub after_closer : ℕ → List Numbered → List Numbered
 after_closer depth [] = []
 after_closer depth (t ∷ ts) =

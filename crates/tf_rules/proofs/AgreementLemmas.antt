@@ -1,4 +1,4 @@
--- Files with the same tokens on the same lines have the same issues, columns aside.
+-- Files with the same tokens on the same lines have the same issues, apart from columns.
 use Rattle.std.proofs.Common.{◌≡◌, ◌∙◌, ap, ap₂, sym, refl, ℕ, Bool, true, false, cond, not, List, [], ◌∷◌, ◌++◌, map}
 use Rattle.std.specs.Prelude.{◌==◌, ◌&&◌, ◌||◌, filter}
 use Rattle.std.specs.List.{flat_map, list_any, AllZip}
@@ -74,7 +74,7 @@ map-filter q f (x ∷ xs) = by (q (f x)) (map-filter q f xs)
     by true e = ap (λ r. f x ∷ r) e
     by false e = e
 
--- what is told of an issue is enough to know whether it is silenced
+-- whether an issue is silenced depends only on its parts except the column
 abbrev mutes : List (Comment Place) → Told → Bool
 mutes cs t = list_any (covers t.file t.line t.rule) cs
 

@@ -1,5 +1,5 @@
--- The texts of declarations have no more bytes than the attributes and labels weigh: a default branch's name is no
--- longer than the attribute's `source` and its `=`.
+-- The texts of declarations have at most as many bytes as the attributes and labels weigh: the name of a default branch
+-- is no longer than the attribute's `source` and its `=`.
 use Rattle.std.proofs.Common.{◌≡◌, ◌∙◌, ap, sym, refl, true≢false, ℕ, ◌+◌, ◌≤◌, Bool, true, false, cond, not, List, [], ◌∷◌, ◌++◌, map, length, arith}
 use Rattle.std.specs.Prelude.{◌||◌, ◌==◌, Option, Some, None, codes, find}
 use Rattle.std.specs.List.{flat_map}
@@ -59,9 +59,9 @@ branch_short text = by (is_git text) (is_mercurial text) (is_registry text)
     by false false true = omega arith
     by false false false = omega arith
 
--- ---- of one block
+-- ---- one block
 
--- an attribute weighs its name and its `=`
+-- an attribute weighs as much as its name and its `=`
 abbrev pub named : List Attribute → ℕ
 named [] = 0
 named (a ∷ attributes) = 1 + (length a.name + named attributes)
@@ -121,7 +121,7 @@ module _ (ts : List Numbered) where
   -- ---- item by item
 
   module _ (w : ℕ → ℕ) where
-    -- the texts of an item weigh as much as they have bytes
+    -- the text of an item has at most as many bytes as its first token weighs
     abbrev pub Weighs : Item → Type 0
     Weighs (item.Label l) = length (label_text ts l) ≤ w l.first
     Weighs (item.Attribute level name first end) = length (text_of ts name) ≤ w name
@@ -131,7 +131,7 @@ module _ (ts : List Numbered) where
     AllWeigh [] = Unit {0}
     AllWeigh (i ∷ is) = Weighs i × AllWeigh is
 
-    -- the attributes and labels ahead are for the block before them
+    -- attributes and labels at the front belong to the block before them
     pub told_few : (is : List Item) → AllWeigh is → told (of_items ts is) + (named (attributes_in ts is) + bytes (labels_in ts is)) ≤ cost w is
     told_few [] weigh = omega arith
     told_few (item.Label l ∷ is) weigh = omega (arith, weigh.0, told_few is weigh.1)

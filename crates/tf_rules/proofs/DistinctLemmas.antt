@@ -1,4 +1,4 @@
--- The keys of all that rules report are apart.
+-- All reported issues have different keys.
 use Rattle.std.proofs.Common.{◌≡◌, ap, sym, refl, subst, ℕ, ◌+◌, ◌<◌, ◌≤◌, Bool, true, false, List, [], ◌∷◌, ◌++◌, map, filter, length, inl, inr, arith}
 use Rattle.std.specs.Prelude.{◌⊎◌, ◌==◌, ◌&&◌, Option, Some, None, codes}
 use Rattle.std.specs.List.{flat_map}
@@ -26,7 +26,7 @@ use Rattle.tf_rules.proofs.ReportLemmas.{from-map}
 use Rattle.tf_rules.proofs.RisingLemmas.{Up, up_from, up_filter, up_ascends, up_flat, up_map}
 use Rattle.tf_rules.proofs.SortLemmas.{Differ}
 
--- ---- what a rule reports of a file, by the numbers of tokens
+-- ---- the findings of a rule in a file, by the numbers of tokens
 
 abbrev comment_number : Comment ℕ → ℕ
 comment_number c = c.at
@@ -64,7 +64,7 @@ declared_up : (from to : ℕ) (ds : List (Declaration ℕ)) → Rise from (flat_
 declared_up from to [] h = h
 declared_up from to (d ∷ ds) h = (h.0, declared_up (d.at + 1) to ds (without_quotes (d.at + 1) to d.source (flat_map numbers_of ds) h.1))
 
--- at the opening quote of each source
+-- the findings at the opening quote of each source
 module _ (naming : Naming) (used : List (List ℕ)) where
   pinned_up : (from to : ℕ) (ds : List (Declaration ℕ)) → Rise from (flat_map numbers_of ds) to → Up found_at from (flat_map (finding naming used ModulePinnedSource) ds) to
   pinned_up from to [] h = h
@@ -102,7 +102,7 @@ module _ (naming : Naming) (used : List (List ℕ)) (tokens : List Lexeme) where
   findings_up TypedVariables = over_declarations TypedVariables (λ d. says_up _ d.at _)
   findings_up UnusedDeclarations = over_declarations UnusedDeclarations (λ d. says_up _ d.at _)
 
--- ---- of all files, by all rules
+-- ---- all files and all rules
 
 module _ {X Y : Type 0} (R : X → X → Type 0) (S : Y → Y → Type 0) (f : X → Y) (h : (a b : X) → R a b → S (f a) (f b)) where
   map_before : (x : X) (xs : List X) → BeforeAll R x xs → BeforeAll S (f x) (map f xs)

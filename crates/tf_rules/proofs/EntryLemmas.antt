@@ -1,4 +1,4 @@
--- Issues put one after another.
+-- Issues that are pushed one after another.
 use Rattle.std.proofs.Common.{◌≡◌, ◌∙◌, ap, sym, refl, ℕ, ◌+◌, ◌<◌, ◌≤◌, Bool, true, false, cond, List, [], ◌∷◌, ◌++◌, append_assoc, map, drop, take, length, get_or}
 use Rattle.std.specs.Prelude.{filter, slice_get, Some}
 use Rattle.std.specs.List.{flat_map}
@@ -8,7 +8,7 @@ use Rattle.std.proofs.lemmas.List.Folds.{flat_map-map}
 use Rattle.hcl_grammar.proofs.NumberedLemmas.{drop_at}
 use Rattle.tf_rules.proofs.FindingLemmas.{map-flat_map}
 
--- ---- a loop that puts a list for each element
+-- ---- a loop that pushes a list for each element
 
 module _ {A B : Type 0} (f : A → List B) (xs : List A) where
   one_more : (i : ℕ) (x : A) → i < length xs → x ≡ get_or xs i x → flat_map f (take (i + 1) xs) ≡ flat_map f (take i xs) ++ f x
@@ -27,12 +27,12 @@ module _ {A B : Type 0} (f : A → List B) (xs : List A) where
   pub put_all : (i : ℕ) (base new : List B) → length xs ≤ i → new ≡ base ++ flat_map f (take i xs) → new ≡ base ++ flat_map f xs
   put_all i base new past so_far = so_far ∙ ap (λ ys. base ++ flat_map f ys) (take_all i xs past)
 
--- ---- lists put one after another
+-- ---- lists pushed one after another
 
 pub put_before : {X : Type 0} (old new xs rest : List X) → new ≡ old ++ xs → new ++ rest ≡ old ++ (xs ++ rest)
 put_before old new xs rest e = ap (λ l. l ++ rest) e ∙ append_assoc old xs rest
 
--- ---- the list that was put
+-- ---- the list that was pushed
 
 pub put_map : {A B C D : Type 0} (g : B → List C) (k : A → B) (h : C → D) (xs : List A) → flat_map (λ x. map h (g (k x))) xs ≡ map h (flat_map g (map k xs))
 put_map g k h xs = sym (ap (map h) (flat_map-map g k xs) ∙ map-flat_map h (λ x. g (k x)) xs)
@@ -49,7 +49,7 @@ put_passing p f (x ∷ xs) = by (p x) (put_passing p f xs)
     by true h = ap (λ r. f x ++ r) h
     by false h = h
 
--- ---- a loop that takes each element over
+-- ---- a loop that copies each element
 
 module _ {X : Type 0} (xs : List X) (i : ℕ) where
   pub one_taken : (x y : X) (old new : List X) → slice_get xs i ≡ Some y → x ≡ y → new ≡ old ++ x ∷ [] → old ++ drop i xs ≡ xs → new ++ drop (i + 1) xs ≡ xs

@@ -1,4 +1,4 @@
--- What is put for each of some rules and declarations: rule by rule, and declaration by declaration.
+-- The findings for some rules and declarations: rule by rule, and declaration by declaration.
 use Rattle.std.proofs.Common.{◌≡◌, ◌∙◌, ap, sym, refl, subst, ℕ, Bool, true, false, true≢false, cond, List, [], ◌∷◌, ◌++◌, append_assoc, map}
 use Rattle.std.specs.Prelude.{IsPermutation, ◌||◌}
 use Rattle.std.specs.List.{flat_map, list_any}
@@ -23,7 +23,7 @@ use Rattle.tf_rules.proofs.FindingLemmas.{flat_map_same, map-flat_map}
 same : {X : Type 0} (xs ys : List X) → xs ≡ ys → IsPermutation xs ys
 same xs ys e = subst (λ zs. IsPermutation xs zs) e (IsPermutation-refl xs)
 
--- the second list and the third change places
+-- the second list and the third exchanged
 module _ {X : Type 0} (a b c d : List X) where
   swapped : IsPermutation (b ++ (c ++ d)) (c ++ (b ++ d))
   swapped =
@@ -60,7 +60,7 @@ exchanged f xs (y ∷ ys) =
     IsPermutation-trans _ _ _ (split (λ x. f x y) (λ x. flat_map (f x) ys) xs)
     (IsPermutation-append_right (flat_map (λ x. f x y) xs) _ _ (exchanged f xs ys))
 
--- the first element goes last
+-- the first element moved to the end
 module _ {A X : Type 0} (f : A → List X) where
   put_last : (x : A) (xs : List A) → IsPermutation (flat_map f (x ∷ xs)) (flat_map f (xs ++ x ∷ []))
   put_last x xs =
@@ -70,7 +70,7 @@ module _ {A X : Type 0} (f : A → List X) where
   pub third_last : (a b c : A) (xs : List A) → IsPermutation (flat_map f (a ∷ b ∷ c ∷ xs)) (flat_map f (a ∷ b ∷ (xs ++ c ∷ [])))
   third_last a b c xs = IsPermutation-append_right (f a) _ _ (IsPermutation-append_right (f b) _ _ (put_last c xs))
 
--- ---- what the rules report
+-- ---- the reports of the rules
 
 if_asked : {A X Y : Type 0} (b : Bool) (g : X → Y) (f : A → List X) (xs : List A) → cond b (map g (flat_map f xs)) [] ≡ flat_map (λ x. cond b (map g (f x)) []) xs
 if_asked true g f xs = map-flat_map g f xs
@@ -111,7 +111,7 @@ module _ (s : Settings) (kept : Kept) where
   in_turn : rule_by_rule ≡ first ++ (second ++ (third ++ flat_map by_declarations named_rules))
   in_turn = sym (put_passing (holds s.rules) (λ rule. map (issue_at rule) (findings s.naming kept.references kept.facts rule)) all_rules) ∙ ap (λ r. first ++ (second ++ (third ++ r))) declared
 
-  -- what is put first by rules and then by declarations is what the rules report
+  -- the entries that are pushed first by rules and then by declarations are the rules' reports
   pub all_reported : (entries : List Issue) → entries ≡ ((first ++ second) ++ third) ++ declaration_by_declaration → IsPermutation rule_by_rule entries
   all_reported entries e =
       IsPermutation-trans _ _ _ (same rule_by_rule _ in_turn)
@@ -120,7 +120,7 @@ module _ (s : Settings) (kept : Kept) where
       (IsPermutation-trans _ _ _ other_order (exchanged (λ rule d. issues_if_asked s kept.references d rule) declared_rules kept.facts.declarations)))))
       (same _ entries (sym (e ∙ append_assoc (first ++ second) third declaration_by_declaration ∙ append_assoc first second (third ++ declaration_by_declaration)))))
 
--- ---- nothing is said of declarations where no rule that goes by them is asked for
+-- ---- no rule about declarations is requested, so nothing is reported of them
 
 module _ (s : Settings) (used : List (List ℕ)) where
   none_asked : (d : Declaration Place) (rules : List Rule) → list_any (holds s.rules) rules ≡ false → flat_map (issues_if_asked s used d) rules ≡ []

@@ -1,4 +1,4 @@
--- What rules report commutes with another way to tell places, and goes by the references as a set.
+-- Findings commute with another view of places, and depend on the references as a set.
 use Rattle.std.proofs.Common.{◌≡◌, ◌∙◌, ap, ap₂, sym, refl, ℕ, Bool, true, false, not, List, [], ◌∷◌, ◌++◌, map}
 use Rattle.std.specs.Prelude.{Option, Some, None, ◌&&◌, codes}
 use Rattle.std.specs.List.{list_any, flat_map}
@@ -35,7 +35,7 @@ pub map-flat_map : {A B C : Type 0} (g : B → C) (f : A → List B) (xs : List 
 map-flat_map g f [] = refl
 map-flat_map g f (x ∷ xs) = map-append g (f x) (flat_map f xs) ∙ ap (λ r. map g (f x) ++ r) (map-flat_map g f xs)
 
--- ---- another way to tell places
+-- ---- another view of places
 
 abbrev pub finding_at : {P Q : Type 0} → (P → Q) → Finding P → Finding Q
 finding_at f x = record { at = f x.at; message = x.message }
@@ -102,7 +102,7 @@ module _ {P Q : Type 0} (f : P → Q) where
   findings-at naming used k TypedVariables = over_declarations naming used TypedVariables k.declarations
   findings-at naming used k UnusedDeclarations = over_declarations naming used UnusedDeclarations k.declarations
 
--- ---- the facts of both
+-- ---- the facts of two files
 
 module _ {P : Type 0} (naming : Naming) (used : List (List ℕ)) (a b : Facts P) where
   pub findings-both : (rule : Rule) → findings naming used (both a b) rule ≡ findings naming used a rule ++ findings naming used b rule

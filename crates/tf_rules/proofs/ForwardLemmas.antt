@@ -1,4 +1,4 @@
--- The facts of a file name its tokens in order, so one walk through it goes to all of a kind.
+-- The facts of a file name its tokens in order, so one walk through the file reaches all facts of a kind.
 use Rattle.std.proofs.Common.{◌≡◌, sym, subst, ℕ, suc, zero, ◌+◌, ◌-◌, ◌<◌, ◌≤◌, Bool, true, false, cond, not, List, [], ◌∷◌, ◌++◌, map, drop, take, length, arith}
 use Rattle.std.specs.Prelude.{◌&&◌, ◌||◌, ◌==◌, Option, Some, None, codes, find}
 use Rattle.std.specs.List.{flat_map}
@@ -25,7 +25,7 @@ use Rattle.tf_facts.specs.Silencing.{has_slashes, silenced_rules}
 use Rattle.tf_rules.specs.Inner.Locating.{Forward, numbers_of, quotes}
 use Rattle.tf_rules.proofs.StartLemmas.{starts_rise}
 
--- numbers in order, from one on to before another
+-- the numbers rise, are at least `from` and below `to`
 abbrev pub Rise : ℕ → List ℕ → ℕ → Type 0
 Rise from [] to = from ≤ to
 Rise from (n ∷ ns) to = (from ≤ n) × Rise (n + 1) ns to
@@ -101,8 +101,8 @@ plain_rises from to (q ∷ l ∷ c ∷ d ∷ ds) h = rises_wide from to (q ∷ l
 abbrev named : List (Declaration ℕ) → List ℕ
 named ds = flat_map numbers_of ds
 
--- what is named by the items, by the attributes ahead as locals and then by the items, and by the source ahead and then
--- by the items
+-- the numbers in the declarations of the items; in the attributes at the front as locals, and then in the declarations;
+-- in the source at the front, and then in the declarations: each rise
 record IsRising (tokens : List Lexeme) (from : ℕ) (is : List Item) (to : ℕ) : Type 0 where
   items : Rise from (named (of_items (numbered tokens) is)) to
   locals : Rise from (named (map of_local (attributes_in (numbered tokens) is)) ++ named (of_items (numbered tokens) is)) to
@@ -210,7 +210,7 @@ module _ (tokens : List Lexeme) where
   pub declarations_in_order : Rise 0 (flat_map numbers_of (declarations ts)) (length tokens)
   declarations_in_order = (all_rise 0 (length tokens) (outline tokens) (outline_climbs tokens)).items
 
-  -- ---- the walk goes to these
+  -- ---- the walk reaches these tokens
 
   module _ (text : List ℕ) (scanned : Scans text tokens) where
     goes : (from reached : ℕ) (ns : List ℕ) → ((j : ℕ) → from ≤ j → j < length tokens → reached ≤ start_of tokens j) → Rise from ns (length tokens) → Forward tokens reached ns

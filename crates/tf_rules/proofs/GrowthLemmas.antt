@@ -1,4 +1,4 @@
--- No more entries are kept of a file than it has tokens: each is told by a token of its own.
+-- A file has at most as many stored entries as tokens: each entry has a token of its own.
 use Rattle.std.proofs.Common.{◌≡◌, ap, sym, refl, true≢false, ℕ, suc, ◌+◌, ◌≤◌, Bool, true, false, cond, List, [], ◌∷◌, ◌++◌, map, drop, length, arith}
 use Rattle.std.specs.Prelude.{◌&&◌, ◌||◌, Option, Some, None, not}
 use Rattle.std.specs.List.{flat_map, list_any}
@@ -49,7 +49,7 @@ comments_few (t ∷ ts) = by (is kind.LineComment t.kind) (has_slashes t.text ||
     by true false h = omega (arith, h)
     by false b h = omega (arith, h)
 
--- ---- interpolations, by what follows their quotes
+-- ---- interpolations, by the tokens after their quotes
 
 abbrev interpolates : List Numbered → Bool
 interpolates [] = false
@@ -93,7 +93,7 @@ unnamed [] e = refl
 unnamed (d ∷ []) e = refl
 unnamed (d ∷ n ∷ rest) e = ap (λ b. cond b (Some n) None) e
 
--- a reference begins with an identifier, and a dot and a name come next
+-- a reference begins with an identifier, followed by a dot and a name
 none_begun : (own : List VariableSpan) (t : Numbered) (ts : List Numbered) → (is kind.Ident t.kind && names_next ts) ≡ false → length (unless_self_reference own t.number (reference_at (t ∷ ts))) ≡ 0
 none_begun own t ts e = ap (λ o. length (unless_self_reference own t.number o)) (by (is kind.Ident t.kind) (names_next ts) (unnamed ts) e)
   where
@@ -108,11 +108,11 @@ begun_few own t ts = by (is kind.Ident t.kind && names_next ts) refl
     by true e = own_few own t.number (reference_at (t ∷ ts))
     by false e = omega (arith, none_begun own t ts e)
 
--- how many references and indexes there are, where a dot stands before or not
+-- how many references and indexes there are, if a dot precedes the tokens or not
 abbrev dotted : List VariableSpan → Bool → List Numbered → ℕ
 dotted own after ts = length (numbers_where is_index ts) + length (references_from own after ts)
 
--- a dot before a name is no index, and no reference begins at it
+-- a dot before a name is no index, and begins no reference
 abbrev AreDotted : List VariableSpan → List Numbered → Type 0
 AreDotted own ts = ((after : Bool) → dotted own after ts + 0 ≤ tally (is kind.Dot) ts) × (names_next ts ≡ true → dotted own false ts + 1 ≤ tally (is kind.Dot) ts)
 
@@ -198,7 +198,7 @@ dots_few : (own : List VariableSpan) (ts : List Numbered) → AreDotted own ts
 dots_few own [] = ((λ after. omega arith), (λ e. absurd (true≢false (sym e))))
 dots_few own (t ∷ ts) = let more = dots_few own ts in ((λ after. any_by own t ts more after (is kind.Dot t.kind) refl), first own t ts more)
 
--- ---- all of them
+-- ---- all facts
 
 few : (ts : List Numbered) → length (comments ts) + (length (legacy_indexes ts) + (length (wrapped_interpolations ts) + (places (declarations ts) + length (references ts)))) ≤ length ts
 few ts =
@@ -214,7 +214,7 @@ few ts =
       tally_filter (is kind.InterpOpen) (λ t. not (is_passed_over t.kind)) ts,
     )
 
--- ---- what is kept
+-- ---- the stored entries
 
 len_numbered : (n : ℕ) (ts : List Lexeme) → length (numbered_from n ts) ≡ length ts
 len_numbered n [] = refl

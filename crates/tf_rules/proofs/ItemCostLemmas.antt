@@ -1,4 +1,4 @@
--- What is declared has no more places than there are attributes and labels, and each of these has a token of its own.
+-- Declarations have at most as many places as there are attributes and labels, each of which has a token of its own.
 use Rattle.std.proofs.Common.{◌≡◌, ◌∙◌, ap, refl, ℕ, suc, ◌+◌, ◌≤◌, Bool, true, false, cond, not, List, [], ◌∷◌, ◌++◌, map, length, arith}
 use Rattle.std.specs.Prelude.{◌||◌, ◌==◌, Option, Some, None, codes, filter}
 use Rattle.std.specs.List.{flat_map}
@@ -19,7 +19,7 @@ use Rattle.tf_rules.specs.Growth.{places_of, source_places}
 use Rattle.tf_facts.specs.declared.declaration_kind.DeclarationKind.TheVariants as declares
 use Rattle.tf_rules.proofs.ItemWeightLemmas.{IsCounted, bit, items_weigh, weight, weight_filter}
 
--- how many tokens are of these kinds
+-- how many tokens have these kinds
 abbrev pub tally : (Kind → Bool) → List Numbered → ℕ
 tally p ts = weight (λ t. bit (p t.kind)) ts
 
@@ -40,7 +40,7 @@ cost_both (item.Attribute level name first end ∷ is) js = omega (arith, cost_b
 cost_both (item.Block level kind end ∷ is) js = cost_both is js
 cost_both (item.Label l ∷ is) js = omega (arith, cost_both is js)
 
--- the kinds of `=`, and of the tokens with which labels begin
+-- the kinds of `=`, and of the tokens that begin labels
 abbrev pub is_telling : Kind → Bool
 is_telling k = is Assign k || (is Ident k || is QuoteOpen k)
 
@@ -134,7 +134,7 @@ module _ (ts : List Numbered) where
       by true false = omega arith
       by false b = declared_few token names attributes (declarer (text_of ts token)) (some_labels (text_of ts token))
 
-  -- the attributes and labels ahead are for the block before them
+  -- attributes and labels at the front belong to the block before them
   declared_cost : (is : List Item) → places (of_items ts is) + (length (attributes_in ts is) + length (labels_in ts is)) ≤ cost is
   declared_cost [] = omega arith
   declared_cost (item.Label l ∷ is) = omega (arith, declared_cost is)

@@ -1,4 +1,4 @@
--- Items cost no more than all tokens weigh, where what each costs is weighed by tokens of its own.
+-- Items cost at most as much as all tokens weigh, if tokens of its own weigh as much as each item costs.
 use Rattle.std.proofs.Common.{◌≡◌, ℕ, suc, zero, ◌+◌, ◌≤◌, Bool, true, false, cond, List, [], ◌∷◌, ◌++◌, arith, refl}
 use Rattle.std.specs.Prelude.{◌&&◌, filter, nat_lt}
 use Rattle.std.specs.List.{flat_map}
@@ -25,7 +25,7 @@ weight_filter weigh q (t ∷ ts) = by (q t) (weight_filter weigh q ts)
     by true h = omega (arith, h)
     by false h = omega (arith, h)
 
--- a label costs what its first token weighs, an attribute what its name and its `=` do, and a block nothing
+-- a label costs at most the weight of its first token, an attribute that of its name and its `=`, and a block nothing
 pub record IsCounted (cost : List Item → ℕ) (weigh : Numbered → ℕ) : Type 0 where
   pub none : cost [] ≡ 0
   pub both : (is js : List Item) → cost (is ++ js) ≡ cost is + cost js

@@ -1,4 +1,4 @@
--- What was found is kept one by one, by a walk that goes on.
+-- Facts are stored one by one, as a walk goes on.
 use Rattle.std.proofs.Common.{◌≡◌, ◌∙◌, ap, sym, subst, refl, ℕ, ◌+◌, ◌≤◌, List, [], ◌∷◌, ◌++◌, append_assoc, map, drop, length}
 use Rattle.std.specs.Prelude.{Some, slice_get}
 use Rattle.std.specs.List.{flat_map}

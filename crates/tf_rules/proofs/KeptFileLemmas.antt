@@ -1,4 +1,4 @@
--- What is kept of one file is what was found there, at its places.
+-- The stored facts of a file are those that were found in it, with their places.
 use Rattle.std.proofs.Common.{◌≡◌, ◌∙◌, ap, sym, subst, ℕ, List, map}
 use Rattle.std.specs.List.{flat_map}
 use Rattle.std.proofs.lemmas.List.Folds.{flat_map-map}
@@ -22,7 +22,7 @@ use Rattle.tf_rules.proofs.ForwardLemmas.{comments_forward, declarations_forward
 abbrev pub at_start : File → Locating
 at_start file = record { file = file; reached = 0 }
 
--- the same by the file itself and what was found
+-- the stored facts, with the walk at the start of the file and the facts that were found
 pub there : {X V : Type 0} (whole : File → X → V) (vs : List V) (p : Locating) (file : File) (xs ys : List X) → p ≡ at_start file → xs ≡ ys → vs ≡ map (whole p.file) xs → vs ≡ map (whole file) ys
 there whole vs p file xs ys start same is = is ∙ ap (λ (q : Locating). map (whole q.file) xs) start ∙ ap (map (whole file)) same
 

@@ -1,4 +1,4 @@
--- The issues of files are those of what is kept of them.
+-- The issues of files are those of their stored facts.
 use Rattle.std.proofs.Common.{◌≡◌, ◌∙◌, ap, ap₂, sym, refl, true≢false, ℕ, Bool, true, false, cond, not, List, [], ◌∷◌, ◌++◌, map, append_assoc}
 use Rattle.std.specs.Prelude.{fold, filter, ◌||◌}
 use Rattle.std.specs.List.{list_any, flat_map}
@@ -33,7 +33,7 @@ or_false : (a : Bool) → (a || false) ≡ a
 or_false true = refl
 or_false false = refl
 
--- where a text of the list is equal to one that passes, some text passes
+-- if a text of the list equals one that passes, some text passes
 or_true : (b : Bool) → (b || true) ≡ true
 or_true true = refl
 or_true false = refl

@@ -1,4 +1,4 @@
--- Attributes and labels weigh what the tokens of their names do, and each `=` one more.
+-- An attribute or a label weighs as much as the token of its name, and each `=` one more.
 use Rattle.std.proofs.Common.{◌≡◌, ap, refl, ℕ, ◌+◌, ◌≤◌, Bool, true, false, cond, List, [], ◌∷◌, ◌++◌, arith}
 use Rattle.hcl_tokens.specs.Kinds.{is}
 use Rattle.hcl_tokens.specs.declared.token.Kind.TheVariants.{Assign, Ident, QuoteOpen}
@@ -9,7 +9,7 @@ use Rattle.hcl_grammar.specs.declared.item.Item.TheVariants as item
 use Rattle.hcl_tokens.specs.declared.token.Kind.{Kind}
 use Rattle.tf_rules.proofs.ItemWeightLemmas.{IsCounted, bit}
 
--- where the token of a number weighs so much as a name
+-- the weight of the token with each number, as a name
 module _ (w : ℕ → ℕ) where
   abbrev pub cost : List Item → ℕ
   cost [] = 0

@@ -1,4 +1,5 @@
--- Of a file that is scanned and accepted no more bytes of texts are kept than it has: each is one of a token of its own.
+-- The stored texts of a file that is scanned and accepted have at most as many bytes as the file: each text has a token
+-- of its own.
 use Rattle.std.proofs.Common.{◌≡◌, ◌∙◌, ap, sym, refl, ℕ, ◌+◌, ◌≤◌, Bool, true, false, cond, not, List, [], ◌∷◌, ◌++◌, map, drop, length, arith}
 use Rattle.std.specs.Prelude.{◌&&◌, ◌||◌, ◌==◌, Option, Some, None}
 use Rattle.std.specs.List.{flat_map, list_any}
@@ -31,7 +32,7 @@ use Rattle.tf_rules.proofs.NameCostLemmas.{cost, counted, weigh}
 use Rattle.tf_rules.proofs.ReferenceCostLemmas.{comes_dot, dotted, made_few}
 use Rattle.tf_rules.proofs.TextSizeLemmas.{Solid, text_bytes, tokens_few, tokens_solid}
 
--- ---- what a token weighs that names an item: its text, and the literal after it
+-- ---- the weight of a token that names an item: its text, and the literal after it
 
 abbrev literal : List Numbered → ℕ
 literal ts = length (first_literal ts)
@@ -65,7 +66,7 @@ same_begin : (ts : List Numbered) → comes_dot ts ≡ begins_dot ts
 same_begin [] = refl
 same_begin (t ∷ ts) = refl
 
--- what it weighs beside a dot
+-- the weight of a token as a part of a reference
 abbrev in_reference : Bool → Bool → Kind → ℕ → ℕ
 in_reference dot next k n = cond (is_passed_over k) 0 (bit (is kind.Dot k) + cond (is kind.Ident k && (dot || next)) n 0)
 
@@ -131,7 +132,7 @@ module _ (all : List Numbered) where
           ∙ ap (λ r. cond (is_apart dot t.kind more) (length (first_text r) + literal (drop (n + 1) all)) 0) here
           ∙ ap (λ r. cond (is_apart dot t.kind more) (length t.text + literal r) 0) there
 
--- ---- what is kept
+-- ---- the stored texts
 
 inserted_short : (ks : List (List ℕ)) (k : List ℕ) → bytes (insert_key bytes_eq ks k) ≤ bytes ks + length k
 inserted_short ks k = by (list_any (bytes_eq k) ks)

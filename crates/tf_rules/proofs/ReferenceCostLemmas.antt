@@ -1,4 +1,4 @@
--- The references have no more bytes than their dots and the identifiers beside these.
+-- References have at most as many bytes as their dots and the identifiers next to these.
 use Rattle.std.proofs.Common.{◌≡◌, ◌∙◌, ap, sym, refl, true≢false, ℕ, ◌+◌, ◌≤◌, Bool, true, false, cond, List, [], ◌∷◌, ◌++◌, drop, length, arith, length-append}
 use Rattle.std.specs.Prelude.{◌&&◌, ◌||◌, Option, Some, None, codes}
 use Rattle.std.specs.Str.{bytes_eq}
@@ -16,11 +16,11 @@ abbrev pub comes_dot : List Numbered → Bool
 comes_dot [] = false
 comes_dot (t ∷ ts) = is kind.Dot t.kind
 
--- an identifier beside a dot weighs its bytes
+-- an identifier next to a dot weighs as much as it has bytes
 abbrev pub beside : Bool → Numbered → ℕ
 beside b t = cond (is kind.Ident t.kind && b) (length t.text) 0
 
--- where a dot stands before the tokens or not
+-- the weight of tokens, if a dot precedes them or not
 abbrev pub dotted : Bool → List Numbered → ℕ
 dotted after [] = 0
 dotted after (t ∷ ts) = bit (is kind.Dot t.kind) + (beside (after || comes_dot ts) t + dotted (is kind.Dot t.kind) ts)
@@ -31,7 +31,7 @@ abbrev some_bytes : Option (List ℕ) → ℕ
 some_bytes None = 0
 some_bytes (Some text) = length text
 
--- a dot and a name
+-- the bytes of a dot and a name
 abbrev step_bytes : Option Numbered → ℕ
 step_bytes None = 0
 step_bytes (Some n) = 1 + length n.text
@@ -40,7 +40,7 @@ abbrev steps_by : Option Numbered → List Numbered → ℕ
 steps_by None rest = 0
 steps_by (Some n) rest = 1 + (length n.text + step_bytes (name_after rest))
 
--- and another dot and name after them
+-- the bytes of a dot and a name, and of another dot and name after them
 abbrev steps : List Numbered → ℕ
 steps ts = steps_by (name_after ts) (drop 2 ts)
 
@@ -90,7 +90,7 @@ no_name [] e = refl
 no_name (d ∷ []) e = refl
 no_name (d ∷ n ∷ rest) e = ap (λ b. cond (b && is kind.Ident n.kind) (Some n) None) e
 
--- a reference weighs its first word and the steps after
+-- a reference has at most as many bytes as its first word and the steps after it
 begun_short : (t : Numbered) (ts : List Numbered) → some_bytes (reference_at (t ∷ ts)) ≤ beside (comes_dot ts) t + steps ts
 begun_short t ts = by (is kind.Ident t.kind) (comes_dot ts) refl
   where
@@ -103,7 +103,7 @@ begun_short t ts = by (is kind.Ident t.kind) (comes_dot ts) refl
     by true false e = let none : some_bytes (by_name t.text (name_after ts) (drop 2 ts)) ≡ 0 = ap (λ o. some_bytes (by_name t.text o (drop 2 ts))) (no_name ts e) in omega (arith, none)
     by false d e = omega arith
 
--- ---- all of them
+-- ---- all references
 
 module _ (own : List VariableSpan) where
   abbrev made : Bool → List Numbered → ℕ
@@ -127,7 +127,7 @@ module _ (own : List VariableSpan) where
   ident_is kind.Ident e = refl
   ident_is _ e = absurd (true≢false (sym e))
 
-  -- no reference begins at a dot, nor at the name after it
+  -- no reference begins at a dot, or at the name after it
   step_made : (after : Bool) (t n : Numbered) (rest : List Numbered) → is kind.Dot t.kind ≡ true → is kind.Ident n.kind ≡ true → made after (t ∷ n ∷ rest) ≤ made false rest
   step_made after t n rest d i = by after
     where

@@ -1,4 +1,4 @@
--- Lists whose members rise by a number, from one on to before another.
+-- Lists whose members have rising numbers, at least `from` and below `to`.
 use Rattle.std.proofs.Common.{ℕ, ◌+◌, ◌<◌, ◌≤◌, Bool, true, false, cond, List, [], ◌∷◌, ◌++◌, map, filter, arith}
 use Rattle.std.specs.List.{flat_map}
 use Rattle.tf_rules.specs.Ordered.{BeforeAll, Ascends}
@@ -36,7 +36,7 @@ module _ {X : Type 0} (m : X → ℕ) where
   up_ascends from to [] h = tt
   up_ascends from to (x ∷ xs) h = (up_before x (m x + 1) to xs (omega arith) h.1, up_ascends (m x + 1) to xs h.1)
 
--- what is made of each member, at its number
+-- the results of each member, at its number
 module _ {X Y : Type 0} (m : X → ℕ) (n : Y → ℕ) (g : X → List Y) (each : (x : X) → Up n (m x) (g x) (m x + 1)) where
   pub up_flat : (from to : ℕ) (xs : List X) → Up m from xs to → Up n from (flat_map g xs) to
   up_flat from to [] h = h

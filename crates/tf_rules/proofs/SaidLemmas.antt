@@ -1,4 +1,4 @@
--- Texts joined one after another, and what is said in pieces.
+-- Texts joined one after another, and messages in parts.
 use Rattle.std.proofs.Common.{◌≡◌, ◌∙◌, ◌+◌, ◌<◌, ◌++◌, ◌∷◌, [], ℕ, List, ap, ap₂, append_assoc, get_or, length, map, sym, take}
 use Rattle.std.proofs.lemmas.List.{append-nil, map-append, take_more}
 use Rattle.std.proofs.lemmas.List.Folds.{concat-append}
@@ -18,10 +18,10 @@ text_more xs i d old new lt pushed so_far =
     ∙ ap concat (sym (map-append (λ text. text.now) (take i xs) (get_or xs i d ∷ [])))
     ∙ ap (λ l. concat (map (λ text. text.now) l)) (sym (take_more xs i d lt))
 
--- a front that ends in a quote, and a name
+-- a message that begins with a front, which ends in a quote, and a name
 pub told_by_name : (front kind quote name of rest : List ℕ) → front ≡ kind ++ quote → name ≡ of → front ++ (name ++ rest) ≡ kind ++ (quote ++ (of ++ rest))
 told_by_name front kind quote name of rest e f = ap₂ (λ a b. a ++ (b ++ rest)) e f ∙ append_assoc kind quote (of ++ rest)
 
--- an entry is listed as it is shown
+-- an entry in a list is the issue as it is shown
 pub listed_is : (e : Entry) (p : MessageParts) → text_of_parts p ≡ text_of e.said → listed_issue (record { file = e.at.file; at = e.at.at; rule = e.rule; message = p }) ≡ shown_of e
 listed_is e p same = ap (λ m. record { file = e.at.file; at = e.at.at; rule = e.rule; message = m }) same

@@ -1,4 +1,4 @@
--- What is silenced on a line, comment by comment.
+-- The rules that are silenced on a line, comment by comment.
 use Rattle.std.proofs.Common.{◌≡◌, ◌∙◌, ap, sym, refl, ℕ, ◌+◌, ◌-◌, ◌≤◌, ◌<◌, Bool, true, false, cond, List, [], ◌∷◌, ◌++◌, map, take, filter, length, get_or, arith, inl, inr}
 use Rattle.std.specs.Prelude.{◌⊎◌, ◌==◌, ◌&&◌, ◌||◌, Option, Some}
 use Rattle.std.specs.List.{list_any}
@@ -63,7 +63,7 @@ none_among : (p : Rule → Bool) (rules : List Rule) → is_any rules ≡ false 
 none_among p [] e = refl
 none_among p (r ∷ rules) e = absurd (cc)
 
--- ---- one comment more
+-- ---- one more comment
 
 pub silence_step : (old new : Option RuleSet) (both rules : RuleSet) (here : Bool) (rule : Rule) → new ≡ cond here (Some both) old → (here ≡ true → holds both rule ≡ (is_in_set old rule || holds rules rule))
     → is_in_set new rule ≡ (is_in_set old rule || (here && holds rules rule))
@@ -96,7 +96,7 @@ module _ {X : Type 0} (p q : X → Bool) where
       shuffle false true c d = sym (or_true c)
       shuffle false false c d = refl
 
--- the comment stands on the line above
+-- the comment is on the line above
 abbrev pub is_under : ℕ → ℕ → Rule → Comment Place → Bool
 is_under file line rule c = (c.at.file == file) && (c.at.at.line + 1 == line) && list_any (is_rule rule) c.silences
 
@@ -134,7 +134,7 @@ under_none file line rule (c ∷ comments) e =
     (and_left ((c.at.file == file) && (c.at.at.line + 1 == line)) (list_any (is_rule rule) c.silences) (and_right (c.at.file == file) (c.at.at.line + 1 == line) (ne_eqb (c.at.at.line + 1) line (λ f. omega (arith, f, e)))))
     (under_none file line rule comments e)
 
--- ---- where no line is silenced
+-- ---- no line is silenced
 
 pub none_silenced : {S : Type 0} (lines : IndexMap (ℕ × ℕ) RuleSet S) → index_map_len lines ≡ 0 → (file line : ℕ) (rule : Rule) → silenced_at lines file line rule ≡ false
 none_silenced lines none file line rule = by lines.entries none

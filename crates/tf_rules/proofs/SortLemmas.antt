@@ -1,4 +1,4 @@
--- Sorted issues whose keys are apart ascend, and are the ordered list.
+-- Sorted issues with different keys ascend, and are the ordered list.
 use Rattle.std.proofs.Common.{◌≡◌, ◌∙◌, ◌<◌, ◌≤◌, ◌+◌, ap, sym, refl, subst, true≢false, ℕ, suc, zero, Bool, true, false, cond, List, [], ◌∷◌, filter, length, inl, inr, arith, get_or}
 use Rattle.std.specs.Prelude.{◌⊎◌, ◌==◌, ◌&&◌, IsPermutation, IsSorted}
 use Rattle.std.specs.List.{Contains, sum_by}
@@ -19,7 +19,7 @@ use Rattle.tf_rules.proofs.ReportLemmas.{in_turn}
 abbrev pub same_key : Key → Key → Bool
 same_key a b = (a.file == b.file) && (a.token == b.token) && (a.rank == b.rank)
 
--- the keys are apart
+-- the keys differ
 abbrev pub Differ : Issue → Issue → Type 0
 Differ a b = same_key (key_of a) (key_of b) ≡ false
 
@@ -34,7 +34,7 @@ is_same a b h =
     ∙ ap (λ t. made b.file t a.rank) (eqb-true a.token b.token front.1)
     ∙ ap (λ r. made b.file b.token r) (eqb-true a.rank b.rank parts.1)
 
--- ---- one issue at most for each key
+-- ---- at most one issue for each key
 
 abbrev hit : Key → Issue → ℕ
 hit k i = cond (same_key k (key_of i)) 1 0
@@ -211,7 +211,7 @@ module _ {X : Type 0} where
           by true r = (filter_before x xs h.0, r)
           by false r = r
 
--- THE LAW: sorted entries of issues whose keys are apart, without the silenced, are the ordered list
+-- THE LAW: sorted entries of issues with different keys, without the silenced ones, are the ordered list
 pub is_report : (asked : Asked) (files : List File) (p : Issue → Bool) (found : List Issue) (entries sorted : List Entry) → issues asked files ≡ filter p found → Ascends Differ found
     → IsPermutation found (issues_of entries) → IsPermutation entries sorted → IsSorted entry_cmp sorted → IsReport asked files (filter p (issues_of sorted))
 is_report asked files p found entries sorted is apart listed_issue_of permutation order =

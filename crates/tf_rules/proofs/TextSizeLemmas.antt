@@ -1,4 +1,4 @@
--- The tokens of a text have no more bytes than the text, and none that the count of names goes by is empty.
+-- The tokens of a text have at most as many bytes as the text, and none of those that the count of names uses is empty.
 use Rattle.std.proofs.Common.{◌≡◌, ℕ, ◌+◌, ◌≤◌, ◌<◌, Bool, true, false, List, [], ◌∷◌, length, take, drop, inl, inr, arith, sym, ap, ◌∙◌, length-append}
 use Rattle.std.specs.Prelude.{◌||◌}
 use Rattle.std.proofs.lemmas.List.{take-append-drop}
@@ -20,7 +20,7 @@ abbrev hidden_bytes : List Hidden → ℕ
 hidden_bytes [] = 0
 hidden_bytes (h ∷ hs) = length h.closer + (length h.after + hidden_bytes hs)
 
--- how much is still to be read
+-- how many bytes are still to be read
 abbrev left : State → ℕ
 left s = length s.seen + hidden_bytes s.hidden
 
@@ -50,7 +50,7 @@ run_few s (t ∷ ts) end r = omega (arith, step_few s t r.0 r.1, run_few r.0 ts 
 pub tokens_few : (text : List ℕ) (ts : List Lexeme) → Scans text ts → text_bytes ts ≤ length text
 tokens_few text ts s = omega (arith, run_few (begin text) ts s.0 s.1)
 
--- ---- dots and signs of equality
+-- ---- dots and `=`
 
 abbrev pub Solid : List Lexeme → Type 0
 Solid [] = Unit {0}

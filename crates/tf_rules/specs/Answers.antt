@@ -1,5 +1,6 @@
--- What the calls answer of the issues of a module: the ordered list, each issue with the number of its file, its position,
--- its rule and its message. The files of a module have rising numbers, so that no two issues stand at one place by one rule.
+-- The answers of the calls for a module's issues: the ordered list, each issue with the number of its file, its
+-- position, its rule and its message. The files of a module have rising numbers, so no two issues of a rule have the
+-- same place.
 use Rattle.std.specs.Prelude.{◌≡◌, ◌<◌, ◌++◌, ℕ, List, map}
 use Rattle.tf_rules.specs.Ordered.{Ascends}
 use Rattle.tf_rules.specs.Issues.{Asked, File, IsReport}
@@ -11,11 +12,11 @@ use Rattle.tf_rules.specs.declared.message_parts.MessageParts.{MessageParts}
 abbrev pub shown_issue : issues.Issue → Issue
 shown_issue i = record { file = i.place.file; at = i.place.at; rule = i.rule; message = i.message }
 
--- the text of pieces, one after another
+-- the text of a message's parts, one after another
 abbrev pub text_of_parts : MessageParts → List ℕ
 text_of_parts p = p.front.now ++ (p.name.now ++ (p.between.now ++ (p.other.now ++ p.rest.now)))
 
--- the same issue, where a list gives it with its message in pieces
+-- an issue from a list that has its message in parts
 abbrev pub listed_issue : ListedIssue → Issue
 listed_issue i =
     record { file = i.file; at = i.at; rule = i.rule; message = text_of_parts i.message }

@@ -1,4 +1,4 @@
--- The definitions at work on small files, by computation.
+-- Worked examples of the definitions on small files, by computation.
 use Rattle.std.specs.Prelude.{◌≡◌, ℕ, refl, List, [], ◌∷◌, codes, true, false}
 use Rattle.hcl_tokens.specs.Lexemes.{Lexeme}
 use Rattle.hcl_tokens.specs.declared.token.Kind.{Kind}

@@ -1,5 +1,5 @@
--- What each rule reports, and what it says. A rule goes by the facts of a file: where the patterns of tokens are, what
--- is declared, and which references all files have. Our own choice.
+-- The findings of each rule, with their messages. A rule depends on the facts of a file: the places of patterns of
+-- tokens, the declarations, and the references of all files. Our own choice.
 use Rattle.std.specs.Prelude.{ℕ, ◌++◌, ◌&&◌, Bool, true, false, not, List, [], ◌∷◌, Option, Some, None, codes, map, if◌then◌else◌}
 use Rattle.std.specs.List.{list_any, flat_map}
 use Rattle.std.specs.Str.{bytes_eq}
@@ -15,7 +15,7 @@ use Rattle.tf_rules.specs.declared.naming.Naming.{Naming}
 use Rattle.tf_facts.specs.declared.declaration_kind.DeclarationKind.{DeclarationKind}
 use Rattle.tf_facts.specs.declared.declaration_kind.DeclarationKind.TheVariants as declares
 
--- a place, and what a rule says of it
+-- a place, and the message of a rule about it
 pub record Finding (P : Type 0) : Type 0 where
   pub at : P
   pub message : List ℕ
@@ -30,7 +30,7 @@ kind_text declares.Resource = codes "resource"
 kind_text declares.Data = codes "data"
 kind_text declares.Local = codes "local"
 
--- a name in double quotes, a blank before it, and what follows
+-- a blank, a name in double quotes, and the text after it
 abbrev pub quoting : List ℕ → List ℕ → List ℕ
 quoting name rest = codes " \"" ++ (name ++ (codes "\"" ++ rest))
 
@@ -38,13 +38,13 @@ abbrev pub both_quoted : List (List ℕ) → List ℕ → List ℕ
 both_quoted [] rest = rest
 both_quoted (n ∷ ns) rest = quoting n (both_quoted ns rest)
 
--- `KIND "NAME"` and what follows
+-- `KIND "NAME"` and the text after it
 abbrev pub about : {P : Type 0} → Declaration P → List ℕ → List ℕ
 about d rest = kind_text d.kind ++ quoting (last_of d.names) rest
 
 -- ---- tests
 
--- the references that use a declaration: none for what cannot be unused
+-- the reference that uses a declaration, or none if it can't be unused
 abbrev pub uses_of : DeclarationKind → List (List ℕ) → Option (List ℕ)
 uses_of declares.Variable names = Some (variable_reference (last_of names))
 uses_of declares.Local names = Some (local_reference (last_of names))
@@ -83,11 +83,11 @@ from_registry (Some s) = is_from s.source
     is_from Registry = true
     is_from _ = false
 
--- of a comment that begins with `//`
+-- the findings about a comment that begins with `//`
 abbrev pub slash_findings : {P : Type 0} → Comment P → List (Finding P)
 slash_findings c = says_if c.slashes c.at (codes "line comments should begin with #")
 
--- what a rule reports of one declaration, where all files have these references
+-- the findings of a rule about one declaration, if all files together have these references
 abbrev pub finding : {P : Type 0} → Naming → List (List ℕ) → Rule → Declaration P → List (Finding P)
 finding naming used DocumentedOutputs d =
     says_if (is_kind declares.Output d.kind
@@ -110,7 +110,7 @@ finding naming used CommentSyntax d = []
 finding naming used DeprecatedIndex d = []
 finding naming used DeprecatedInterpolation d = []
 
--- WHAT A RULE REPORTS
+-- THE FINDINGS OF A RULE
 abbrev pub findings : {P : Type 0} → Naming → List (List ℕ) → Facts P → Rule → List (Finding P)
 findings naming used facts CommentSyntax = flat_map slash_findings facts.comments
 findings naming used facts DeprecatedIndex =

@@ -1,4 +1,4 @@
--- How much is kept. Our own words.
+-- The size of the stored facts. Our own definitions.
 use Rattle.std.specs.Prelude.{ℕ, ◌+◌, List, [], ◌∷◌, ◌++◌, Option, Some, None, length}
 use Rattle.std.specs.List.{flat_map}
 use Rattle.tf_facts.specs.Declarations.{Declaration, SourceAt}
@@ -13,7 +13,7 @@ source_places (Some s) = s.at ∷ []
 abbrev pub places_of : {P : Type 0} → Declaration P → List P
 places_of d = d.at ∷ source_places d.source
 
--- HOW MANY ENTRIES are kept: the places of comments, of patterns of tokens and of declarations, and the references
+-- HOW MANY ENTRIES are stored: the places of comments, of patterns of tokens and of declarations, and the references
 abbrev pub entries : Kept → ℕ
 entries kept =
     length kept.facts.comments
@@ -21,9 +21,9 @@ entries kept =
     (length kept.facts.interpolations +
     (length (flat_map places_of kept.facts.declarations) + length kept.references)))
 
--- ---- and how long
+-- ---- the bytes of texts
 
--- the text of a source: the name of its default branch
+-- the text of a source: the name of its default branch, if it has one
 abbrev pub branch_of : Source → List (List ℕ)
 branch_of (DefaultBranch r) = r ∷ []
 branch_of _ = []
@@ -32,7 +32,7 @@ abbrev pub source_texts : {P : Type 0} → Option (SourceAt P) → List (List �
 source_texts None = []
 source_texts (Some s) = branch_of s.source
 
--- the texts of a declaration: its names, and that of its source
+-- the texts of a declaration: its names, and that of its source's branch
 abbrev pub declared_texts : {P : Type 0} → Declaration P → List (List ℕ)
 declared_texts d = d.names ++ source_texts d.source
 
@@ -41,6 +41,6 @@ abbrev pub bytes : List (List ℕ) → ℕ
 bytes [] = 0
 bytes (x ∷ xs) = length x + bytes xs
 
--- HOW MANY BYTES the texts have that are kept: those of the declarations, and the references
+-- HOW MANY BYTES the stored texts have: those of the declarations, and the references
 abbrev pub name_bytes : Kept → ℕ
 name_bytes kept = bytes (flat_map declared_texts kept.facts.declarations) + bytes kept.references

@@ -1,4 +1,4 @@
--- Words for the code's own parts, which its inner contracts use. Nobody has to believe them.
+-- Definitions for the code's own parts, which its inner contracts use. Nobody has to believe them.
 pub mod Entries
 pub mod KeptFacts
 pub mod KeptViews

@@ -1,6 +1,6 @@
 -- The issues of the files of a module: for each rule a set of (file, token, message), without those that a comment
--- silences, and the ordered list of them all, by file, then token, then the name of the rule. An issue's place is that of
--- its token. Our own choice.
+-- silences, and the ordered list of them all, by file, then token, then the name of the rule. The place of an issue is
+-- that of its token. Our own choice.
 use Rattle.std.specs.Prelude.{◌≡◌, ◌<◌, ◌+◌, ◌⊎◌, ◌==◌, ◌&&◌, ◌||◌, ℕ, Bool, not, List, filter, map}
 use Rattle.std.specs.List.{flat_map, list_any}
 use Rattle.tf_rules.specs.Ordered.{SameMembers, Ascends}
@@ -24,7 +24,7 @@ pub record File : Type 0 where
   pub number : ℕ
   pub source : Scanned
 
--- where a token is
+-- the place of a token
 pub record Place : Type 0 where
   pub file : ℕ
   pub token : ℕ
@@ -35,7 +35,7 @@ pub record Issue : Type 0 where
   pub rule : Rule
   pub message : List ℕ
 
--- what is asked for: the rules, each once, in the order of their names, and the naming
+-- the request: the rules, each once, in the order of their names, and the naming
 pub record Asked : Type 0 where
   pub rules : List Rule
   pub naming : Naming
@@ -62,12 +62,12 @@ all_references files = flat_map (λ file. references (tokens_of file)) files
 abbrev pub issue_in : File → Rule → Finding ℕ → Issue
 issue_in file rule f = record { place = place_in file f.at; rule = rule; message = f.message }
 
--- what a rule reports in a file of the module
+-- the issues of a rule in a file of the module
 abbrev pub issues_in : Asked → List (List ℕ) → Rule → File → List Issue
 issues_in asked used rule file =
     map (issue_in file rule) (findings asked.naming used (facts_of (tokens_of file)) rule)
 
--- all that the rules report, silenced or not
+-- the issues of all rules, silenced or not
 abbrev pub reported_issues : Asked → List File → List Issue
 reported_issues asked files =
     flat_map (λ rule. flat_map (issues_in asked (all_references files) rule) files) asked.rules
@@ -99,16 +99,16 @@ abbrev pub issues : Asked → List File → List Issue
 issues asked files =
     filter (λ i. not (is_silenced (all_comments files) i)) (reported_issues asked files)
 
--- what the order goes by
+-- the key for the order
 pub record Key : Type 0 where
   pub file : ℕ
   pub token : ℕ
-  pub rank : ℕ  -- of the rule, in the order of the names
+  pub rank : ℕ  -- the rule's rank in the order of the names
 
 abbrev pub key_of : Issue → Key
 key_of i = record { file = i.place.file; token = i.place.token; rank = rank i.rule }
 
--- in a lower file; or in the same file at an earlier token; or at the same token, by a rule whose name comes first
+-- a lower file; or the same file and an earlier token; or the same token and a rule whose name comes first
 abbrev pub Precedes : Key → Key → Type 0
 Precedes a b =
     (a.file < b.file)

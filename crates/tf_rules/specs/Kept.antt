@@ -1,4 +1,4 @@
--- What is kept of the files of a module: places, names and flags, and no source. The issues are a function of it.
+-- The stored facts of a module's files: places, names and flags, and no source. The issues are a function of them.
 use Rattle.std.specs.Prelude.{ℕ, ◌++◌, List, [], Option, option_map, map, fold}
 use Rattle.std.specs.Str.{bytes_eq}
 use Rattle.indexmap.specs.IndexSet.{insert_all}
@@ -11,7 +11,7 @@ use Rattle.rule_set.specs.declared.rule.Rule.{Rule}
 
 pub record Kept : Type 0 where
   pub facts : Facts Place
-  pub references : List (List ℕ)  -- each once
+  pub references : List (List ℕ)  -- each reference once
 
 -- ---- facts at other places
 
@@ -38,7 +38,7 @@ facts_at f k =
       declarations = map (declaration_at f) k.declarations;
     }
 
--- ---- of one file, and of more
+-- ---- one file, and several
 
 abbrev pub nothing : Kept
 nothing =
@@ -57,18 +57,18 @@ both a b =
       declarations = a.declarations ++ b.declarations;
     }
 
--- with one file more
+-- the stored facts with those of one more file
 abbrev pub with_file : Kept → File → Kept
 with_file kept file = record {
   facts = both kept.facts (facts_at (place_in file) (facts_of (tokens_of file)));
   references = insert_all bytes_eq kept.references (references (tokens_of file));
 }
 
--- WHAT IS KEPT of these files
+-- THE STORED FACTS of these files
 abbrev pub kept_of : List File → Kept
 kept_of files = fold with_file nothing files
 
--- ---- what is reported
+-- ---- issues
 
 abbrev pub issue_at : Rule → Finding Place → Issue
 issue_at rule f = record { place = f.at; rule = rule; message = f.message }

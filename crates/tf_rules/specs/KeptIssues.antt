@@ -1,4 +1,4 @@
--- The issues once more, of what is kept: for the law that what is kept of the files is enough.
+-- The issues once more, of stored facts: for the law that the stored facts of the files are enough.
 use Rattle.std.specs.Prelude.{not, List, filter, map}
 use Rattle.std.specs.List.{flat_map}
 use Rattle.tf_rules.specs.Findings.{findings}

@@ -1,25 +1,25 @@
-//! Issues before they are shown, by the place of their token.
+//! Issues before they are shown, with the places of their tokens.
 
 use crate::kept::{KeptDeclaration, TokenPlace};
 use crate::naming::Naming;
 use rule_set::Rule;
 
-/// What a rule says of a token, by its parts: no text is put together of an issue that isn't shown.
+/// A rule's message about a token, in parts: the text of an issue that isn't shown is never built.
 #[derive(Clone, Copy)]
 pub enum Said<'f> {
     /// A text of the rule's own.
     Fixed(&'static str),
-    /// `KIND "NAME` of a declaration, and what follows from the closing quote on.
+    /// `KIND "NAME` of a declaration, and the text from the closing quote on.
     About(&'f KeptDeclaration, &'static str),
-    /// That the source of a module uses this default branch.
+    /// The source of the module uses this default branch.
     DefaultBranch(&'f KeptDeclaration, &'static str),
-    /// That a name must have this naming.
+    /// The name must have this naming.
     Misnamed(&'f KeptDeclaration, Naming),
-    /// That nothing refers to a declaration.
+    /// Nothing refers to the declaration.
     Unused(&'f KeptDeclaration),
 }
 
-/// What a rule says of a token.
+/// The finding of a rule about a token.
 #[derive(Clone, Copy)]
 pub struct Finding<'f> {
     pub at: TokenPlace,

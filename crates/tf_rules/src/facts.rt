@@ -1,4 +1,4 @@
-//! What is kept of the files of a module, and the issues that it gives.
+//! The stored facts of a module's files, and their issues.
 
 ghost use Rattle.std.specs.Prelude.{◌≡◌, ◌≤◌, ◌<◌, ◌+◌, ◌++◌, List, IsPermutation, map, IfOk, OnOk, OnErr};
 ghost use Rattle.std.specs.List.{flat_map, list_any};
@@ -31,7 +31,7 @@ use std::marker::Model;
 use std::mem::swap;
 use tf_facts::{Hashing, TextSet, add_references_of};
 
-/// What is kept of the files of a module: places, names and flags, and no source.
+/// The stored facts of a module's files: places, names and flags, and no source.
 #[derive(Drop)]
 pub struct Facts {
     alloc: Global,
@@ -60,7 +60,8 @@ impl Model for Facts {
     } };
 }
 
-/// Makes room in a list for so many more. An empty list needs none, since the list of more takes its place.
+/// Makes room in a list for this many more elements. An empty list needs none, since the list of new elements replaces
+/// it.
 fn make_room<T>(list: &mut Vec<T>, more: usize) -> Result<(), AllocError>
     ensures same { list.new.items ≡ list.old.items }
     ensures room { OnOk result (0 < vec_len list.new
@@ -72,7 +73,7 @@ fn make_room<T>(list: &mut Vec<T>, more: usize) -> Result<(), AllocError>
     list.reserve(more)
 }
 
-/// Moves all that is in one list after what is in another, which is empty or has room for it.
+/// Moves all elements of one list to the end of another, which is empty or has room for them.
 fn move_to_end<T>(from: &mut Vec<T>, into: &mut Vec<T>)
     requires { 0 < vec_len into.old → vec_len into.old + vec_len from.old ≤ vec_capacity into.old }
     ensures { into.new.items ≡ into.old.items ++ from.old.items }
@@ -86,7 +87,7 @@ fn move_to_end<T>(from: &mut Vec<T>, into: &mut Vec<T>)
     };
 }
 
-/// Whether a rule that goes by declarations is asked for.
+/// Whether a rule about declarations is requested.
 fn asks_of_declarations(rules: RuleSet) -> bool
     ensures { result ≡ list_any (holds rules) declared_rules }
 {
@@ -121,7 +122,7 @@ impl Facts {
         })
     }
 
-    /// Keeps what was found in a file, or nothing of it.
+    /// Stores the facts of a file, or none of them.
     fn keep(
         &mut self,
         accepted: &Accepted<'_, '_>,
@@ -146,7 +147,7 @@ impl Facts {
         Ok(())
     }
 
-    /// Keeps what the rules need of a file of this outline.
+    /// Stores the facts of a file with this outline.
     fn add_outlined(
         &mut self,
         number: u32,
@@ -162,8 +163,8 @@ impl Facts {
         self.keep(accepted, items, &mut kept)
     }
 
-    /// Keeps what the rules need of one file more, whose number is above those of the files before it. On refusal the
-    /// facts are as they were.
+    /// Stores the facts of one more file, whose number is above those of the files before it. A refusal leaves the
+    /// stored facts unchanged.
     pub fn add_file(&mut self, number: u32, accepted: &Accepted<'_, '_>) -> Result<(), AllocError>
         ensures ok { OnOk result (self.new
             ≡ with_file self.old (record { number = number; source = accepted.now })) }
@@ -173,7 +174,7 @@ impl Facts {
         self.add_outlined(number, accepted, &items)
     }
 
-    /// Puts what is said of comments after these entries, where it is asked for.
+    /// Pushes the issues about comments, if they are requested.
     fn push_slash_comments<'f>(
         &'f self,
         settings: &Settings,
@@ -188,7 +189,7 @@ impl Facts {
         push_comments(&self.comments, entries)
     }
 
-    /// Puts what is said of dots before numbers after these entries, where it is asked for.
+    /// Pushes the issues about dots before numbers, if they are requested.
     fn push_indexes<'f>(
         &'f self,
         settings: &Settings,
@@ -208,7 +209,7 @@ impl Facts {
         )
     }
 
-    /// Puts what is said of interpolations alone after these entries, where it is asked for.
+    /// Pushes the issues about interpolations alone, if they are requested.
     fn push_interpolations<'f>(
         &'f self,
         settings: &Settings,
@@ -228,7 +229,7 @@ impl Facts {
         )
     }
 
-    /// Puts what is said of declarations after these entries, as far as it is asked for.
+    /// Pushes the issues about declarations, as far as they are requested.
     fn push_declared<'f>(
         &'f self,
         settings: &Settings,
@@ -250,8 +251,8 @@ impl Facts {
         )
     }
 
-    /// All that those rules report that are asked for, silenced or not: first by rules, then by declarations. A sort
-    /// follows, so any order will do, and this one is nearly sorted.
+    /// The issues of all requested rules, silenced or not: first by rules, then by declarations. They are sorted
+    /// afterwards, so any order is right, and this one is nearly sorted.
     fn reported_entries<'f>(&'f self, settings: &Settings) -> Result<Vec<Entry<'f>>, AllocError>
         ensures { IfOk result (λ entries. IsPermutation (flat_map (λ rule. map (issue_at rule)
             (findings settings.now.naming self.now.references self.now.facts rule))
@@ -265,8 +266,8 @@ impl Facts {
         Ok(entries)
     }
 
-    /// The issues of the files, by file, then token, then the name of the rule. No message is put together: a list tells
-    /// each by pieces of what is kept.
+    /// The issues of the files, by file, then token, then the name of the rule. No message is built: the list gives
+    /// each message in parts, which are texts of the stored facts.
     pub fn issue_list(&self, settings: &Settings) -> Result<IssueList<'_>, AllocError>
         ensures { (files : List File) → self.now ≡ kept_of files → Rising files
             → IfOk result (λ issues. AreIssues (asked_of settings.now) files issues) }
@@ -278,7 +279,7 @@ impl Facts {
         Ok(IssueList::new(shown))
     }
 
-    /// The same issues, each with a message that stands by itself.
+    /// The issues of the files, in the same order, each with a message that owns its text.
     pub fn issues(&self, settings: &Settings) -> Result<Vec<Issue>, AllocError>
         ensures { (files : List File) → self.now ≡ kept_of files → Rising files
             → IfOk result (λ issues. AreIssues (asked_of settings.now) files issues.items) }

@@ -1,4 +1,4 @@
-//! What the rules report of one declaration, put after what they reported of others.
+//! The findings of the rules about one declaration, which are pushed after those about others.
 
 ghost use Rattle.std.specs.Prelude.{◌≡◌, ◌++◌, ◌∷◌, ◌&&◌, [], map, not, IfOk, OnOk};
 ghost use Rattle.std.specs.List.{list_any};
@@ -33,7 +33,7 @@ fn is_variable(kind: DeclarationKind) -> bool
     matches!(kind, DeclarationKind::Variable)
 }
 
-/// Puts what is said of a place last.
+/// Pushes a message about a place.
 #[inline(always)]
 fn put<'f>(
     entries: &mut Vec<Entry<'f>>,
@@ -49,8 +49,7 @@ fn put<'f>(
     Ok(())
 }
 
-/// Puts that a declaration lacks what it should have, where it does. The rest of the text begins with the quote after its
-/// name.
+/// Pushes that a declaration lacks an attribute, if it does. The rest of the text begins with the quote after its name.
 #[inline(always)]
 fn push_lacking<'f>(
     entries: &mut Vec<Entry<'f>>,
@@ -76,7 +75,7 @@ fn push_lacking<'f>(
     )
 }
 
-/// Puts that a module's source is not pinned, where it isn't.
+/// Pushes that a module's source is not pinned, if it isn't.
 fn push_unpinned_by<'f>(
     entries: &mut Vec<Entry<'f>>,
     rule: Rule,
@@ -133,7 +132,7 @@ fn from_registry(found: Option<KeptSource>) -> bool
     }
 }
 
-/// Puts that a name doesn't have the naming, where it doesn't.
+/// Pushes that a name doesn't have the naming, if it doesn't.
 #[inline(always)]
 fn push_misnamed<'f>(
     entries: &mut Vec<Entry<'f>>,
@@ -157,7 +156,7 @@ fn push_misnamed<'f>(
     )
 }
 
-/// Whether there is no reference of this text, which is put together in the room of another.
+/// Whether there is no reference with this text, which is built in the room of another text.
 fn is_unknown(
     used: &TextSet,
     front: &str,
@@ -204,7 +203,7 @@ fn is_unused_data(used: &TextSet, names: &KeptNames, text: &mut String) -> Resul
     }
 }
 
-/// Whether there is no reference to what could be referred to.
+/// Whether there is no reference to a declaration that can be referred to.
 fn is_unused(
     used: &TextSet,
     declaration: &KeptDeclaration,
@@ -223,7 +222,7 @@ fn is_unused(
     }
 }
 
-/// Puts that nothing refers to a declaration, where nothing does.
+/// Pushes that nothing refers to a declaration, if nothing does.
 #[inline(always)]
 fn push_unused<'f>(
     entries: &mut Vec<Entry<'f>>,
@@ -243,8 +242,8 @@ fn push_unused<'f>(
     put(entries, rule, declaration.at, Said::Unused(declaration))
 }
 
-/// Puts what a rule reports of a declaration last, where all files have these references. A reference to it is put together
-/// in the room of another text. Most rules report nothing of most declarations, so nothing is handed out here.
+/// Pushes the finding of a rule about a declaration, if all files together have these references. A reference to it is
+/// built in the room of another text. It returns no finding, since most rules have none about most declarations.
 #[inline(always)]
 fn push_finding<'f>(
     naming: Naming,
@@ -296,14 +295,14 @@ fn push_finding<'f>(
     }
 }
 
-/// What is asked for, and the references of all files.
+/// The requested settings, and the references of all files.
 #[derive(Clone, Copy)]
 pub struct Inputs<'a> {
     pub settings: &'a Settings,
     pub used: &'a TextSet,
 }
 
-/// Puts what a rule reports of a declaration last, where it is asked for.
+/// Pushes the finding of a rule about a declaration, if the rule is requested.
 #[inline(always)]
 fn push_if_requested<'f>(
     inputs: &Inputs<'_>,
@@ -330,9 +329,9 @@ fn push_if_requested<'f>(
     )
 }
 
-/// Puts what the rules that are asked for report of a declaration last. No loop goes over the rules, so that each is known
-/// where its test is made. The source of a module stands after all else that is reported, so its rule comes last: the
-/// entries of declarations in order are then sorted.
+/// Pushes the findings of the requested rules about a declaration. There is no loop over the rules, so each rule is
+/// known where its test is made. The source of a module has the last place of all that is reported, so its rule comes
+/// last: then the entries of declarations in order are sorted.
 #[inline(always)]
 pub fn push_findings<'f>(
     inputs: &Inputs<'_>,

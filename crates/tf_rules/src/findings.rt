@@ -1,4 +1,4 @@
-//! What the rules report of all that is kept.
+//! The findings of the rules in all stored facts.
 
 ghost use Rattle.std.specs.Prelude.{◌≡◌, ◌++◌, map, OnOk};
 ghost use Rattle.std.specs.List.{flat_map};
@@ -15,7 +15,7 @@ use rule_set::Rule;
 use std::alloc::{AllocError, Global};
 use tf_facts::TextSet;
 
-/// Puts what was found last, where something was.
+/// Pushes a finding, if there is one.
 fn put<'f>(
     entries: &mut Vec<Entry<'f>>,
     rule: Rule,
@@ -35,7 +35,7 @@ fn put<'f>(
     Ok(())
 }
 
-/// What is said of a comment that begins with `//`.
+/// The finding about a comment, if that begins with `//`.
 fn slash_comment_finding(comment: KeptComment) -> Option<Finding<'static>>
     ensures { finding_listed result ≡ slash_findings (kept_comment comment) }
 {
@@ -48,7 +48,7 @@ fn slash_comment_finding(comment: KeptComment) -> Option<Finding<'static>>
     })
 }
 
-/// Puts what is said of comments last.
+/// Pushes the findings about comments.
 pub fn push_comments(
     comments: &[KeptComment],
     entries: &mut Vec<Entry<'_>>,
@@ -64,7 +64,7 @@ pub fn push_comments(
     Ok(())
 }
 
-/// Puts an issue for each of these places last, with this text.
+/// Pushes an issue with this text for each of these places.
 pub fn push_places(
     rule: Rule,
     text: &'static str,
@@ -85,8 +85,8 @@ pub fn push_places(
     Ok(())
 }
 
-/// Puts what the rules that are asked for report of declarations last, declaration by declaration, where all files have
-/// these references. So each declaration is read once, and not once for each rule.
+/// Pushes the findings of the requested rules about declarations, declaration by declaration, if all files together
+/// have these references. So each declaration is read once, and not once for each rule.
 pub fn push_declarations<'f>(
     alloc: Global,
     settings: &Settings,

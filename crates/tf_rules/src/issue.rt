@@ -1,4 +1,4 @@
-//! What is reported of a module, with messages that stand by themselves.
+//! The issues of a module, with messages that own their texts.
 
 ghost use Rattle.std.specs.Prelude.{◌≡◌};
 ghost use Rattle.std.specs.String.{string_bytes};
@@ -7,7 +7,7 @@ use hcl_tokens::Position;
 use rule_set::Rule;
 use std::marker::Model;
 
-/// What an issue says, in UTF-8 and without a line's end.
+/// The message of an issue, in UTF-8 and without a line's end.
 #[derive(Drop)]
 pub struct Message {
     text: String,
@@ -38,7 +38,7 @@ impl Message {
     }
 }
 
-/// An issue: the number of its file, the position of its token, the rule that reports it, and what it says.
+/// An issue: the number of its file, the position of its token, the rule that reports it, and its message.
 #[derive(Drop)]
 pub struct Issue {
     pub file: u32,

@@ -17,7 +17,7 @@ fn entry_at<'f>(entries: &[Entry<'f>], i: usize) -> Entry<'f>
     entries[i]
 }
 
-/// An entry as it is given.
+/// An entry as a list gives it.
 #[inline(always)]
 fn listed_issue_of<'f>(entry: Entry<'f>) -> ListedIssue<'f>
     ensures { listed_issue result ≡ shown_of entry.entry }
@@ -30,7 +30,7 @@ fn listed_issue_of<'f>(entry: Entry<'f>) -> ListedIssue<'f>
     }
 }
 
-/// The issues of a module in order. Their messages are told by pieces, which stand in the facts.
+/// The issues of a module in order. Their messages are in parts, which are texts of the stored facts.
 #[derive(Drop)]
 pub struct IssueList<'f> {
     entries: Vec<Entry<'f>>,

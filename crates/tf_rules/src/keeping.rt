@@ -1,4 +1,4 @@
-//! What was found in a file, as it is kept: with places, and names of its own.
+//! The facts that were found in a file, as they are stored: with places, and with names that own their texts.
 
 ghost use Rattle.std.specs.Prelude.{◌≡◌, ◌<◌, [], ◌∷◌, ℕ, length, map, slice_get, Some, IfOk, OnOk};
 ghost use Rattle.std.specs.List.{flat_map};
@@ -45,7 +45,7 @@ fn kept_comment(comment: FoundComment, locator: &mut Locator<'_, '_>) -> KeptCom
     }
 }
 
-/// Comments as they are kept.
+/// Comments as they are stored.
 pub fn kept_comments(
     alloc: Global,
     comments: &[FoundComment],
@@ -119,7 +119,7 @@ fn kept_declaration(
     })
 }
 
-/// Declarations as they are kept.
+/// Declarations as they are stored.
 pub fn kept_declarations(
     alloc: Global,
     declarations: &[Declared<'_>],

@@ -1,11 +1,11 @@
-//! What is kept of the files of a module: places, names and flags, and no source.
+//! The stored facts of a module's files: places, names and flags, and no source.
 
 use arrayvec::ArrayString;
 use hcl_tokens::Position;
 use rule_set::RuleSet;
 use tf_facts::{DeclarationKind, ModuleSource};
 
-/// The place of a token: the number of its file, its own, and where it begins.
+/// The place of a token: the number of its file, its own number, and its position.
 #[derive(Clone, Copy)]
 pub struct TokenPlace {
     pub file: u32,
@@ -21,17 +21,17 @@ pub struct KeptComment {
     pub silences: RuleSet,
 }
 
-/// How many bytes a name has at most that is kept in place.
+/// How many bytes a name that is stored in place has at most.
 const SHORT: usize = 24;
 
-/// A name. Most are short and are kept in place, so that they take no memory of their own.
+/// A name. Most names are short and are stored in place, so that they take no memory of their own.
 #[derive(Drop)]
 pub enum KeptName {
     Short(ArrayString<SHORT>),
     Long(String),
 }
 
-/// Up to two labels, or more, which declare nothing.
+/// At most two labels, or more, which declare nothing.
 #[derive(Drop)]
 pub enum KeptNames {
     None,

@@ -1,4 +1,4 @@
-//! What is kept of one file, references aside.
+//! The stored facts of one file, except references.
 
 ghost use Rattle.std.specs.Prelude.{◌≡◌, IfOk};
 ghost use Rattle.hcl_grammar.specs.Items.{outline};
@@ -14,7 +14,7 @@ use hcl_syntax::{Accepted, Outline};
 use std::alloc::{AllocError, Global};
 use tf_facts::facts_of;
 
-/// What is kept of one file, references aside.
+/// The stored facts of one file, except references.
 #[derive(Drop)]
 pub struct KeptFile {
     pub comments: Vec<KeptComment>,
@@ -23,7 +23,7 @@ pub struct KeptFile {
     pub declarations: Vec<KeptDeclaration>,
 }
 
-/// What is kept of the file of this number, by its outline. Each list takes one walk through the file.
+/// The stored facts of the file of this number, by its outline. Each list takes one walk through the file.
 pub fn kept_file(
     alloc: Global,
     number: u32,

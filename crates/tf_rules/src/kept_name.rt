@@ -1,4 +1,4 @@
-//! Names as they are kept.
+//! Names as they are stored.
 
 ghost use Rattle.std.specs.Prelude.{◌≡◌, IfOk};
 ghost use Rattle.tf_rules.specs.Inner.KeptViews.{kept_name};
@@ -18,7 +18,7 @@ impl KeptName {
         }
     }
 
-    /// Its text.
+    /// The text of the name.
     pub fn as_str(&self) -> &str
         ensures { result.now ≡ kept_name self.now }
     {

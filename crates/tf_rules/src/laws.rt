@@ -1,4 +1,4 @@
-//! What is proved of the definitions alone. No program calls these functions: their contracts are the laws.
+//! Laws about the definitions alone. No program calls these functions: their contracts are the laws.
 
 ghost use Rattle.std.specs.Prelude.{◌≡◌, ◌++◌, ◌∷◌, ◌+◌, ◌≤◌, ◌<◌, [], ℕ, List, length};
 ghost use Rattle.std.specs.List.{AllZip};
@@ -13,44 +13,44 @@ ghost use Rattle.tf_rules.specs.KeptIssues.{issues_of_kept};
 
 pub use tf_facts::laws::variable_blocks_apart;
 
-/// What is kept of files and one more is a function of what is kept of the files, and of that one.
+/// The stored facts of files and one more are a function of the stored facts of the files, and of that one.
 pub fn kept_of_more()
     ensures { (files : List File) (file : File)
         → kept_of (files ++ file ∷ []) ≡ with_file (kept_of files) file }
 {}
 
-/// Of one file more no more entries are kept, of all kinds together, than it has tokens.
+/// One more file adds at most as many stored entries, of all kinds together, as it has tokens.
 pub fn stored_entries_bounded()
     ensures { (kept : Kept) (file : File)
         → entries (with_file kept file) ≤ entries kept + length file.source.tokens }
 {}
 
-/// Of one file more, scanned and accepted, the texts that are kept have no more bytes than the file.
+/// One more file that is scanned and accepted adds stored texts with at most as many bytes as the file.
 pub fn stored_names_bounded()
     ensures { (kept : Kept) (file : File) → Scans file.source.text file.source.tokens
         → IsAccepted file.source.tokens
         → name_bytes (with_file kept file) ≤ name_bytes kept + length file.source.text }
 {}
 
-/// The issues of files are a function of what is kept of them.
+/// The issues of files are a function of their stored facts.
 pub fn issues_of_kept()
     ensures { (asked : Asked) (files : List File)
         → issues asked files ≡ issues_of_kept asked (kept_of files) }
 {}
 
-/// Files have one ordered list of issues at most.
+/// Files have at most one ordered list of issues.
 pub fn one_report()
     ensures { (asked : Asked) (files : List File) (report other : List Issue)
         → IsReport asked files report → IsReport asked files other → report ≡ other }
 {}
 
-/// Files with the same tokens, by kind and text, on the same lines have the same issues, columns aside.
+/// Files with the same tokens, by kind and text, on the same lines have the same issues, apart from columns.
 pub fn issues_agree()
     ensures { (asked : Asked) (files others : List File) → AllZip SameTokens files others
         → told_all (issues asked files) ≡ told_all (issues asked others) }
 {}
 
-/// The ordered lists of issues of files with the same tokens on the same lines are the same, columns aside.
+/// Files with the same tokens on the same lines have the same ordered list of issues, apart from columns.
 pub fn reports_agree()
     ensures { (asked : Asked) (files others : List File) (report other : List Issue)
         → AllZip SameTokens files others

@@ -1,7 +1,8 @@
 //! Ten rules for the files of a Terraform module.
 //!
-//! [`Facts`] keeps what the rules need of each file, as `tf_facts` finds it, and lists the issues of all. What the rules
-//! report is defined in `specs`, with laws in the module [`laws`]. The rules and their sets are re-exported.
+//! [`Facts`] stores the facts of each file that the rules need, as `tf_facts` finds them, and lists the issues of all
+//! files. The definitions of the rules are in `specs`, with laws in the module [`laws`]. The rules and their sets are
+//! re-exported.
 #![tactic(auto)]
 
 mod cursor;

@@ -4,7 +4,7 @@ use crate::message_parts::MessageParts;
 use hcl_tokens::Position;
 use rule_set::Rule;
 
-/// An issue: the number of its file, the position of its token, the rule that reports it, and the pieces of what it says.
+/// An issue: the number of its file, the position of its token, the rule that reports it, and the parts of its message.
 #[derive(Clone, Copy)]
 pub struct ListedIssue<'f> {
     pub file: u32,

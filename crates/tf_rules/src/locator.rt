@@ -34,7 +34,7 @@ impl<'t, 's> Model for Locator<'t, 's> {
 }
 
 impl<'t, 's> Locator<'t, 's> {
-    /// At the start of the file of this number.
+    /// A walk at the start of the file of this number.
     pub fn new(file: u32, tokens: &'t Tokens<'s>) -> Locator<'t, 's>
         ensures start { result ≡ record
             { file = record { number = file; source = tokens.now }; reached = 0 } }
@@ -48,7 +48,7 @@ impl<'t, 's> Locator<'t, 's> {
         }
     }
 
-    /// The place of the token of this number, where none after it was asked for.
+    /// The place of the token of this number, if none of a later token was requested.
     pub fn place(&mut self, number: usize) -> TokenPlace
         requires { CanAdvance self.old (number ∷ []) }
         ensures place { place_of result ≡ place_in self.old.file number }

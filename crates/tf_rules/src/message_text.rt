@@ -1,4 +1,4 @@
-//! Messages put together from their pieces.
+//! Messages as texts, from their parts.
 
 ghost use Rattle.std.specs.Prelude.{◌≡◌, ◌++◌, map, IfOk};
 ghost use Rattle.std.specs.List.{concat};

@@ -12,7 +12,7 @@ pub enum Naming {
 }
 
 impl Naming {
-    /// The word by which users ask for it.
+    /// The word by which users request it.
     pub fn text(self) -> &'static str
         ensures { result.now ≡ naming_text self }
     {

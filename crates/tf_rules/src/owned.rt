@@ -1,4 +1,4 @@
-//! Issues with messages that stand by themselves.
+//! Issues with messages that own their texts.
 
 ghost use Rattle.std.specs.Prelude.{◌≡◌, IfOk};
 ghost use Rattle.tf_rules.specs.Answers.{listed_issue};
@@ -21,7 +21,7 @@ fn owned_issue(alloc: Global, listed_issue_of: ListedIssue<'_>) -> Result<Issue,
     })
 }
 
-/// The issues of a list, each with a message that is put together for it.
+/// The issues of a list, each with a message that is built for it.
 pub fn owned_issues(alloc: Global, list: &IssueList<'_>) -> Result<Vec<Issue>, AllocError>
     ensures { IfOk result (λ issues. issues.items ≡ list.now) }
 {

@@ -1,4 +1,4 @@
-//! What is said by rules, piece by piece.
+//! The messages of rules, part by part.
 
 ghost use Rattle.std.specs.Prelude.{◌≡◌, ◌++◌, codes};
 ghost use Rattle.tf_facts.specs.References.{last_of};
@@ -14,7 +14,7 @@ use crate::message_parts::MessageParts;
 use crate::naming::Naming;
 use tf_facts::DeclarationKind;
 
-/// The word for what is declared.
+/// The word for a kind of declaration.
 fn kind_text(kind: DeclarationKind) -> &'static str
     ensures { result.now ≡ kind_text kind }
 {
@@ -28,7 +28,7 @@ fn kind_text(kind: DeclarationKind) -> &'static str
     }
 }
 
-/// The word for what is declared, up to the quote before its name.
+/// The word for a kind of declaration, up to the quote before its name.
 fn before_name(kind: DeclarationKind) -> &'static str
     ensures { result.now ≡ kind_text kind ++ codes " \"" }
 {
@@ -42,7 +42,7 @@ fn before_name(kind: DeclarationKind) -> &'static str
     }
 }
 
-/// The same, where the name is spoken of.
+/// The word for a kind of declaration and `name`, up to the quote before its name.
 fn before_misnamed(kind: DeclarationKind) -> &'static str
     ensures { result.now ≡ kind_text kind ++ codes " name \"" }
 {
@@ -56,7 +56,7 @@ fn before_misnamed(kind: DeclarationKind) -> &'static str
     }
 }
 
-/// From the quote after a name on, that it must have this naming.
+/// The text from the quote after a name on: that it must have this naming.
 fn after_misnamed(naming: Naming) -> &'static str
     ensures { result.now ≡ codes "\" must match " ++ naming_text naming }
 {
@@ -66,7 +66,7 @@ fn after_misnamed(naming: Naming) -> &'static str
     }
 }
 
-/// The last of up to two labels.
+/// The last of at most two labels.
 pub fn last(names: &KeptNames) -> &str
     ensures { result.now ≡ last_of (kept_names names.now) }
 {
@@ -78,7 +78,7 @@ pub fn last(names: &KeptNames) -> &str
     }
 }
 
-/// `KIND "NAME` of a declaration, and what follows from the closing quote on.
+/// `KIND "NAME` of a declaration, and the text from the closing quote on.
 fn about<'f>(declaration: &'f KeptDeclaration, rest: &'static str) -> MessageParts<'f>
     ensures { text_of_parts result
         ≡ kind_text declaration.now.kind
@@ -89,7 +89,7 @@ fn about<'f>(declaration: &'f KeptDeclaration, rest: &'static str) -> MessagePar
     MessageParts::named(front, name, rest)
 }
 
-/// That the source of a module uses a default branch.
+/// The message that the source of a module uses a default branch.
 fn about_branch<'f>(declaration: &'f KeptDeclaration, branch: &'static str) -> MessageParts<'f>
     ensures { text_of_parts result
         ≡ about (kept_declaration declaration.now)
@@ -106,7 +106,7 @@ fn about_branch<'f>(declaration: &'f KeptDeclaration, branch: &'static str) -> M
     }
 }
 
-/// That a name must have a naming.
+/// The message that a name must have a naming.
 fn about_naming<'f>(declaration: &'f KeptDeclaration, naming: Naming) -> MessageParts<'f>
     ensures { text_of_parts result
         ≡ kind_text declaration.now.kind
@@ -119,7 +119,7 @@ fn about_naming<'f>(declaration: &'f KeptDeclaration, naming: Naming) -> Message
     MessageParts::named(front, name, rest)
 }
 
-/// That nothing refers to what has this name.
+/// The message that nothing refers to a declaration with this name.
 fn unused_by_name<'f>(kind: DeclarationKind, name: &'f str) -> MessageParts<'f>
     ensures { text_of_parts result
         ≡ kind_text kind ++ quoting name.now (codes " is declared but not used") }
@@ -128,7 +128,7 @@ fn unused_by_name<'f>(kind: DeclarationKind, name: &'f str) -> MessageParts<'f>
     MessageParts::named(front, name, "\" is declared but not used")
 }
 
-/// That nothing refers to what has these two labels.
+/// The message that nothing refers to a declaration with these two labels.
 fn unused_by_both<'f>(kind: DeclarationKind, first: &'f str, second: &'f str) -> MessageParts<'f>
     ensures { text_of_parts result
         ≡ kind_text kind ++ quoting first.now
@@ -144,7 +144,7 @@ fn unused_by_both<'f>(kind: DeclarationKind, first: &'f str, second: &'f str) ->
     }
 }
 
-/// That nothing refers to what has no name.
+/// The message that nothing refers to a declaration without a name.
 fn unused_by_none(kind: DeclarationKind) -> MessageParts<'static>
     ensures { text_of_parts result ≡ kind_text kind ++ codes " is declared but not used" }
 {
@@ -152,7 +152,7 @@ fn unused_by_none(kind: DeclarationKind) -> MessageParts<'static>
     MessageParts::named(front, "", " is declared but not used")
 }
 
-/// That nothing refers to a declaration.
+/// The message that nothing refers to a declaration.
 fn about_unused<'f>(declaration: &'f KeptDeclaration) -> MessageParts<'f>
     ensures { text_of_parts result
         ≡ kind_text declaration.now.kind
@@ -167,7 +167,7 @@ fn about_unused<'f>(declaration: &'f KeptDeclaration) -> MessageParts<'f>
     }
 }
 
-/// What is said, piece by piece. Whoever asks for it matches on the pieces at once, so they aren't put together.
+/// The message, part by part. Its callers match on the parts at once, so they aren't stored.
 #[inline(always)]
 pub fn message_parts<'f>(said: Said<'f>) -> MessageParts<'f>
     ensures { text_of_parts result ≡ text_of said.entry }

@@ -1,9 +1,9 @@
-//! What is asked of the linter.
+//! The request to the linter.
 
 use crate::naming::Naming;
 use rule_set::RuleSet;
 
-/// The rules that are to be looked at, and how names are to be written.
+/// The rules that are requested, and how names are to be written.
 #[derive(Clone, Copy, Debug, PartialEq, Eq)]
 pub struct Settings {
     pub rules: RuleSet,

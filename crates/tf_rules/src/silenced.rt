@@ -1,4 +1,4 @@
-//! Which rules are silenced on which lines.
+//! The rules that are silenced on each line.
 
 ghost use Rattle.std.specs.Prelude.{◌≡◌, ◌==◌, ◌&&◌, ◌||◌, ◌++◌, ◌∷◌, [], ℕ, List, filter, map, not, IfOk, OnOk};
 ghost use Rattle.tf_facts.specs.Comments.{Comment};
@@ -45,7 +45,7 @@ fn silence(
     Ok(())
 }
 
-/// Silences what a comment does on its own line.
+/// Silences the rules of a comment on its own line.
 fn silence_by(lines: &mut SilencedLines, comment: KeptComment) -> Result<(), AllocError>
     ensures { (comments : List (Comment Place)) → AreSilenced lines.old comments
         → OnOk result (AreSilenced lines.new (comments ++ kept_comment comment ∷ [])) }
@@ -57,7 +57,7 @@ fn silence_by(lines: &mut SilencedLines, comment: KeptComment) -> Result<(), All
     Ok(())
 }
 
-/// What these comments silence on their own lines.
+/// The rules that these comments silence on their own lines.
 pub fn silenced_lines(alloc: Global, comments: &[KeptComment]) -> Result<SilencedLines, AllocError>
     ensures { IfOk result (λ lines. AreSilenced lines (map kept_comment comments.now)) }
 {
@@ -68,7 +68,7 @@ pub fn silenced_lines(alloc: Global, comments: &[KeptComment]) -> Result<Silence
     Ok(lines)
 }
 
-/// Whether an issue is silenced, on its own line or by the line above.
+/// Whether an issue is silenced, on its own line or by a comment on the line above.
 fn is_silenced(lines: &SilencedLines, entry: &Entry<'_>) -> bool
     ensures { (comments : List (Comment Place)) → AreSilenced lines.now comments
         → result ≡ is_silenced comments (issue_of entry.now) }
@@ -83,7 +83,7 @@ fn is_silenced(lines: &SilencedLines, entry: &Entry<'_>) -> bool
     rules_on(lines, place.file, above).holds(entry.rule)
 }
 
-/// Puts an entry last, where it isn't silenced.
+/// Pushes an entry, unless it is silenced.
 fn push_unsilenced<'f>(
     entry: Entry<'f>,
     lines: &SilencedLines,
@@ -118,8 +118,8 @@ fn without_silenced<'f>(
     Ok(shown)
 }
 
-/// The entries that aren't silenced. In most modules no comment silences anything, and then no line is looked up: they are
-/// the list itself.
+/// The entries that aren't silenced. In most modules no comment silences anything; then no line is looked up, and the
+/// entries are the list itself.
 pub fn shown_entries<'f>(
     alloc: Global,
     entries: Vec<Entry<'f>>,

@@ -187,7 +187,7 @@ fn run_named<T: WritableTree, P: Progress, O: ByteSink, E: ByteSink>(
     }
 }
 
-/// Shows the wrong word of a line that this program doesn't have, and the usage.
+/// Shows the wrong word of a wrong line, and the usage.
 fn bad_line<O: ByteSink, E: ByteSink>(
     alloc: Global,
     words: &[&str],

@@ -21,9 +21,9 @@ pub fn failures_are_real()
         → (end.out.failed || end.err.failed) ≡ false → list_any is_failed run.answers ≡ true }
 {}
 
-/// Unless something fails, a run is a function of the found names and of the files: two runs over the same files,
-/// neither of which has status 4, have the same output for each name, the same status, and the same files afterwards.
-/// If neither run narrowed the rights to a file, their messages about each name are the same too.
+/// Unless something fails, a run is a function of the found names and of the files: two runs over the same files, both
+/// with another status than 4, have the same output for each name, the same status, and the same files afterwards. If
+/// neither run narrowed the rights to a file, their messages about each name are the same too.
 pub fn one_run()
     ensures { (shows : Bool) (mode : Mode) (found : List Found)
         (last other_last : List Outcome → List ℕ)

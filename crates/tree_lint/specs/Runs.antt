@@ -36,7 +36,7 @@ is_some xs = not (length xs == 0)
 abbrev pub shown_issue : List (List ℕ) → List (List ℕ) → Issue → List ℕ
 shown_issue names texts i = issue_line names i ++ snippet (get_or texts i.file []) i.at
 
--- the report of what is found in files of these names: that of `tfrules`, with these lines below if they are shown
+-- the report on linted files with these names: that of `tfrules`, with these lines below if they are shown
 abbrev pub report_of : Bool → List Name → Linted → List ℕ
 report_of shows names linted =
     if shows then report_by (shown_issue names linted.texts) linted.issues
@@ -71,8 +71,8 @@ abbrev pub remarks_by : List Name → Linted → List Remark
 remarks_by names linted =
     map (issue_remark names) linted.issues ++ map (comment_remark names) linted.comments
 
--- the output for what is found in a module, after the outputs of others or as the first: a report of its issues, or its
--- remarks in a form
+-- the output for a linted module, after the outputs of others or as the first: a report of its issues, or its remarks
+-- in a form
 abbrev pub linted_output : Option Form → Bool → Bool → Module → Linted → List ℕ
 linted_output None shows is_after m linted =
     after_empty_line is_after (module_report shows m linted)

@@ -35,8 +35,8 @@ names_in m = map string_bytes m.files.items
 
 -- ---- its files
 
--- what is found in a module: its issues, its comments that are meant to silence a rule and don't, and the texts of its
--- files, if lines of them are shown
+-- the result for a linted module: its issues, its comments that are meant to silence a rule and don't, and the texts of
+-- its files, if lines of them are shown
 pub record Linted : Type 0 where
   pub issues : List Issue
   pub comments : List CommentFault

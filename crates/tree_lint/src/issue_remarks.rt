@@ -1,4 +1,4 @@
-//! What is found in a module, as remarks.
+//! The issues and the comments of a module, as remarks.
 
 ghost use Rattle.std.specs.Prelude.{◌≡◌, ◌++◌, [], IfOk, OnOk, Some, get_or, map, string_bytes};
 ghost use Rattle.comment_faults.specs.CommentFaults.{fault_view};
@@ -80,7 +80,7 @@ fn add_comments<'a>(
     Ok(())
 }
 
-/// What is found in the files of these names, in a form, after the outputs of others or as the first.
+/// The remarks of linted files with these names, in a form, after the outputs of others or as the first.
 pub(crate) fn linted_text(
     alloc: Global,
     form: Form,

@@ -1,4 +1,4 @@
-//! What is found in a module.
+//! The result for a linted module.
 
 ghost use Rattle.std.specs.Prelude.{◌≡◌, Ok, Some};
 ghost use Rattle.tree_lint.specs.Runs.{has_output, verdict_status};
@@ -13,7 +13,7 @@ use lint_forms::Form;
 use tf_rules::IssueList;
 use tfrules_command::report::has_severe;
 
-/// What is found in a module.
+/// The result for a linted module.
 #[derive(Clone, Copy)]
 pub(crate) struct Linted<'a, 'f> {
     pub issues: &'a IssueList<'f>,

@@ -35,7 +35,7 @@ fn stop_of(alloc: Global, loaded: Result<Source, LoadError>) -> Result<Source, S
 }
 
 impl<T: Tree + Drop> ModuleTree<T> {
-    /// The files of a tree, none of which is open. The names in them are hashed as `hashing` says.
+    /// The files of a tree, with no file open. The names in them are hashed as `hashing` says.
     pub fn new(tree: T, hashing: Hashing) -> ModuleTree<T>
         ensures tree { result.tree ≡ tree }
         ensures hashing { result.hashing ≡ hashing }

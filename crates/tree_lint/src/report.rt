@@ -151,7 +151,7 @@ fn show_text<O: ByteSink>(
     Ok(())
 }
 
-/// Writes what is found in a module, in a form.
+/// Writes the result for a module, in a form.
 fn show_form<O: ByteSink>(
     alloc: Global,
     form: Form,
@@ -170,7 +170,7 @@ fn show_form<O: ByteSink>(
     Ok(())
 }
 
-/// Writes what is found in a module, as a report or in a form.
+/// Writes the result for a module, as a report or in a form.
 fn show_linted<O: ByteSink>(
     alloc: Global,
     task: Task,
@@ -211,7 +211,7 @@ fn tell_comments<E: ByteSink>(
     Ok(())
 }
 
-/// Shows what is found in a module, unless that is nothing.
+/// Shows the result for a module, unless it is empty.
 fn show_some<O: ByteSink, E: ByteSink>(
     alloc: Global,
     task: Task,
@@ -239,7 +239,7 @@ fn show_some<O: ByteSink, E: ByteSink>(
     }
 }
 
-/// Shows what is found in a module.
+/// Shows the result for a module.
 pub(crate) fn show<O: ByteSink, E: ByteSink>(
     alloc: Global,
     task: Task,

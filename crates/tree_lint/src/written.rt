@@ -1,4 +1,4 @@
-//! How to write what is found in modules.
+//! How to write the results for modules.
 
 ghost use Rattle.std.specs.Prelude.{◌≡◌};
 ghost use Rattle.tree_lint.specs.Verdicts.{shows_lines};
@@ -21,7 +21,7 @@ impl Terminals {
     }
 }
 
-/// How to write what is found in modules.
+/// How to write the results for modules.
 #[derive(Clone, Copy, Debug, PartialEq, Eq)]
 pub struct Manner {
     /// The form; none for the reports of `tfrules`.
@@ -29,7 +29,7 @@ pub struct Manner {
     pub terminals: Terminals,
 }
 
-/// How to write what is found in modules, and the head of the output.
+/// How to write the results for modules, and the head of the output.
 #[derive(Clone, Copy)]
 pub struct Written<'h> {
     pub manner: Manner,

@@ -41,7 +41,7 @@ texts_of id rows = unwrap_or (all_of id rows) []
 abbrev pub most_digits : ℕ
 most_digits = 5
 
--- decimal digits, the first of which isn't 0
+-- decimal digits, and the first isn't 0
 abbrev pub is_number : Text → Bool
 is_number text =
     nat_lt 0 (length text)

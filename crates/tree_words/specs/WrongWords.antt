@@ -1,5 +1,5 @@
--- The message for a line that a program doesn't have: the first word that is meant as an option and is none of the
--- program's, what to write instead, and the usage. Our own choice.
+-- The message for a wrong line: the first word that is meant as an option and is none of the program's, what to write
+-- instead, and the usage. Our own choice.
 use Rattle.std.specs.Prelude.{ℕ, ◌==◌, ◌||◌, not, Bool, false, List, [], ◌++◌, Option, Some, None, codes, drop, filter_map, find, option_and_then, slice_get, if◌then◌else◌}
 use Rattle.std.specs.List.{before_first, list_any}
 use Rattle.std.specs.Option.{option_map_or}
@@ -76,6 +76,6 @@ hint_of v word = if is_name v (drop 1 word) then codes "; write -" ++ word else 
 abbrev pub about_word : Vocabulary → Text → List ℕ
 about_word v word = v.error ++ quoted word ++ hint_of v word ++ codes "\n" ++ v.usage
 
--- THE MESSAGE for a line that the program doesn't have: its wrong word, if it has one, and the usage
+-- THE MESSAGE for a wrong line: its wrong word, if it has one, and the usage
 abbrev pub bad_line_words : Vocabulary → List Text → List ℕ
 bad_line_words v texts = option_map_or (about_word v) (wrong_word v texts) v.usage

@@ -1,5 +1,5 @@
 //! The code that the programs for trees share: how they read the words of a line, the names that a call gives, the part
-//! of the found files that is taken, and the message for a line that a program doesn't have.
+//! of the found files that is taken, and the message for a wrong line.
 #![tactic(auto)]
 
 pub mod jobs;

@@ -1,4 +1,4 @@
-//! The word because of which a program doesn't have a line, and the message for the line.
+//! The word that makes a line wrong, and the message for the line.
 
 ghost use Rattle.std.specs.Prelude.{◌≡◌, ◌||◌, ◌++◌, ◌==◌, IfOk, OnOk, false, find, map, option_map, slice_get};
 ghost use Rattle.std.specs.List.{before_first, list_any, position_or_len};
@@ -171,7 +171,7 @@ fn about_word(alloc: Global, of: &Vocabulary, word: &str) -> Result<Vec<u8>, All
     Ok(text)
 }
 
-/// The message for a line that a program doesn't have; the first word is the program's name.
+/// The message for a wrong line; the first word is the program's name.
 pub fn bad_line_text(alloc: Global, of: &Vocabulary, words: &[&str]) -> Result<Vec<u8>, AllocError>
     ensures { IfOk result (λ text. text.items
         ≡ bad_line_words (vocabulary_of of.now) (map (λ word. word.now) words.now)) }

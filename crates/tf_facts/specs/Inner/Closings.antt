@@ -15,7 +15,7 @@ use Rattle.tf_facts.specs.declared.part.Part.TheVariants as part
 abbrev pub quote_from : List Lexeme → ℕ → Bool
 quote_from tokens n = begins_with_close (seen_from tokens n)
 
--- after the closer of the opener at this depth the significant tokens begin with a closing quote
+-- a closing quote follows the closer of an open opener, with `depth` more openers open inside it
 abbrev pub closes_before_quote : List Lexeme → ℕ → ℕ → Bool
 closes_before_quote tokens depth n = begins_with_close (after_closer depth (seen_from tokens n))
 

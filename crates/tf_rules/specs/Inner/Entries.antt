@@ -1,4 +1,4 @@
--- What contracts see of issues before they are shown.
+-- The contracts' views of issues before they are shown.
 use Rattle.std.specs.Prelude.{ℕ, ◌++◌, List, [], ◌∷◌, Option, Some, None, codes, map, if◌then◌else◌}
 use Rattle.std.specs.List.{flat_map}
 use Rattle.std.specs.Ordering.{nat_cmp, ordering_then}
@@ -22,11 +22,11 @@ use Rattle.tf_rules.specs.declared.entry.Said.{Said}
 use Rattle.tf_rules.specs.declared.entry.Said.TheVariants.{Fixed, About, DefaultBranch, Misnamed, Unused}
 use Rattle.tf_facts.specs.References.{last_of}
 
--- a name and the quote before it, where the closing one stands in what follows
+-- a blank, a quote and a name; the closing quote begins the text after it
 abbrev pub opened : List ℕ → List ℕ → List ℕ
 opened name rest = codes " \"" ++ (name ++ rest)
 
--- the text of what is said
+-- the text of a message
 abbrev pub text_of : Said → List ℕ
 text_of (Fixed text) = text.now
 text_of (About d rest) = findings.kind_text d.now.kind ++ opened (last_of (kept_names d.now.names)) rest.now
@@ -40,33 +40,33 @@ issue_of e = record { place = place_of e.at; rule = e.rule; message = text_of e.
 abbrev pub issues_of : List Entry → List Issue
 issues_of entries = map issue_of entries
 
--- as it is shown
+-- the issue of an entry, as it is shown
 abbrev pub shown_of : Entry → shown.Issue
 shown_of e = shown_issue (issue_of e)
 
--- one or none
+-- a list of one finding or none
 abbrev pub finding_listed : Option Finding → List (findings.Finding Place)
 finding_listed None = []
 finding_listed (Some f) = record { at = place_of f.at; message = text_of f.said } ∷ []
 
--- by file, then token, then the name of the rule
+-- the order by file, then token, then the name of the rule
 abbrev pub entry_cmp : Entry → Entry → Ordering
 entry_cmp a b = ordering_then (ordering_then (nat_cmp a.at.file b.at.file) (nat_cmp a.at.token b.at.token)) (nat_cmp (rank a.rule) (rank b.rule))
 
--- ---- what is reported, rule by rule and declaration by declaration
+-- ---- the reports, rule by rule and declaration by declaration
 
--- what a rule reports, where it is asked for
+-- the issues of a rule, if it is requested
 abbrev pub issues_by : Settings → Kept → Rule → List Issue
 issues_by s kept rule = if holds s.rules rule then map (issue_at rule) (findings.findings s.naming kept.references kept.facts rule) else []
 
--- what a rule reports of one declaration, where it is asked for
+-- the issues of a rule about one declaration, if the rule is requested
 abbrev pub issues_if_asked : Settings → List (List ℕ) → Declaration Place → Rule → List Issue
 issues_if_asked s used d rule = if holds s.rules rule then map (issue_at rule) (findings.finding s.naming used rule d) else []
 
--- the rules that go by declarations, that which goes by the source of a module last
+-- the rules about declarations; the rule about a module's source is the last
 abbrev pub declared_rules : List Rule
 declared_rules = DocumentedOutputs ∷ DocumentedVariables ∷ ModuleVersion ∷ NamingConvention ∷ TypedVariables ∷ UnusedDeclarations ∷ ModulePinnedSource ∷ []
 
--- what all of them report of one declaration
+-- the issues of all these rules about one declaration
 abbrev pub issues_declared : Settings → List (List ℕ) → Declaration Place → List Issue
 issues_declared s used d = flat_map (issues_if_asked s used d) declared_rules

@@ -1,4 +1,4 @@
--- What contracts see of what is kept of one file.
+-- The contracts' views of the stored facts of one file.
 use Rattle.std.specs.Prelude.{ℕ, List, map}
 use Rattle.std.specs.Str.{bytes_eq}
 use Rattle.indexmap.specs.IndexSet.{insert_all}
@@ -11,6 +11,6 @@ use Rattle.tf_rules.specs.declared.kept_file.KeptFile.{KeptFile}
 abbrev pub kept_facts : KeptFile → Facts Place
 kept_facts f = record { comments = map kept_comment f.comments.items; indexes = map place_of f.indexes.items; interpolations = map place_of f.interpolations.items; declarations = map kept_declaration f.declarations.items }
 
--- with this found in one file more
+-- the stored facts with those of one more file
 abbrev pub with_found : Kept → Facts Place → List (List ℕ) → Kept
 with_found kept found texts = record { facts = both kept.facts found; references = insert_all bytes_eq kept.references texts }

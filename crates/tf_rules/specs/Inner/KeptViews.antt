@@ -1,4 +1,4 @@
--- What contracts see of what is kept of files.
+-- The contracts' views of the stored facts of files.
 use Rattle.std.specs.Prelude.{ℕ, List, [], ◌∷◌}
 use Rattle.std.specs.Option.{option_map}
 use Rattle.std.specs.String.{string_bytes}

@@ -15,7 +15,7 @@ use Rattle.tree_lint.specs.declared.kept.KeptRefusals.{KeptRefusals}
 use Rattle.tree_lint.specs.declared.linted.Linted as code
 use Rattle.tree_lint.specs.declared.run.Task.{Task}
 
--- the view of what was found in a module
+-- the view of the result for a module
 abbrev pub linted_view : code.Linted → Linted
 linted_view l = record { issues = l.issues.now; comments = map fault_view l.comments.now; texts = l.texts.now }
 
@@ -33,7 +33,7 @@ pub record Shows (task : Task) (m : Module) (P : Verdict → Type 0) (out err : 
   pub issues : ended.issues ≡ issue_count verdict
   pub shown : ended.is_shown ≡ is_shown task.manner.form verdict
 
--- the verdict is what was found in the module, or that memory ran out
+-- the verdict is this result for the module, or that memory ran out
 abbrev pub HasOrNoMemory : Module → Linted → Verdict → Type 0
 HasOrNoMemory m linted v = (v ≡ Ok linted) ⊎ (v ≡ Err (no_memory m ∷ []))
 
