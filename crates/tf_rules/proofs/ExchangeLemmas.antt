@@ -12,7 +12,7 @@ use Rattle.rule_set.specs.declared.rule.Rule.TheVariants.{CommentSyntax, Depreca
 use Rattle.tf_rules.specs.Findings.{finding, findings}
 use Rattle.tf_facts.specs.Declarations.{Declaration}
 use Rattle.tf_rules.specs.Issues.{Issue, Place}
-use Rattle.tf_rules.specs.Kept.{Kept, issue_at}
+use Rattle.tf_rules.specs.Stored.{Stored, issue_at}
 use Rattle.tf_rules.specs.Inner.Entries.{declared_rules, issues_by, issues_declared, issues_if_asked}
 use Rattle.tf_rules.specs.declared.settings.Settings.{Settings}
 use Rattle.tf_rules.proofs.EntryLemmas.{put_passing}
@@ -76,7 +76,7 @@ if_asked : {A X Y : Type 0} (b : Bool) (g : X → Y) (f : A → List X) (xs : Li
 if_asked true g f xs = map-flat_map g f xs
 if_asked false g f xs = sym (nothing_put xs)
 
-module _ (s : Settings) (kept : Kept) where
+module _ (s : Settings) (kept : Stored) where
   abbrev by_declarations : Rule → List Issue
   by_declarations rule = flat_map (λ d. issues_if_asked s kept.references d rule) kept.facts.declarations
 

@@ -12,7 +12,7 @@ use Rattle.tf_facts.specs.Facts.{Facts}
 use Rattle.tf_rules.specs.Findings.{Finding, findings, finding, says_if, says_of, slash_findings, about, unpinned_findings, unpinned_findings_by, from_registry, is_unused, uses_of, kind_text, both_quoted}
 use Rattle.tf_facts.specs.Comments.{Comment}
 use Rattle.tf_rules.specs.Issues.{comment_at}
-use Rattle.tf_rules.specs.Kept.{source_at, declaration_at, facts_at, both}
+use Rattle.tf_rules.specs.Stored.{source_at, declaration_at, facts_at, both}
 use Rattle.rule_set.specs.declared.rule.Rule.{Rule}
 use Rattle.rule_set.specs.declared.rule.Rule.TheVariants.{CommentSyntax, DeprecatedIndex, DeprecatedInterpolation, DocumentedOutputs, DocumentedVariables, ModulePinnedSource, ModuleVersion, NamingConvention, TypedVariables, UnusedDeclarations}
 use Rattle.tf_rules.specs.declared.naming.Naming.{Naming}

@@ -15,7 +15,7 @@ use Rattle.tf_facts.specs.Comments.{Comment, comments, is_any}
 use Rattle.tf_facts.specs.Declarations.{Declaration, SourceAt, declarations}
 use Rattle.tf_rules.specs.Growth.{entries, places_of, source_places}
 use Rattle.tf_rules.specs.Issues.{File, comment_at, place_in, tokens_of}
-use Rattle.tf_rules.specs.Kept.{Kept, declaration_at, source_at, with_file}
+use Rattle.tf_rules.specs.Stored.{Stored, declaration_at, source_at, with_file}
 use Rattle.tf_facts.specs.Patterns.{begins_with_close, after_closer, is_index, is_wrapped, legacy_indexes, numbers_where, wrapped_interpolations}
 use Rattle.tf_facts.specs.References.{VariableSpan, by_name, is_self_reference, name_after, variable_blocks, reference_at, references, references_from, unless_self_reference}
 use Rattle.tf_facts.specs.Silencing.{has_slashes, silenced_rules}
@@ -247,7 +247,7 @@ module _ {P Q : Type 0} (f : P → Q) where
         places_same ds,
       )
 
-pub entries_grow : (kept : Kept) (file : File) → entries (with_file kept file) ≤ entries kept + length file.source.tokens
+pub entries_grow : (kept : Stored) (file : File) → entries (with_file kept file) ≤ entries kept + length file.source.tokens
 entries_grow kept file =
     let ts = tokens_of file in
     omega (

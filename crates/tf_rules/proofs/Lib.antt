@@ -1,5 +1,5 @@
 pub mod FindingLemmas
-pub mod KeptLemmas
+pub mod StoredLemmas
 pub mod AgreementLemmas
 pub mod OneReportLemmas
 pub mod ReportLemmas
@@ -16,7 +16,7 @@ pub mod RisingLemmas
 pub mod DistinctLemmas
 pub mod ForwardLemmas
 pub mod KeepingLemmas
-pub mod KeptFileLemmas
+pub mod StoredFileLemmas
 pub mod ItemWeightLemmas
 pub mod ItemCostLemmas
 pub mod GrowthLemmas

@@ -25,7 +25,7 @@ use Rattle.tf_facts.specs.Declarations.{Declaration, SourceAt, declarations}
 use Rattle.tf_facts.specs.References.{variable_blocks, references}
 use Rattle.tf_rules.specs.Growth.{bytes, name_bytes, source_texts, declared_texts}
 use Rattle.tf_rules.specs.Issues.{File, place_in, tokens_of}
-use Rattle.tf_rules.specs.Kept.{Kept, declaration_at, source_at, with_file}
+use Rattle.tf_rules.specs.Stored.{Stored, declaration_at, source_at, with_file}
 use Rattle.tf_rules.proofs.DeclaredTextLemmas.{AllWeigh, Weighs, bytes_both, told, told_both, told_few}
 use Rattle.tf_rules.proofs.ItemWeightLemmas.{bit, items_weigh, weight, weight_filter}
 use Rattle.tf_rules.proofs.NameCostLemmas.{cost, counted, weigh}
@@ -163,7 +163,7 @@ module _ {P Q : Type 0} (f : P → Q) where
         told_same ds,
       )
 
-pub names_grow : (kept : Kept) (file : File) → Scans file.source.text file.source.tokens → IsAccepted file.source.tokens → name_bytes (with_file kept file) ≤ name_bytes kept + length file.source.text
+pub names_grow : (kept : Stored) (file : File) → Scans file.source.text file.source.tokens → IsAccepted file.source.tokens → name_bytes (with_file kept file) ≤ name_bytes kept + length file.source.text
 names_grow kept file scans accepted =
     let ts = tokens_of file in
     omega (

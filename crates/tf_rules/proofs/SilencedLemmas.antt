@@ -13,10 +13,10 @@ use Rattle.tf_rules.specs.Issues.{Issue, Place, covers, is_silenced}
 use Rattle.rule_set.specs.Rules.{all_rules, is_rule}
 use Rattle.rule_set.specs.RuleSets.{holds, rules_of}
 use Rattle.tf_rules.specs.Inner.Entries.{issue_of, issues_of}
-use Rattle.tf_rules.specs.Inner.KeptViews.{kept_comment}
+use Rattle.tf_rules.specs.Inner.StoredViews.{stored_comment}
 use Rattle.tf_rules.specs.Inner.SilencedLines.{is_in_set, is_on, same_line, silenced_at}
 use Rattle.tf_rules.specs.declared.entry.Entry.{Entry}
-use Rattle.tf_rules.specs.declared.kept.KeptComment.{KeptComment}
+use Rattle.tf_rules.specs.declared.kept.StoredComment.{StoredComment}
 use Rattle.rule_set.specs.declared.rule.Rule.{Rule}
 use Rattle.rule_set.specs.declared.rule.Rule.TheVariants.{CommentSyntax, DeprecatedIndex, DeprecatedInterpolation, DocumentedOutputs, DocumentedVariables, ModulePinnedSource, ModuleVersion, NamingConvention, TypedVariables, UnusedDeclarations}
 use Rattle.rule_set.specs.declared.rule_set.RuleSet.{RuleSet}
@@ -70,15 +70,15 @@ pub silence_step : (old new : Option RuleSet) (both rules : RuleSet) (here : Boo
 silence_step old new both rules true rule e h = ap (λ o. is_in_set o rule) e ∙ h refl
 silence_step old new both rules false rule e h = ap (λ o. is_in_set o rule) e ∙ sym (or_false (is_in_set old rule))
 
-module _ (comments : List (Comment Place)) (c : KeptComment) (file line : ℕ) (rule : Rule) where
-  with_one : list_any (is_on file line rule) (comments ++ kept_comment c ∷ []) ≡ (list_any (is_on file line rule) comments || is_on file line rule (kept_comment c))
-  with_one = list_any-append (is_on file line rule) comments (kept_comment c ∷ []) ∙ ap (λ b. list_any (is_on file line rule) comments || b) (or_false (is_on file line rule (kept_comment c)))
+module _ (comments : List (Comment Place)) (c : StoredComment) (file line : ℕ) (rule : Rule) where
+  with_one : list_any (is_on file line rule) (comments ++ stored_comment c ∷ []) ≡ (list_any (is_on file line rule) comments || is_on file line rule (stored_comment c))
+  with_one = list_any-append (is_on file line rule) comments (stored_comment c ∷ []) ∙ ap (λ b. list_any (is_on file line rule) comments || b) (or_false (is_on file line rule (stored_comment c)))
 
-  pub on_more : (list_any (is_on file line rule) comments || ((c.at.file == file) && (c.at.at.line == line) && holds c.silences rule)) ≡ list_any (is_on file line rule) (comments ++ kept_comment c ∷ [])
+  pub on_more : (list_any (is_on file line rule) comments || ((c.at.file == file) && (c.at.at.line == line) && holds c.silences rule)) ≡ list_any (is_on file line rule) (comments ++ stored_comment c ∷ [])
   on_more = ap (λ b. list_any (is_on file line rule) comments || ((c.at.file == file) && (c.at.at.line == line) && b)) (sym (among c.silences rule)) ∙ sym with_one
 
-pub kept_more : (xs : List KeptComment) (i : ℕ) (d : KeptComment) → i < length xs → map kept_comment (take i xs) ++ kept_comment (get_or xs i d) ∷ [] ≡ map kept_comment (take (i + 1) xs)
-kept_more xs i d less = sym (ap (map kept_comment) (take_more xs i d less) ∙ map-append kept_comment (take i xs) (get_or xs i d ∷ []))
+pub stored_more : (xs : List StoredComment) (i : ℕ) (d : StoredComment) → i < length xs → map stored_comment (take i xs) ++ stored_comment (get_or xs i d) ∷ [] ≡ map stored_comment (take (i + 1) xs)
+stored_more xs i d less = sym (ap (map stored_comment) (take_more xs i d less) ∙ map-append stored_comment (take i xs) (get_or xs i d ∷ []))
 
 -- ---- an issue's line, and the line above
 

@@ -3,7 +3,7 @@ use Rattle.std.specs.Prelude.{ℕ, ◌+◌, List, [], ◌∷◌, ◌++◌, Optio
 use Rattle.std.specs.List.{flat_map}
 use Rattle.tf_facts.specs.Declarations.{Declaration, SourceAt}
 use Rattle.tf_facts.specs.Sources.{Source, DefaultBranch}
-use Rattle.tf_rules.specs.Kept.{Kept}
+use Rattle.tf_rules.specs.Stored.{Stored}
 
 abbrev pub source_places : {P : Type 0} → Option (SourceAt P) → List P
 source_places None = []
@@ -14,7 +14,7 @@ abbrev pub places_of : {P : Type 0} → Declaration P → List P
 places_of d = d.at ∷ source_places d.source
 
 -- HOW MANY ENTRIES are stored: the places of comments, of patterns of tokens and of declarations, and the references
-abbrev pub entries : Kept → ℕ
+abbrev pub entries : Stored → ℕ
 entries kept =
     length kept.facts.comments
     + (length kept.facts.indexes +
@@ -42,5 +42,5 @@ bytes [] = 0
 bytes (x ∷ xs) = length x + bytes xs
 
 -- HOW MANY BYTES the stored texts have: those of the declarations, and the references
-abbrev pub name_bytes : Kept → ℕ
+abbrev pub name_bytes : Stored → ℕ
 name_bytes kept = bytes (flat_map declared_texts kept.facts.declarations) + bytes kept.references

@@ -3,8 +3,8 @@ pub mod Findings
 pub mod Ordered
 pub mod Walked
 pub mod Issues
-pub mod Kept
-pub mod KeptIssues
+pub mod Stored
+pub mod StoredIssues
 pub mod Growth
 pub mod Answers
 pub mod Agreement

@@ -1,6 +1,6 @@
 //! Issues before they are shown, with the places of their tokens.
 
-use crate::kept::{KeptDeclaration, TokenPlace};
+use crate::kept::{StoredDeclaration, TokenPlace};
 use crate::naming::Naming;
 use rule_set::Rule;
 
@@ -10,13 +10,13 @@ pub enum Said<'f> {
     /// A text of the rule's own.
     Fixed(&'static str),
     /// `KIND "NAME` of a declaration, and the text from the closing quote on.
-    About(&'f KeptDeclaration, &'static str),
+    About(&'f StoredDeclaration, &'static str),
     /// The source of the module uses this default branch.
-    DefaultBranch(&'f KeptDeclaration, &'static str),
+    DefaultBranch(&'f StoredDeclaration, &'static str),
     /// The name must have this naming.
-    Misnamed(&'f KeptDeclaration, Naming),
+    Misnamed(&'f StoredDeclaration, Naming),
     /// Nothing refers to the declaration.
-    Unused(&'f KeptDeclaration),
+    Unused(&'f StoredDeclaration),
 }
 
 /// The finding of a rule about a token.

@@ -8,18 +8,18 @@ ghost use Rattle.hcl_grammar.specs.Numbered.{numbered};
 ghost use Rattle.tf_rules.specs.Answers.{AreIssues, Rising};
 ghost use Rattle.tf_rules.specs.Findings.{findings};
 ghost use Rattle.tf_rules.specs.Issues.{File, asked_of};
-ghost use Rattle.tf_rules.specs.Kept.{issue_at, kept_of, nothing, with_file};
+ghost use Rattle.tf_rules.specs.Stored.{issue_at, stored_of, nothing, with_file};
 ghost use Rattle.tf_facts.specs.References.{references};
 ghost use Rattle.rule_set.specs.RuleSets.{holds, rules_of};
 ghost use Rattle.tf_rules.specs.Inner.Entries.{declared_rules, issues_by, issues_declared, issues_of};
-ghost use Rattle.tf_rules.specs.Inner.KeptFacts.{kept_facts, with_found};
+ghost use Rattle.tf_rules.specs.Inner.StoredFacts.{stored_facts, with_found};
 
 use crate::entry::Entry;
 use crate::findings::{push_comments, push_declarations, push_places};
 use crate::issue::Issue;
 use crate::issue_list::IssueList;
-use crate::kept::{KeptComment, KeptDeclaration, TokenPlace};
-use crate::kept_file::{KeptFile, kept_file};
+use crate::kept::{StoredComment, StoredDeclaration, TokenPlace};
+use crate::stored_file::{StoredFile, stored_file};
 use crate::order::in_order;
 use crate::owned::owned_issues;
 use crate::settings::Settings;
@@ -35,26 +35,26 @@ use tf_facts::{Hashing, TextSet, add_references_of};
 #[derive(Drop)]
 pub struct Facts {
     alloc: Global,
-    comments: Vec<KeptComment>,
+    comments: Vec<StoredComment>,
     indexes: Vec<TokenPlace>,
     interpolations: Vec<TokenPlace>,
-    declarations: Vec<KeptDeclaration>,
+    declarations: Vec<StoredDeclaration>,
     references: TextSet,
 }
 
 impl Model for Facts {
     ghost use Rattle.std.specs.Prelude.{map};
-    ghost use Rattle.tf_rules.specs.Kept.{Kept};
-    ghost use Rattle.tf_rules.specs.Inner.KeptViews.{kept_comment, kept_declaration, place_of};
+    ghost use Rattle.tf_rules.specs.Stored.{Stored};
+    ghost use Rattle.tf_rules.specs.Inner.StoredViews.{stored_comment, stored_declaration, place_of};
 
-    ghost Value = { Kept };
+    ghost Value = { Stored };
 
     ghost view = { λ f. record {
       facts = record {
-        comments = map kept_comment f.comments.items;
+        comments = map stored_comment f.comments.items;
         indexes = map place_of f.indexes.items;
         interpolations = map place_of f.interpolations.items;
-        declarations = map kept_declaration f.declarations.items;
+        declarations = map stored_declaration f.declarations.items;
       };
       references = f.references;
     } };
@@ -127,11 +127,11 @@ impl Facts {
         &mut self,
         accepted: &Accepted<'_, '_>,
         items: &Outline,
-        kept: &mut KeptFile,
+        kept: &mut StoredFile,
     ) -> Result<(), AllocError>
         requires { items.now ≡ outline accepted.now.tokens }
         ensures ok { OnOk result (self.new
-            ≡ with_found self.old (kept_facts kept.old)
+            ≡ with_found self.old (stored_facts kept.old)
             (references (numbered accepted.now.tokens))) }
         ensures err { OnErr result (self.new ≡ self.old) }
     {
@@ -159,7 +159,7 @@ impl Facts {
             ≡ with_file self.old (record { number = number; source = accepted.now })) }
         ensures err { OnErr result (self.new ≡ self.old) }
     {
-        let mut kept = kept_file(self.alloc, number, accepted, items)?;
+        let mut kept = stored_file(self.alloc, number, accepted, items)?;
         self.keep(accepted, items, &mut kept)
     }
 
@@ -269,7 +269,7 @@ impl Facts {
     /// The issues of the files, by file, then token, then the name of the rule. No message is built: the list gives
     /// each message in parts, which are texts of the stored facts.
     pub fn issue_list(&self, settings: &Settings) -> Result<IssueList<'_>, AllocError>
-        ensures { (files : List File) → self.now ≡ kept_of files → Rising files
+        ensures { (files : List File) → self.now ≡ stored_of files → Rising files
             → IfOk result (λ issues. AreIssues (asked_of settings.now) files issues) }
     {
         let entries = self.reported_entries(settings)?;
@@ -281,7 +281,7 @@ impl Facts {
 
     /// The issues of the files, in the same order, each with a message that owns its text.
     pub fn issues(&self, settings: &Settings) -> Result<Vec<Issue>, AllocError>
-        ensures { (files : List File) → self.now ≡ kept_of files → Rising files
+        ensures { (files : List File) → self.now ≡ stored_of files → Rising files
             → IfOk result (λ issues. AreIssues (asked_of settings.now) files issues.items) }
     {
         match self.issue_list(settings) {

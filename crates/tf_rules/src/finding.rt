@@ -5,15 +5,15 @@ ghost use Rattle.std.specs.List.{list_any};
 ghost use Rattle.std.specs.Str.{bytes_eq};
 ghost use Rattle.tf_facts.specs.References.{data_reference, last_of};
 ghost use Rattle.tf_rules.specs.Findings.{finding, from_registry, is_unused, kind_text, says_if, unpinned_findings, unpinned_findings_by, uses_of};
-ghost use Rattle.tf_rules.specs.Kept.{issue_at};
+ghost use Rattle.tf_rules.specs.Stored.{issue_at};
 ghost use Rattle.tf_rules.specs.Inner.Entries.{issues_of, issues_declared, issues_if_asked, opened, text_of};
-ghost use Rattle.tf_rules.specs.Inner.KeptViews.{kept_declaration, kept_names, kept_source, place_of};
+ghost use Rattle.tf_rules.specs.Inner.StoredViews.{stored_declaration, stored_names, stored_source, place_of};
 ghost use Rattle.tf_facts.specs.Declarations.{is_kind};
 ghost use Rattle.tf_facts.specs.Found.{source};
 ghost use Rattle.std.specs.Option.{option_map};
 
 use crate::entry::{Entry, Said};
-use crate::kept::{KeptDeclaration, KeptNames, KeptSource, TokenPlace};
+use crate::kept::{StoredDeclaration, StoredNames, StoredSource, TokenPlace};
 use crate::naming::{Naming, matches_naming};
 use crate::said::last;
 use crate::settings::Settings;
@@ -55,14 +55,14 @@ fn push_lacking<'f>(
     entries: &mut Vec<Entry<'f>>,
     rule: Rule,
     is_lacking: bool,
-    declaration: &'f KeptDeclaration,
+    declaration: &'f StoredDeclaration,
     rest: &'static str,
 ) -> Result<(), AllocError>
     ensures { OnOk result (issues_of entries.new.items
         ≡ issues_of entries.old.items ++ map (issue_at rule)
         (says_if is_lacking (place_of declaration.now.at)
         (kind_text declaration.now.kind
-        ++ opened (last_of (kept_names declaration.now.names)) rest.now))) }
+        ++ opened (last_of (stored_names declaration.now.names)) rest.now))) }
 {
     if !is_lacking {
         return Ok(());
@@ -79,12 +79,12 @@ fn push_lacking<'f>(
 fn push_unpinned_by<'f>(
     entries: &mut Vec<Entry<'f>>,
     rule: Rule,
-    declaration: &'f KeptDeclaration,
-    found: KeptSource,
+    declaration: &'f StoredDeclaration,
+    found: StoredSource,
 ) -> Result<(), AllocError>
     ensures { OnOk result (issues_of entries.new.items
         ≡ issues_of entries.old.items ++ map (issue_at rule)
-        (unpinned_findings_by (kept_declaration declaration.now) (place_of found.at)
+        (unpinned_findings_by (stored_declaration declaration.now) (place_of found.at)
         (source found.source))) }
 {
     match found.source {
@@ -109,12 +109,12 @@ fn push_unpinned_by<'f>(
 fn push_unpinned<'f>(
     entries: &mut Vec<Entry<'f>>,
     rule: Rule,
-    declaration: &'f KeptDeclaration,
+    declaration: &'f StoredDeclaration,
 ) -> Result<(), AllocError>
     ensures { OnOk result (issues_of entries.new.items
         ≡ issues_of entries.old.items ++ map (issue_at rule)
-        (unpinned_findings (kept_declaration declaration.now)
-        (option_map kept_source declaration.now.source))) }
+        (unpinned_findings (stored_declaration declaration.now)
+        (option_map stored_source declaration.now.source))) }
 {
     match declaration.source {
         Some(found) => push_unpinned_by(entries, rule, declaration, found),
@@ -123,8 +123,8 @@ fn push_unpinned<'f>(
 }
 
 /// Whether a source is an address in a registry.
-fn from_registry(found: Option<KeptSource>) -> bool
-    ensures { result ≡ from_registry (option_map kept_source found) }
+fn from_registry(found: Option<StoredSource>) -> bool
+    ensures { result ≡ from_registry (option_map stored_source found) }
 {
     match found {
         Some(found) => matches!(found.source, ModuleSource::Registry),
@@ -138,11 +138,11 @@ fn push_misnamed<'f>(
     entries: &mut Vec<Entry<'f>>,
     naming: Naming,
     rule: Rule,
-    declaration: &'f KeptDeclaration,
+    declaration: &'f StoredDeclaration,
 ) -> Result<(), AllocError>
     ensures { OnOk result (issues_of entries.new.items
         ≡ issues_of entries.old.items ++ map (issue_at rule)
-        (finding naming [] Rule.NamingConvention (kept_declaration declaration.now))) }
+        (finding naming [] Rule.NamingConvention (stored_declaration declaration.now))) }
 {
     let name = last(&declaration.names);
     if matches_naming(naming, name) {
@@ -191,26 +191,26 @@ fn is_unknown_data(
 }
 
 /// Whether there is no reference to the data of these labels.
-fn is_unused_data(used: &TextSet, names: &KeptNames, text: &mut String) -> Result<bool, AllocError>
+fn is_unused_data(used: &TextSet, names: &StoredNames, text: &mut String) -> Result<bool, AllocError>
     ensures { IfOk result (λ unused. unused
-        ≡ is_unused used.now (uses_of DeclarationKind.Data (kept_names names.now))) }
+        ≡ is_unused used.now (uses_of DeclarationKind.Data (stored_names names.now))) }
 {
     match names {
-        KeptNames::Two(kind, name) => is_unknown_data(used, kind.as_str(), name.as_str(), text),
-        KeptNames::None => Ok(false),
-        KeptNames::One(_) => Ok(false),
-        KeptNames::More => Ok(false),
+        StoredNames::Two(kind, name) => is_unknown_data(used, kind.as_str(), name.as_str(), text),
+        StoredNames::None => Ok(false),
+        StoredNames::One(_) => Ok(false),
+        StoredNames::More => Ok(false),
     }
 }
 
 /// Whether there is no reference to a declaration that can be referred to.
 fn is_unused(
     used: &TextSet,
-    declaration: &KeptDeclaration,
+    declaration: &StoredDeclaration,
     text: &mut String,
 ) -> Result<bool, AllocError>
     ensures { IfOk result (λ unused. unused
-        ≡ is_unused used.now (uses_of declaration.now.kind (kept_names declaration.now.names))) }
+        ≡ is_unused used.now (uses_of declaration.now.kind (stored_names declaration.now.names))) }
 {
     match declaration.kind {
         DeclarationKind::Variable => is_unknown(used, "var.", last(&declaration.names), text),
@@ -228,13 +228,13 @@ fn push_unused<'f>(
     entries: &mut Vec<Entry<'f>>,
     used: &TextSet,
     rule: Rule,
-    declaration: &'f KeptDeclaration,
+    declaration: &'f StoredDeclaration,
     text: &mut String,
 ) -> Result<(), AllocError>
     ensures { OnOk result (issues_of entries.new.items
         ≡ issues_of entries.old.items ++ map (issue_at rule)
         (finding Naming.SnakeCase used.now Rule.UnusedDeclarations
-        (kept_declaration declaration.now))) }
+        (stored_declaration declaration.now))) }
 {
     if !is_unused(used, declaration, text)? {
         return Ok(());
@@ -249,13 +249,13 @@ fn push_finding<'f>(
     naming: Naming,
     used: &TextSet,
     rule: Rule,
-    declaration: &'f KeptDeclaration,
+    declaration: &'f StoredDeclaration,
     text: &mut String,
     entries: &mut Vec<Entry<'f>>,
 ) -> Result<(), AllocError>
     ensures { OnOk result (issues_of entries.new.items
         ≡ issues_of entries.old.items ++ map (issue_at rule)
-        (finding naming used.now rule (kept_declaration declaration.now))) }
+        (finding naming used.now rule (stored_declaration declaration.now))) }
 {
     match rule {
         Rule::DocumentedOutputs => push_lacking(
@@ -307,13 +307,13 @@ pub struct Inputs<'a> {
 fn push_if_requested<'f>(
     inputs: &Inputs<'_>,
     rule: Rule,
-    declaration: &'f KeptDeclaration,
+    declaration: &'f StoredDeclaration,
     text: &mut String,
     entries: &mut Vec<Entry<'f>>,
 ) -> Result<(), AllocError>
     ensures { OnOk result (issues_of entries.new.items ≡ issues_of entries.old.items
         ++ issues_if_asked inputs.now.settings.now inputs.now.used.now
-        (kept_declaration declaration.now) rule) }
+        (stored_declaration declaration.now) rule) }
 {
     let settings = inputs.settings;
     if !settings.rules.holds(rule) {
@@ -335,13 +335,13 @@ fn push_if_requested<'f>(
 #[inline(always)]
 pub fn push_findings<'f>(
     inputs: &Inputs<'_>,
-    declaration: &'f KeptDeclaration,
+    declaration: &'f StoredDeclaration,
     text: &mut String,
     entries: &mut Vec<Entry<'f>>,
 ) -> Result<(), AllocError>
     ensures { OnOk result (issues_of entries.new.items ≡ issues_of entries.old.items
         ++ issues_declared inputs.now.settings.now inputs.now.used.now
-        (kept_declaration declaration.now)) }
+        (stored_declaration declaration.now)) }
 {
     push_if_requested(inputs, Rule::DocumentedOutputs, declaration, text, entries)?;
     push_if_requested(

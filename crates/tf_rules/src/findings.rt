@@ -3,13 +3,13 @@
 ghost use Rattle.std.specs.Prelude.{◌≡◌, ◌++◌, map, OnOk};
 ghost use Rattle.std.specs.List.{flat_map};
 ghost use Rattle.tf_rules.specs.Findings.{says_of, slash_findings};
-ghost use Rattle.tf_rules.specs.Kept.{issue_at};
+ghost use Rattle.tf_rules.specs.Stored.{issue_at};
 ghost use Rattle.tf_rules.specs.Inner.Entries.{issues_of, finding_listed, issues_declared};
-ghost use Rattle.tf_rules.specs.Inner.KeptViews.{kept_comment, kept_declaration, place_of};
+ghost use Rattle.tf_rules.specs.Inner.StoredViews.{stored_comment, stored_declaration, place_of};
 
 use crate::entry::{Entry, Finding, Said};
 use crate::finding::{Inputs, push_findings};
-use crate::kept::{KeptComment, KeptDeclaration, TokenPlace};
+use crate::kept::{StoredComment, StoredDeclaration, TokenPlace};
 use crate::settings::Settings;
 use rule_set::Rule;
 use std::alloc::{AllocError, Global};
@@ -36,8 +36,8 @@ fn put<'f>(
 }
 
 /// The finding about a comment, if that begins with `//`.
-fn slash_comment_finding(comment: KeptComment) -> Option<Finding<'static>>
-    ensures { finding_listed result ≡ slash_findings (kept_comment comment) }
+fn slash_comment_finding(comment: StoredComment) -> Option<Finding<'static>>
+    ensures { finding_listed result ≡ slash_findings (stored_comment comment) }
 {
     if !comment.has_slashes {
         return None;
@@ -50,12 +50,12 @@ fn slash_comment_finding(comment: KeptComment) -> Option<Finding<'static>>
 
 /// Pushes the findings about comments.
 pub fn push_comments(
-    comments: &[KeptComment],
+    comments: &[StoredComment],
     entries: &mut Vec<Entry<'_>>,
 ) -> Result<(), AllocError>
     ensures { OnOk result (issues_of entries.new.items
         ≡ issues_of entries.old.items ++ map (issue_at Rule.CommentSyntax)
-        (flat_map slash_findings (map kept_comment comments.now))) }
+        (flat_map slash_findings (map stored_comment comments.now))) }
 {
     for comment in comments {
         let found = slash_comment_finding(*comment);
@@ -91,12 +91,12 @@ pub fn push_declarations<'f>(
     alloc: Global,
     settings: &Settings,
     used: &TextSet,
-    declarations: &'f [KeptDeclaration],
+    declarations: &'f [StoredDeclaration],
     entries: &mut Vec<Entry<'f>>,
 ) -> Result<(), AllocError>
     ensures { OnOk result (issues_of entries.new.items
         ≡ issues_of entries.old.items ++ flat_map (issues_declared settings.now used.now)
-        (map kept_declaration declarations.now)) }
+        (map stored_declaration declarations.now)) }
 {
     let inputs = Inputs { settings, used };
     let mut text = String::new(alloc);

@@ -4,13 +4,13 @@ ghost use Rattle.std.specs.Prelude.{◌≡◌, ◌<◌, [], ◌∷◌, ℕ, leng
 ghost use Rattle.std.specs.List.{flat_map};
 ghost use Rattle.std.specs.Option.{option_map};
 ghost use Rattle.tf_rules.specs.Issues.{comment_at, place_in};
-ghost use Rattle.tf_rules.specs.Kept.{declaration_at, source_at};
+ghost use Rattle.tf_rules.specs.Stored.{declaration_at, source_at};
 ghost use Rattle.tf_facts.specs.Found.{declaration, texts_of};
 ghost use Rattle.tf_facts.specs.Found as found;
-ghost use Rattle.tf_rules.specs.Inner.KeptViews.{kept_comment, kept_declaration, kept_names, kept_source, place_of};
+ghost use Rattle.tf_rules.specs.Inner.StoredViews.{stored_comment, stored_declaration, stored_names, stored_source, place_of};
 ghost use Rattle.tf_rules.specs.Inner.Locating.{CanAdvance, advanced, numbers_of, quotes};
 
-use crate::kept::{KeptComment, KeptDeclaration, KeptName, KeptNames, KeptSource, TokenPlace};
+use crate::kept::{StoredComment, StoredDeclaration, StoredName, StoredNames, StoredSource, TokenPlace};
 use crate::locator::Locator;
 use std::alloc::{AllocError, Global};
 use tf_facts::{Declared, FoundComment, FoundSource, Names};
@@ -32,13 +32,13 @@ pub fn places(
     Ok(kept)
 }
 
-fn kept_comment(comment: FoundComment, locator: &mut Locator<'_, '_>) -> KeptComment
+fn stored_comment(comment: FoundComment, locator: &mut Locator<'_, '_>) -> StoredComment
     requires { CanAdvance locator.old (comment.at ∷ []) }
-    ensures kept { kept_comment result
+    ensures kept { stored_comment result
         ≡ comment_at (place_in locator.old.file) (found.comment comment) }
     ensures moved { locator.new ≡ advanced locator.old (comment.at ∷ []) }
 {
-    KeptComment {
+    StoredComment {
         at: locator.place(comment.at),
         has_slashes: comment.has_slashes,
         silences: comment.silences,
@@ -46,41 +46,41 @@ fn kept_comment(comment: FoundComment, locator: &mut Locator<'_, '_>) -> KeptCom
 }
 
 /// Comments as they are stored.
-pub fn kept_comments(
+pub fn stored_comments(
     alloc: Global,
     comments: &[FoundComment],
     mut locator: Locator<'_, '_>,
-) -> Result<Vec<KeptComment>, AllocError>
+) -> Result<Vec<StoredComment>, AllocError>
     requires { CanAdvance locator (map (λ c. c.at) comments.now) }
-    ensures { IfOk result (λ kept. map kept_comment kept.items
+    ensures { IfOk result (λ kept. map stored_comment kept.items
         ≡ map (λ c. comment_at (place_in locator.entry.file) (found.comment c)) comments.now) }
 {
     let mut kept = Vec::with_capacity(alloc, comments.len())?;
     for comment in comments {
-        kept.push(kept_comment(*comment, &mut locator))?;
+        kept.push(stored_comment(*comment, &mut locator))?;
     }
     Ok(kept)
 }
 
 /// A copy of the labels of a block.
-fn kept_names(alloc: Global, names: Names<'_>) -> Result<KeptNames, AllocError>
-    ensures { IfOk result (λ kept. kept_names kept ≡ texts_of names.entry) }
+fn stored_names(alloc: Global, names: Names<'_>) -> Result<StoredNames, AllocError>
+    ensures { IfOk result (λ kept. stored_names kept ≡ texts_of names.entry) }
 {
     match names {
-        Names::None => Ok(KeptNames::None),
-        Names::One(name) => Ok(KeptNames::One(KeptName::new(alloc, name)?)),
+        Names::None => Ok(StoredNames::None),
+        Names::One(name) => Ok(StoredNames::One(StoredName::new(alloc, name)?)),
         Names::Two(first, second) => {
-            let first = KeptName::new(alloc, first)?;
-            let second = KeptName::new(alloc, second)?;
-            Ok(KeptNames::Two(first, second))
+            let first = StoredName::new(alloc, first)?;
+            let second = StoredName::new(alloc, second)?;
+            Ok(StoredNames::Two(first, second))
         }
-        Names::More => Ok(KeptNames::More),
+        Names::More => Ok(StoredNames::More),
     }
 }
 
-fn kept_source(source: Option<FoundSource>, locator: &mut Locator<'_, '_>) -> Option<KeptSource>
+fn stored_source(source: Option<FoundSource>, locator: &mut Locator<'_, '_>) -> Option<StoredSource>
     requires { CanAdvance locator.old (quotes (option_map found.found_source source)) }
-    ensures kept { option_map kept_source result
+    ensures kept { option_map stored_source result
         ≡ source_at (place_in locator.old.file) (option_map found.found_source source) }
     ensures moved { locator.new
         ≡ advanced locator.old (quotes (option_map found.found_source source)) }
@@ -88,27 +88,27 @@ fn kept_source(source: Option<FoundSource>, locator: &mut Locator<'_, '_>) -> Op
     let Some(source) = source else {
         return None;
     };
-    Some(KeptSource {
+    Some(StoredSource {
         source: source.source,
         at: locator.place(source.at),
     })
 }
 
-fn kept_declaration(
+fn stored_declaration(
     alloc: Global,
     declared: Declared<'_>,
     locator: &mut Locator<'_, '_>,
-) -> Result<KeptDeclaration, AllocError>
+) -> Result<StoredDeclaration, AllocError>
     requires { CanAdvance locator.old (numbers_of (declaration declared)) }
-    ensures kept { IfOk result (λ kept. kept_declaration kept
+    ensures kept { IfOk result (λ kept. stored_declaration kept
         ≡ declaration_at (place_in locator.old.file) (declaration declared.entry)) }
     ensures moved { OnOk result (locator.new
         ≡ advanced locator.old (numbers_of (declaration declared.entry))) }
 {
-    let names = kept_names(alloc, declared.names)?;
+    let names = stored_names(alloc, declared.names)?;
     let at = locator.place(declared.at);
-    let source = kept_source(declared.source, locator);
-    Ok(KeptDeclaration {
+    let source = stored_source(declared.source, locator);
+    Ok(StoredDeclaration {
         kind: declared.kind,
         names,
         at,
@@ -120,19 +120,19 @@ fn kept_declaration(
 }
 
 /// Declarations as they are stored.
-pub fn kept_declarations(
+pub fn stored_declarations(
     alloc: Global,
     declarations: &[Declared<'_>],
     mut locator: Locator<'_, '_>,
-) -> Result<Vec<KeptDeclaration>, AllocError>
+) -> Result<Vec<StoredDeclaration>, AllocError>
     requires { CanAdvance locator (flat_map (λ d. numbers_of (declaration d)) declarations.now) }
-    ensures { IfOk result (λ kept. map kept_declaration kept.items
+    ensures { IfOk result (λ kept. map stored_declaration kept.items
         ≡ map (λ d. declaration_at (place_in locator.entry.file) (declaration d))
         declarations.now) }
 {
     let mut kept = Vec::with_capacity(alloc, declarations.len())?;
     for declared in declarations {
-        kept.push(kept_declaration(alloc, *declared, &mut locator)?)?;
+        kept.push(stored_declaration(alloc, *declared, &mut locator)?)?;
     }
     Ok(kept)
 }

@@ -15,7 +15,7 @@ pub struct TokenPlace {
 
 /// A line comment that begins with `//` or silences a rule.
 #[derive(Clone, Copy)]
-pub struct KeptComment {
+pub struct StoredComment {
     pub at: TokenPlace,
     pub has_slashes: bool,
     pub silences: RuleSet,
@@ -26,35 +26,35 @@ const SHORT: usize = 24;
 
 /// A name. Most names are short and are stored in place, so that they take no memory of their own.
 #[derive(Drop)]
-pub enum KeptName {
+pub enum StoredName {
     Short(ArrayString<SHORT>),
     Long(String),
 }
 
 /// At most two labels, or more, which declare nothing.
 #[derive(Drop)]
-pub enum KeptNames {
+pub enum StoredNames {
     None,
-    One(KeptName),
-    Two(KeptName, KeptName),
+    One(StoredName),
+    Two(StoredName, StoredName),
     More,
 }
 
 /// The source of a module, and the place of its opening quote.
 #[derive(Clone, Copy)]
-pub struct KeptSource {
+pub struct StoredSource {
     pub source: ModuleSource,
     pub at: TokenPlace,
 }
 
 /// A declaration, and the place of the block's kind or of the attribute's name.
 #[derive(Drop)]
-pub struct KeptDeclaration {
+pub struct StoredDeclaration {
     pub kind: DeclarationKind,
-    pub names: KeptNames,
+    pub names: StoredNames,
     pub at: TokenPlace,
     pub is_described: bool,
     pub is_typed: bool,
     pub is_versioned: bool,
-    pub source: Option<KeptSource>,
+    pub source: Option<StoredSource>,
 }

@@ -8,34 +8,34 @@ ghost use Rattle.hcl_tokens.specs.Lexemes.{Lexeme};
 ghost use Rattle.hcl_tokens.specs.Scans.{Scans};
 ghost use Rattle.hcl_grammar.specs.Verdict.{IsAccepted, start_of};
 ghost use Rattle.tf_rules.specs.Growth.{entries, name_bytes};
-ghost use Rattle.tf_rules.specs.Kept.{Kept, kept_of, with_file};
-ghost use Rattle.tf_rules.specs.KeptIssues.{issues_of_kept};
+ghost use Rattle.tf_rules.specs.Stored.{Stored, stored_of, with_file};
+ghost use Rattle.tf_rules.specs.StoredIssues.{issues_of_stored};
 
 pub use tf_facts::laws::variable_blocks_apart;
 
 /// The stored facts of files and one more are a function of the stored facts of the files, and of that one.
-pub fn kept_of_more()
+pub fn stored_of_more()
     ensures { (files : List File) (file : File)
-        → kept_of (files ++ file ∷ []) ≡ with_file (kept_of files) file }
+        → stored_of (files ++ file ∷ []) ≡ with_file (stored_of files) file }
 {}
 
 /// One more file adds at most as many stored entries, of all kinds together, as it has tokens.
 pub fn stored_entries_bounded()
-    ensures { (kept : Kept) (file : File)
+    ensures { (kept : Stored) (file : File)
         → entries (with_file kept file) ≤ entries kept + length file.source.tokens }
 {}
 
 /// One more file that is scanned and accepted adds stored texts with at most as many bytes as the file.
 pub fn stored_names_bounded()
-    ensures { (kept : Kept) (file : File) → Scans file.source.text file.source.tokens
+    ensures { (kept : Stored) (file : File) → Scans file.source.text file.source.tokens
         → IsAccepted file.source.tokens
         → name_bytes (with_file kept file) ≤ name_bytes kept + length file.source.text }
 {}
 
 /// The issues of files are a function of their stored facts.
-pub fn issues_of_kept()
+pub fn issues_of_stored()
     ensures { (asked : Asked) (files : List File)
-        → issues asked files ≡ issues_of_kept asked (kept_of files) }
+        → issues asked files ≡ issues_of_stored asked (stored_of files) }
 {}
 
 /// Files have at most one ordered list of issues.

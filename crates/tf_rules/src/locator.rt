@@ -3,7 +3,7 @@
 ghost use Rattle.std.specs.Prelude.{◌≡◌, [], ◌∷◌};
 ghost use Rattle.hcl_tokens.specs.Scans.{Scans};
 ghost use Rattle.tf_rules.specs.Issues.{place_in};
-ghost use Rattle.tf_rules.specs.Inner.KeptViews.{place_of};
+ghost use Rattle.tf_rules.specs.Inner.StoredViews.{place_of};
 ghost use Rattle.tf_rules.specs.Inner.Locating.{CanAdvance, advanced};
 
 use crate::cursor::PositionCursor;

@@ -6,10 +6,10 @@ ghost use Rattle.tf_rules.specs.Answers.{text_of_parts};
 ghost use Rattle.tf_rules.specs.Findings.{about, both_quoted, kind_text, quoting};
 ghost use Rattle.tf_rules.specs.Naming.{naming_text};
 ghost use Rattle.tf_rules.specs.Inner.Entries.{opened, text_of};
-ghost use Rattle.tf_rules.specs.Inner.KeptViews.{kept_declaration, kept_names};
+ghost use Rattle.tf_rules.specs.Inner.StoredViews.{stored_declaration, stored_names};
 
 use crate::entry::Said;
-use crate::kept::{KeptDeclaration, KeptNames};
+use crate::kept::{StoredDeclaration, StoredNames};
 use crate::message_parts::MessageParts;
 use crate::naming::Naming;
 use tf_facts::DeclarationKind;
@@ -67,22 +67,22 @@ fn after_misnamed(naming: Naming) -> &'static str
 }
 
 /// The last of at most two labels.
-pub fn last(names: &KeptNames) -> &str
-    ensures { result.now ≡ last_of (kept_names names.now) }
+pub fn last(names: &StoredNames) -> &str
+    ensures { result.now ≡ last_of (stored_names names.now) }
 {
     match names {
-        KeptNames::None => "",
-        KeptNames::One(name) => name.as_str(),
-        KeptNames::Two(_, second) => second.as_str(),
-        KeptNames::More => "",
+        StoredNames::None => "",
+        StoredNames::One(name) => name.as_str(),
+        StoredNames::Two(_, second) => second.as_str(),
+        StoredNames::More => "",
     }
 }
 
 /// `KIND "NAME` of a declaration, and the text from the closing quote on.
-fn about<'f>(declaration: &'f KeptDeclaration, rest: &'static str) -> MessageParts<'f>
+fn about<'f>(declaration: &'f StoredDeclaration, rest: &'static str) -> MessageParts<'f>
     ensures { text_of_parts result
         ≡ kind_text declaration.now.kind
-        ++ opened (last_of (kept_names declaration.now.names)) rest.now }
+        ++ opened (last_of (stored_names declaration.now.names)) rest.now }
 {
     let front = before_name(declaration.kind);
     let name = last(&declaration.names);
@@ -90,9 +90,9 @@ fn about<'f>(declaration: &'f KeptDeclaration, rest: &'static str) -> MessagePar
 }
 
 /// The message that the source of a module uses a default branch.
-fn about_branch<'f>(declaration: &'f KeptDeclaration, branch: &'static str) -> MessageParts<'f>
+fn about_branch<'f>(declaration: &'f StoredDeclaration, branch: &'static str) -> MessageParts<'f>
     ensures { text_of_parts result
-        ≡ about (kept_declaration declaration.now)
+        ≡ about (stored_declaration declaration.now)
         (codes " source uses a default branch: " ++ branch.now) }
 {
     let front = before_name(declaration.kind);
@@ -107,10 +107,10 @@ fn about_branch<'f>(declaration: &'f KeptDeclaration, branch: &'static str) -> M
 }
 
 /// The message that a name must have a naming.
-fn about_naming<'f>(declaration: &'f KeptDeclaration, naming: Naming) -> MessageParts<'f>
+fn about_naming<'f>(declaration: &'f StoredDeclaration, naming: Naming) -> MessageParts<'f>
     ensures { text_of_parts result
         ≡ kind_text declaration.now.kind
-        ++ (codes " name" ++ quoting (last_of (kept_names declaration.now.names))
+        ++ (codes " name" ++ quoting (last_of (stored_names declaration.now.names))
         (codes " must match " ++ naming_text naming)) }
 {
     let front = before_misnamed(declaration.kind);
@@ -153,17 +153,17 @@ fn unused_by_none(kind: DeclarationKind) -> MessageParts<'static>
 }
 
 /// The message that nothing refers to a declaration.
-fn about_unused<'f>(declaration: &'f KeptDeclaration) -> MessageParts<'f>
+fn about_unused<'f>(declaration: &'f StoredDeclaration) -> MessageParts<'f>
     ensures { text_of_parts result
         ≡ kind_text declaration.now.kind
-        ++ both_quoted (kept_names declaration.now.names) (codes " is declared but not used") }
+        ++ both_quoted (stored_names declaration.now.names) (codes " is declared but not used") }
 {
     let kind = declaration.kind;
     match &declaration.names {
-        KeptNames::None => unused_by_none(kind),
-        KeptNames::One(name) => unused_by_name(kind, name.as_str()),
-        KeptNames::Two(first, second) => unused_by_both(kind, first.as_str(), second.as_str()),
-        KeptNames::More => unused_by_none(kind),
+        StoredNames::None => unused_by_none(kind),
+        StoredNames::One(name) => unused_by_name(kind, name.as_str()),
+        StoredNames::Two(first, second) => unused_by_both(kind, first.as_str(), second.as_str()),
+        StoredNames::More => unused_by_none(kind),
     }
 }
 

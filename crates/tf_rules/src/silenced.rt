@@ -5,12 +5,12 @@ ghost use Rattle.tf_facts.specs.Comments.{Comment};
 ghost use Rattle.tf_rules.specs.Issues.{Place, is_silenced};
 ghost use Rattle.rule_set.specs.RuleSets.{holds};
 ghost use Rattle.tf_rules.specs.Inner.Entries.{issue_of, issues_of};
-ghost use Rattle.tf_rules.specs.Inner.KeptViews.{kept_comment};
+ghost use Rattle.tf_rules.specs.Inner.StoredViews.{stored_comment};
 ghost use Rattle.tf_rules.specs.Inner.SilencedLines.{AreSilenced, silenced_at};
 ghost use Rattle.rule_set.specs.declared.rule.Rule.{Rule};
 
 use crate::entry::Entry;
-use crate::kept::KeptComment;
+use crate::kept::StoredComment;
 use indexmap::IndexMap;
 use rule_set::{RuleSet, rules_of_both};
 use std::alloc::{AllocError, Global};
@@ -46,9 +46,9 @@ fn silence(
 }
 
 /// Silences the rules of a comment on its own line.
-fn silence_by(lines: &mut SilencedLines, comment: KeptComment) -> Result<(), AllocError>
+fn silence_by(lines: &mut SilencedLines, comment: StoredComment) -> Result<(), AllocError>
     ensures { (comments : List (Comment Place)) → AreSilenced lines.old comments
-        → OnOk result (AreSilenced lines.new (comments ++ kept_comment comment ∷ [])) }
+        → OnOk result (AreSilenced lines.new (comments ++ stored_comment comment ∷ [])) }
 {
     if !is_any(comment.silences) {
         return Ok(());
@@ -58,8 +58,8 @@ fn silence_by(lines: &mut SilencedLines, comment: KeptComment) -> Result<(), All
 }
 
 /// The rules that these comments silence on their own lines.
-pub fn silenced_lines(alloc: Global, comments: &[KeptComment]) -> Result<SilencedLines, AllocError>
-    ensures { IfOk result (λ lines. AreSilenced lines (map kept_comment comments.now)) }
+pub fn silenced_lines(alloc: Global, comments: &[StoredComment]) -> Result<SilencedLines, AllocError>
+    ensures { IfOk result (λ lines. AreSilenced lines (map stored_comment comments.now)) }
 {
     let mut lines = IndexMap::new(alloc);
     for comment in comments {

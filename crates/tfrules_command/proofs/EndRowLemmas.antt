@@ -7,7 +7,7 @@ use Rattle.command_line.specs.Rows.{Program, Row, End, Shows, ShowsOne, OrOutOfM
 use Rattle.command_line.proofs.EndLemmas.{shows_as}
 use Rattle.hcl_tokens.specs.Scanned.{Scanned}
 use Rattle.tf_rules.specs.Answers as rules
-use Rattle.tf_rules.specs.Kept.{Kept}
+use Rattle.tf_rules.specs.Stored.{Stored}
 use Rattle.tf_rules.specs.Ordered.{BeforeAll}
 use Rattle.tf_rules.specs.declared.issue.Issue.{Issue}
 use Rattle.tfrules_command.specs.Answer.{IsAnswerBy, IsRefused, linter, names_of, usage_line}
@@ -53,7 +53,7 @@ module _ (told : List ℕ → Option (List ℕ)) where
   unread_files (n ∷ ns) = All-cons (λ (file : NamedFile). Tells (told file.name) file.bytes) (record { name = n; bytes = told_or (told n) }) (unread ns) (tells_or (told n)) (unread_files ns)
 
   -- a run that stopped at a refused file shows the answer
-  refused_first : (asking : Request) (front after : List (List ℕ)) (name bytes : List ℕ) (size : ℕ) (kept : Kept) (row : Row) → asking.files ≡ front ++ name ∷ after → Reached told front size kept → Tells (told name) bytes
+  refused_first : (asking : Request) (front after : List (List ℕ)) (name bytes : List ℕ) (size : ℕ) (kept : Stored) (row : Row) → asking.files ≡ front ++ name ∷ after → Reached told front size kept → Tells (told name) bytes
       → IsRefused size (record { name = name; bytes = bytes }) row → IsRowBy told (Ok asking) false false row
   refused_first asking front after name bytes size kept row split p tells refusal =
       let file : NamedFile = record { name = name; bytes = bytes } in (
@@ -100,7 +100,7 @@ module _ (told : List ℕ → Option (List ℕ)) where
   stopped_row asking o r name why row s (inl e) = inl e
   stopped_row asking o r name why row s (inr is) = stop_rows asking o r name why row s is
 
-  pub reported_row : (asking : Request) (o r : Bool) (size : ℕ) (kept : Kept) (issues : List Issue) → AreFine o r → (p : Reached told asking.files size kept) → rules.AreIssues asking.asked (numbered_files 0 p.sources) issues
+  pub reported_row : (asking : Request) (o r : Bool) (size : ℕ) (kept : Stored) (issues : List Issue) → AreFine o r → (p : Reached told asking.files size kept) → rules.AreIssues asking.asked (numbered_files 0 p.sources) issues
       → IsRowBy told (Ok asking) o r (report_row asking issues)
   reported_row asking o r size kept issues fine p found =
       subst (λ b. IsRowBy told (Ok asking) b r (report_row asking issues)) (sym fine.0) (subst (λ b. IsRowBy told (Ok asking) false b (report_row asking issues)) (sym fine.1)

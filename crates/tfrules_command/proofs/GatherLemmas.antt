@@ -17,8 +17,8 @@ use Rattle.hcl_source.specs.declared.fault.Position.{Position}
 use Rattle.hcl_source.specs.declared.fault.LoadError.{LoadError}
 use Rattle.hcl_source.specs.declared.fault.LoadError.TheVariants as error
 use Rattle.hcl_source.proofs.LoadLemmas.{too_large_too}
-use Rattle.tf_rules.specs.Kept.{Kept, kept_of, with_file}
-use Rattle.tf_rules.proofs.KeptLemmas.{kept_of_more}
+use Rattle.tf_rules.specs.Stored.{Stored, stored_of, with_file}
+use Rattle.tf_rules.proofs.StoredLemmas.{kept_of_more}
 use Rattle.tfrules_command.specs.Files.{NamedFile, IsAcceptedAs, max_module, numbered_files, size_of}
 use Rattle.hcl_source.specs.Devices.{Tells}
 use Rattle.tfrules_command.specs.Inner.Steps.{AreFine, Adds, ReadsFile, StopsAt, StopsBy, stop_by, stop_of_scan}
@@ -70,7 +70,7 @@ stops_unscanned text size (scan_error.Fault fault) why is fits e =
     subst (λ w. ScansFile text size (Err w)) (sym is) (fits, inl (fault.kind, e.0, e.1, ap (λ (p : Position). Err (record { kind = fault.kind; at = p })) e.2))
 stops_unscanned text size scan_error.OutOfMemory why is fits e = subst (λ w. ScansFile text size (Err w)) (sym is) tt
 
-pub keeps_none : (text : List ℕ) (size number : ℕ) (kept : Kept) (why : Stop) → ScansFile text size (Err why) → Keeps text size number kept kept (Err why)
+pub keeps_none : (text : List ℕ) (size number : ℕ) (kept : Stored) (why : Stop) → ScansFile text size (Err why) → Keeps text size number kept kept (Err why)
 keeps_none text size number kept (stop.Refused fault) s = s
 keeps_none text size number kept stop.TooLarge s = s
 keeps_none text size number kept stop.NotOpened s = absurd s
@@ -80,7 +80,7 @@ keeps_none text size number kept stop.OutOfMemory s = tt
 pub outcome_of : (text : List ℕ) (scanned : Scanned) (o : Result Scanned Fault) → scanned.text ≡ text → Scans text scanned.tokens → o ≡ verdict scanned → IsTextVerdict text o
 outcome_of text scanned o same scans e = inr (scanned.tokens, scans, e ∙ ap (λ t. verdict (record { text = t; tokens = scanned.tokens })) same)
 
-pub keeps_scanned : (text : List ℕ) (size number : ℕ) (old new : Kept) (file : ScannedFile) (answer : Result ℕ Stop) → ScansFile text size (Ok file) → KeepsTokens file.tokens number file.all old new answer → Keeps text size number old new answer
+pub keeps_scanned : (text : List ℕ) (size number : ℕ) (old new : Stored) (file : ScannedFile) (answer : Result ℕ Stop) → ScansFile text size (Ok file) → KeepsTokens file.tokens number file.all old new answer → Keeps text size number old new answer
 keeps_scanned text size number old new file answer s = by answer
   where
     outcome : (o : Result Scanned Fault) → o ≡ verdict file.tokens → IsTextVerdict text o
@@ -94,7 +94,7 @@ keeps_scanned text size number old new file answer s = by answer
     by (Err stop.NotRead) k = absurd k
     by (Err stop.OutOfMemory) k = tt
 
-pub adds_kept : (told : Option (List ℕ)) (o r : Bool) (text : List ℕ) (size number : ℕ) (old new : Kept) (answer : Result ℕ Stop)
+pub adds_kept : (told : Option (List ℕ)) (o r : Bool) (text : List ℕ) (size number : ℕ) (old new : Stored) (answer : Result ℕ Stop)
     → AreFine o r → Tells told text → IsText text → Keeps text size number old new answer → Adds told size number o r old new answer
 adds_kept told o r text size number old new (Ok more) fine tells is k =
     (fine, record { bytes = text; is = tells; text = is; source = k.0; outcome = k.1; size_is = k.2; fits = k.3; kept = k.4 })
@@ -131,7 +131,7 @@ numbered_more n (x ∷ xs) s =
     let same : n + 1 + length xs ≡ n + length (x ∷ xs) = omega arith in
     ap (λ l. record { number = n; source = x } ∷ l) (numbered_more (n + 1) xs s ∙ ap (λ (k : ℕ). numbered_files (n + 1) xs ++ record { number = k; source = s } ∷ []) same)
 
-unfoldable pub reached_none : (told : List ℕ → Option (List ℕ)) (kept : Kept) → kept ≡ kept_of [] → Reached told [] 0 kept
+unfoldable pub reached_none : (told : List ℕ → Option (List ℕ)) (kept : Stored) → kept ≡ stored_of [] → Reached told [] 0 kept
 reached_none told kept e = record {
   files = [];
   named = refl;
@@ -142,7 +142,7 @@ reached_none told kept e = record {
   kept_is = e;
 }
 
-unfoldable pub reached_more : (told : List ℕ → Option (List ℕ)) (names : List (List ℕ)) (i size more : ℕ) (name : List ℕ) (here : Option (List ℕ)) (old new : Kept) → i < length names → name ≡ get_or names i [] → here ≡ told name
+unfoldable pub reached_more : (told : List ℕ → Option (List ℕ)) (names : List (List ℕ)) (i size more : ℕ) (name : List ℕ) (here : Option (List ℕ)) (old new : Stored) → i < length names → name ≡ get_or names i [] → here ≡ told name
     → Reached told (take i names) size old → Added here size i old new more → Reached told (take (i + 1) names) more new
 reached_more told names i size more name here old new lt named same p a =
     let file : NamedFile = record { name = name; bytes = a.bytes } in
@@ -157,14 +157,14 @@ reached_more told names i size more name here old new lt named same p a =
       accepted = record { each = all_zip_push p.files p.sources file a.source p.accepted.each (a.text, a.outcome); fit = subst (λ n. n ≤ max_module) (sym sum) a.fits };
       size_is = sym sum;
       kept_is = a.kept ∙ ap (λ k. with_file k (record { number = i; source = a.source })) p.kept_is ∙ sym (kept_of_more (numbered_files 0 p.sources) (record { number = i; source = a.source }))
-          ∙ ap kept_of (ap (λ (k : ℕ). numbered_files 0 p.sources ++ record { number = k; source = a.source } ∷ []) (sym count ∙ zip_length p.files p.sources p.accepted.each ∙ zero_more (length p.sources)) ∙ sym (numbered_more 0 p.sources a.source));
+          ∙ ap stored_of (ap (λ (k : ℕ). numbered_files 0 p.sources ++ record { number = k; source = a.source } ∷ []) (sym count ∙ zip_length p.files p.sources p.accepted.each ∙ zero_more (length p.sources)) ∙ sym (numbered_more 0 p.sources a.source));
     }
   where
     zero_more : (n : ℕ) → n ≡ 0 + n
     zero_more n = omega arith
 
 -- the number of the next file
-pub next_number : (told : List ℕ → Option (List ℕ)) (names : List (List ℕ)) (i size : ℕ) (kept : Kept) → i < length names → (p : Reached told (take i names) size kept) → 0 + length p.sources ≡ i
+pub next_number : (told : List ℕ → Option (List ℕ)) (names : List (List ℕ)) (i size : ℕ) (kept : Stored) → i < length names → (p : Reached told (take i names) size kept) → 0 + length p.sources ≡ i
 next_number told names i size kept lt p =
     let count : length p.files ≡ i = sym (length-map p.files (λ (f : NamedFile). f.name)) ∙ ap length p.named ∙ length-take-le i names (omega arith) in
     omega (arith, zip_length p.files p.sources p.accepted.each, count)
@@ -174,7 +174,7 @@ next_number told names i size kept lt p =
 stops_as : (here there : Option (List ℕ)) (size : ℕ) (o r : Bool) (why : Stop) → here ≡ there → StopsBy here size o r why → StopsBy there size o r why
 stops_as here there size o r why e h = subst (λ t. StopsBy t size o r why) e h
 
-pub stops_at : (told : List ℕ → Option (List ℕ)) (names : List (List ℕ)) (i size : ℕ) (name : List ℕ) (here : Option (List ℕ)) (kept : Kept) (o r : Bool) (why : Stop) → i < length names → name ≡ get_or names i []
+pub stops_at : (told : List ℕ → Option (List ℕ)) (names : List (List ℕ)) (i size : ℕ) (name : List ℕ) (here : Option (List ℕ)) (kept : Stored) (o r : Bool) (why : Stop) → i < length names → name ≡ get_or names i []
     → here ≡ told name → Reached told (take i names) size kept → StopsBy here size o r why → StopsAt told names o r name why
 stops_at told names i size name here kept o r why lt named same p h = record {
   front = take i names;

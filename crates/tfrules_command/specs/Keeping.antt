@@ -5,7 +5,7 @@ use Rattle.hcl_source.specs.Load.{IsText}
 use Rattle.hcl_grammar.specs.Verdict.{IsTextVerdict, verdict}
 use Rattle.hcl_tokens.specs.Scanned.{Scanned}
 use Rattle.hcl_tokens.specs.Scans.{Scans}
-use Rattle.tf_rules.specs.Kept.{Kept, kept_of, with_file}
+use Rattle.tf_rules.specs.Stored.{Stored, stored_of, with_file}
 use Rattle.tfrules_command.specs.Answer.{names_of}
 use Rattle.tfrules_command.specs.Files.{NamedFile, AreAccepted, max_module, numbered_files, size_of}
 use Rattle.tfrules_command.specs.Rows.{AreFiles}
@@ -26,7 +26,7 @@ ScansFile text size (Err stop.NotRead) = ⊥
 ScansFile text size (Err stop.OutOfMemory) = Unit {0}
 
 -- the answer of keeping scanned tokens, with which the files have this many bytes
-abbrev pub KeepsTokens : Scanned → ℕ → ℕ → Kept → Kept → Result ℕ Stop → Type 0
+abbrev pub KeepsTokens : Scanned → ℕ → ℕ → Stored → Stored → Result ℕ Stop → Type 0
 KeepsTokens scanned number all old new (Ok more) =
     (source : Scanned) × (Ok source ≡ verdict scanned) × (more ≡ all)
     × (new ≡ with_file old (record { number = number; source = source }))
@@ -37,7 +37,7 @@ KeepsTokens scanned number all old new (Err stop.NotRead) = ⊥
 KeepsTokens scanned number all old new (Err stop.OutOfMemory) = Unit {0}
 
 -- the answer of keeping a text after others of this many bytes
-abbrev pub Keeps : List ℕ → ℕ → ℕ → Kept → Kept → Result ℕ Stop → Type 0
+abbrev pub Keeps : List ℕ → ℕ → ℕ → Stored → Stored → Result ℕ Stop → Type 0
 Keeps text size number old new (Ok more) =
     (source : Scanned) × IsTextVerdict text (Ok source) × (more ≡ size + length text)
     × (more ≤ max_module) × (new ≡ with_file old (record { number = number; source = source }))
@@ -49,7 +49,7 @@ Keeps text size number old new (Err stop.NotRead) = ⊥
 Keeps text size number old new (Err stop.OutOfMemory) = Unit {0}
 
 -- a file was read and kept
-pub record Added (told : Option (List ℕ)) (size number : ℕ) (old new : Kept) (more : ℕ) : Type 0
+pub record Added (told : Option (List ℕ)) (size number : ℕ) (old new : Stored) (more : ℕ) : Type 0
   where
     pub bytes : List ℕ
     pub is : Tells told bytes
@@ -62,11 +62,11 @@ pub record Added (told : Option (List ℕ)) (size number : ℕ) (old new : Kept)
 
 -- the files of these names were accepted and kept
 pub record Reached (told : List ℕ
-    → Option (List ℕ)) (names : List (List ℕ)) (size : ℕ) (kept : Kept) : Type 0 where
+    → Option (List ℕ)) (names : List (List ℕ)) (size : ℕ) (kept : Stored) : Type 0 where
   pub files : List NamedFile
   pub named : names_of files ≡ names
   pub are : AreFiles told files
   pub sources : List Scanned
   pub accepted : AreAccepted files sources
   pub size_is : size ≡ size_of files
-  pub kept_is : kept ≡ kept_of (numbered_files 0 sources)
+  pub kept_is : kept ≡ stored_of (numbered_files 0 sources)

@@ -3,7 +3,7 @@
 ghost use Rattle.std.specs.Prelude.{◌≡◌, ◌≤◌, ◌<◌, false, ℕ, List};
 ghost use Rattle.tfrules_command.specs.Inner.Steps.{Adds, Gathers, ReadsFile, stop_by, stop_of_scan};
 ghost use Rattle.tfrules_command.specs.Keeping.{Keeps, KeepsTokens, ScansFile};
-ghost use Rattle.tf_rules.specs.Kept.{nothing};
+ghost use Rattle.tf_rules.specs.Stored.{nothing};
 ghost use Rattle.tfrules_command.specs.Files.{max_module};
 
 use crate::file_names::FileNames;

@@ -8,7 +8,7 @@ ghost use Rattle.tfrules_command.specs.Line.{options_of};
 ghost use Rattle.tfrules_command.specs.Report.{report_row, status};
 ghost use Rattle.tfrules_command.specs.Rows.{IsRow};
 ghost use Rattle.tfrules_command.specs.Asked.{request_of};
-ghost use Rattle.tf_rules.specs.Kept.{nothing};
+ghost use Rattle.tf_rules.specs.Stored.{nothing};
 ghost use Rattle.tfrules_command.specs.Inner.Steps.{stop_row, usage_row, usage_text};
 
 use crate::gather::gather;

@@ -22,7 +22,7 @@ use Rattle.hcl_source.specs.declared.fault.LoadError.{LoadError}
 use Rattle.hcl_source.specs.declared.fault.LoadError.TheVariants as error
 use Rattle.tf_rules.specs.Answers.{AreIssues}
 use Rattle.tf_rules.specs.Issues.{File, asked_of}
-use Rattle.tf_rules.specs.Kept.{Kept}
+use Rattle.tf_rules.specs.Stored.{Stored}
 use Rattle.tfrules_command.proofs.GatherLemmas.{fault_of_whole, next_number, numbered_more, outcome_of, reached_more, reached_none, tells_all}
 use Rattle.tf_rules.specs.declared.issue.Issue.{Issue}
 use Rattle.tfrules_command.specs.Files.{NamedFile, max_module, numbered_files}
@@ -130,7 +130,7 @@ stops_unread shows told size was is (stop.Failed fault) r = r
 
 -- ---- the file that isn't kept
 
-pub stops_at : (shows shown : Bool) (told : Name → Option (List ℕ)) (names : List Name) (i size : ℕ) (name : Name) (here : Option (List ℕ)) (kept : Kept) (first was is : Faults) (why : Stop) → i < length names → name ≡ get_or names i [] → here ≡ told name → was ≡ first
+pub stops_at : (shows shown : Bool) (told : Name → Option (List ℕ)) (names : List Name) (i size : ℕ) (name : Name) (here : Option (List ℕ)) (kept : Stored) (first was is : Faults) (why : Stop) → i < length names → name ≡ get_or names i [] → here ≡ told name → was ≡ first
     → Reached told (take i names) size kept → shown ≡ shows → StopsBy shown here size was is why → StopsAt shows told names first is name why
 stops_at shows shown told names i size name here kept first was is why lt named same e p on h = record {
   before = p.files;

@@ -54,7 +54,7 @@ fn column_told(at: Option<Position>) -> u32
 }
 
 /// A refusal that owns its texts.
-fn kept_of(alloc: Global, refusal: Refusal<'_>) -> Result<KeptRefusal, AllocError>
+fn stored_of(alloc: Global, refusal: Refusal<'_>) -> Result<KeptRefusal, AllocError>
     ensures { IfOk result
         (λ kept. kept_remark kept ≡ refusal_remark (refusal_view refusal.entry)) }
 {
@@ -110,7 +110,7 @@ impl KeptRefusals {
         if !self.is_whole {
             return;
         }
-        match kept_of(alloc, refusal) {
+        match stored_of(alloc, refusal) {
             Ok(refusal) => self.push(refusal),
             Err(_) => self.is_whole = false,
         }

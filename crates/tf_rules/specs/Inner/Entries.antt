@@ -12,10 +12,10 @@ use Rattle.rule_set.specs.RuleSets.{holds}
 use Rattle.rule_set.specs.declared.rule.Rule.{Rule}
 use Rattle.rule_set.specs.declared.rule.Rule.TheVariants.{DocumentedOutputs, DocumentedVariables, ModulePinnedSource, ModuleVersion, NamingConvention, TypedVariables, UnusedDeclarations}
 use Rattle.tf_facts.specs.Declarations.{Declaration}
-use Rattle.tf_rules.specs.Kept.{Kept, issue_at}
+use Rattle.tf_rules.specs.Stored.{Stored, issue_at}
 use Rattle.tf_rules.specs.declared.settings.Settings.{Settings}
 use Rattle.tf_rules.specs.Naming.{naming_text}
-use Rattle.tf_rules.specs.Inner.KeptViews.{kept_declaration, kept_names, place_of}
+use Rattle.tf_rules.specs.Inner.StoredViews.{stored_declaration, stored_names, place_of}
 use Rattle.tf_rules.specs.declared.entry.Entry.{Entry}
 use Rattle.tf_rules.specs.declared.entry.Finding.{Finding}
 use Rattle.tf_rules.specs.declared.entry.Said.{Said}
@@ -29,10 +29,10 @@ opened name rest = codes " \"" ++ (name ++ rest)
 -- the text of a message
 abbrev pub text_of : Said → List ℕ
 text_of (Fixed text) = text.now
-text_of (About d rest) = findings.kind_text d.now.kind ++ opened (last_of (kept_names d.now.names)) rest.now
-text_of (DefaultBranch d branch) = findings.about (kept_declaration d.now) (codes " source uses a default branch: " ++ branch.now)
-text_of (Misnamed d naming) = findings.kind_text d.now.kind ++ (codes " name" ++ findings.quoting (last_of (kept_names d.now.names)) (codes " must match " ++ naming_text naming))
-text_of (Unused d) = findings.kind_text d.now.kind ++ findings.both_quoted (kept_names d.now.names) (codes " is declared but not used")
+text_of (About d rest) = findings.kind_text d.now.kind ++ opened (last_of (stored_names d.now.names)) rest.now
+text_of (DefaultBranch d branch) = findings.about (stored_declaration d.now) (codes " source uses a default branch: " ++ branch.now)
+text_of (Misnamed d naming) = findings.kind_text d.now.kind ++ (codes " name" ++ findings.quoting (last_of (stored_names d.now.names)) (codes " must match " ++ naming_text naming))
+text_of (Unused d) = findings.kind_text d.now.kind ++ findings.both_quoted (stored_names d.now.names) (codes " is declared but not used")
 
 abbrev pub issue_of : Entry → Issue
 issue_of e = record { place = place_of e.at; rule = e.rule; message = text_of e.said }
@@ -56,7 +56,7 @@ entry_cmp a b = ordering_then (ordering_then (nat_cmp a.at.file b.at.file) (nat_
 -- ---- the reports, rule by rule and declaration by declaration
 
 -- the issues of a rule, if it is requested
-abbrev pub issues_by : Settings → Kept → Rule → List Issue
+abbrev pub issues_by : Settings → Stored → Rule → List Issue
 issues_by s kept rule = if holds s.rules rule then map (issue_at rule) (findings.findings s.naming kept.references kept.facts rule) else []
 
 -- the issues of a rule about one declaration, if the rule is requested

@@ -6,7 +6,7 @@ use Rattle.hcl_tokens.specs.declared.token.ScanError.{ScanError}
 use Rattle.hcl_tokens.specs.declared.token.ScanError.TheVariants as scan_error
 use Rattle.hcl_source.specs.declared.fault.LoadError.{LoadError}
 use Rattle.hcl_source.specs.declared.fault.LoadError.TheVariants as error
-use Rattle.tf_rules.specs.Kept.{Kept}
+use Rattle.tf_rules.specs.Stored.{Stored}
 use Rattle.tfrules_command.specs.Answer.{file_error, linter, refusal_row, too_large, usage_line}
 use Rattle.tfrules_command.specs.Files.{IsFault, IsTooMuch}
 use Rattle.tfrules_command.specs.Keeping.{Added, Reached}
@@ -50,7 +50,7 @@ StopsBy told size o r stop.NotOpened = o ≡ true
 StopsBy told size o r stop.NotRead = (o ≡ false) × (r ≡ true)
 StopsBy told size o r stop.OutOfMemory = AreFine o r
 
-abbrev pub Adds : Option (List ℕ) → ℕ → ℕ → Bool → Bool → Kept → Kept → Result ℕ Stop → Type 0
+abbrev pub Adds : Option (List ℕ) → ℕ → ℕ → Bool → Bool → Stored → Stored → Result ℕ Stop → Type 0
 Adds told size number o r old new (Ok more) = AreFine o r × Added told size number old new more
 Adds told size number o r old new (Err why) = StopsBy told size o r why
 
@@ -60,11 +60,11 @@ pub record StopsAt (told : List ℕ → Option (List ℕ)) (names : List (List �
   pub after : List (List ℕ)
   pub split : names ≡ front ++ name ∷ after
   pub size : ℕ
-  pub kept : Kept
+  pub kept : Stored
   pub reached : Reached told front size kept
   pub by : StopsBy (told name) size o r why
 
-abbrev pub Gathers : {U : Type 0} → (List ℕ → Option (List ℕ)) → List (List ℕ) → Bool → Bool → Kept → Result U Stopped → Type 0
+abbrev pub Gathers : {U : Type 0} → (List ℕ → Option (List ℕ)) → List (List ℕ) → Bool → Bool → Stored → Result U Stopped → Type 0
 Gathers told names o r kept (Ok u) = AreFine o r × ((size : ℕ) × Reached told names size kept)
 Gathers told names o r kept (Err stopped) = StopsAt told names o r stopped.name.now stopped.why
 

@@ -5,13 +5,13 @@ use Rattle.rule_set.specs.declared.rule.Rule.{Rule}
 use Rattle.rule_set.specs.declared.rule.Rule.TheVariants.{DocumentedOutputs, DocumentedVariables, ModuleVersion, NamingConvention, TypedVariables, UnusedDeclarations, ModulePinnedSource}
 use Rattle.tf_rules.specs.Issues.{Issue}
 use Rattle.tf_rules.specs.Inner.Entries.{issues_if_asked, issues_of}
-use Rattle.tf_rules.specs.Inner.KeptViews.{kept_declaration}
+use Rattle.tf_rules.specs.Inner.StoredViews.{stored_declaration}
 use Rattle.tf_rules.proofs.EntryLemmas.{put_before}
 use Rattle.tf_rules.proofs.finding.push_findings.Goals as goal
 
 pub returns : goal.returns
 returns c =
-    let by : Rule → List Issue = issues_if_asked c.args.inputs.now.settings.now c.args.inputs.now.used.now (kept_declaration c.args.declaration.now) in
+    let by : Rule → List Issue = issues_if_asked c.args.inputs.now.settings.now c.args.inputs.now.used.now (stored_declaration c.args.declaration.now) in
     let before = issues_of c.push_if_requested-6.new.entries.items in
     let last : List Issue = by ModulePinnedSource ++ [] in
     let from_6 : List Issue = by UnusedDeclarations ++ last in

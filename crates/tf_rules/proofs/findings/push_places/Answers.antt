@@ -1,8 +1,8 @@
 use Rattle.std.proofs.Common.{◌∙◌, ap, sym, arith, ◌++◌, ◌∷◌, [], map}
 use Rattle.tf_rules.specs.Findings.{says_of}
-use Rattle.tf_rules.specs.Kept.{issue_at}
+use Rattle.tf_rules.specs.Stored.{issue_at}
 use Rattle.tf_rules.specs.Inner.Entries.{issues_of}
-use Rattle.tf_rules.specs.Inner.KeptViews.{place_of}
+use Rattle.tf_rules.specs.Inner.StoredViews.{place_of}
 use Rattle.tf_rules.proofs.EntryLemmas.{put_all, put_each}
 use Rattle.tf_rules.proofs.FindingLemmas.{map-map}
 use Rattle.tf_rules.proofs.findings.push_places.Goals as goal

@@ -1,9 +1,9 @@
 use Rattle.std.proofs.Common.{◌≡◌, ◌++◌, ◌∷◌, [], take}
 use Rattle.std.specs.List.{flat_map}
 use Rattle.tf_rules.specs.Findings.{says_of}
-use Rattle.tf_rules.specs.Kept.{issue_at}
+use Rattle.tf_rules.specs.Stored.{issue_at}
 use Rattle.tf_rules.specs.Inner.Entries.{issues_of}
-use Rattle.tf_rules.specs.Inner.KeptViews.{place_of}
+use Rattle.tf_rules.specs.Inner.StoredViews.{place_of}
 use Rattle.tf_rules.proofs.findings.push_places.Given as goal
 
 abbrev pub invariant-loop-at : goal.invariant-loop-at

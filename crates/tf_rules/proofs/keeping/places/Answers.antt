@@ -1,5 +1,5 @@
 use Rattle.tf_rules.specs.Issues.{place_in}
-use Rattle.tf_rules.specs.Inner.KeptViews.{place_of}
+use Rattle.tf_rules.specs.Inner.StoredViews.{place_of}
 use Rattle.tf_rules.proofs.KeepingLemmas.{begins_single}
 use Rattle.tf_rules.proofs.keeping.places.Goals as goal
 

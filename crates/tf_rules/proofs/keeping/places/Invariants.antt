@@ -1,6 +1,6 @@
 use Rattle.std.proofs.Common.{[], ◌∷◌}
 use Rattle.tf_rules.specs.Issues.{place_in}
-use Rattle.tf_rules.specs.Inner.KeptViews.{place_of}
+use Rattle.tf_rules.specs.Inner.StoredViews.{place_of}
 use Rattle.tf_rules.specs.Inner.Locating.{IsKeeping}
 use Rattle.tf_rules.proofs.keeping.places.Given as goal
 

@@ -9,7 +9,7 @@ use Rattle.tf_rules.specs.Findings.{Finding}
 use Rattle.tf_rules.specs.Issues.{File, Place, Issue, tokens_of, place_in, comment_at}
 use Rattle.rule_set.specs.declared.rule.Rule.{Rule}
 
-pub record Kept : Type 0 where
+pub record Stored : Type 0 where
   pub facts : Facts Place
   pub references : List (List ℕ)  -- each reference once
 
@@ -40,7 +40,7 @@ facts_at f k =
 
 -- ---- one file, and several
 
-abbrev pub nothing : Kept
+abbrev pub nothing : Stored
 nothing =
     record {
       facts = record { comments = []; indexes = []; interpolations = []; declarations = [] };
@@ -58,15 +58,15 @@ both a b =
     }
 
 -- the stored facts with those of one more file
-abbrev pub with_file : Kept → File → Kept
+abbrev pub with_file : Stored → File → Stored
 with_file kept file = record {
   facts = both kept.facts (facts_at (place_in file) (facts_of (tokens_of file)));
   references = insert_all bytes_eq kept.references (references (tokens_of file));
 }
 
 -- THE STORED FACTS of these files
-abbrev pub kept_of : List File → Kept
-kept_of files = fold with_file nothing files
+abbrev pub stored_of : List File → Stored
+stored_of files = fold with_file nothing files
 
 -- ---- issues
 

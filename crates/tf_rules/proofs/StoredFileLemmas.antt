@@ -7,15 +7,15 @@ use Rattle.tf_facts.specs.Comments.{Comment}
 use Rattle.tf_facts.specs.Declarations.{Declaration}
 use Rattle.tf_facts.specs.Facts.{Facts, facts_of}
 use Rattle.tf_rules.specs.Issues.{File, Place, comment_at, place_in, tokens_of}
-use Rattle.tf_rules.specs.Kept.{declaration_at, facts_at}
+use Rattle.tf_rules.specs.Stored.{declaration_at, facts_at}
 use Rattle.tf_facts.specs.Found.{facts, comment, declaration}
-use Rattle.tf_rules.specs.Inner.KeptFacts.{kept_facts}
-use Rattle.tf_rules.specs.Inner.KeptViews.{kept_comment, kept_declaration, place_of}
+use Rattle.tf_rules.specs.Inner.StoredFacts.{stored_facts}
+use Rattle.tf_rules.specs.Inner.StoredViews.{stored_comment, stored_declaration, place_of}
 use Rattle.tf_rules.specs.Inner.Locating.{Locating, CanAdvance, Forward, numbers_of}
 use Rattle.tf_facts.specs.declared.file_facts.FileFacts.{FileFacts}
 use Rattle.tf_facts.specs.declared.found.Declared.{Declared}
 use Rattle.tf_facts.specs.declared.found.FoundComment.{FoundComment}
-use Rattle.tf_rules.specs.declared.kept_file.KeptFile.{KeptFile}
+use Rattle.tf_rules.specs.declared.stored_file.StoredFile.{StoredFile}
 use Rattle.tf_rules.proofs.FindingLemmas.{map-map}
 use Rattle.tf_rules.proofs.ForwardLemmas.{comments_forward, declarations_forward, indexes_forward, interpolations_forward}
 
@@ -52,16 +52,16 @@ module _ (file : File) (found : FileFacts) (is : facts found ≡ facts_of (token
   abbrev made : List (Comment Place) → List Place → List Place → List (Declaration Place) → Facts Place
   made cs ns ws ds = record { comments = cs; indexes = ns; interpolations = ws; declarations = ds }
 
-  pub all_kept : (kept : KeptFile)
-      → map kept_comment kept.comments.items ≡ map (λ (c : FoundComment). comment_at (place_in file) (comment c)) found.comments.items
+  pub all_kept : (kept : StoredFile)
+      → map stored_comment kept.comments.items ≡ map (λ (c : FoundComment). comment_at (place_in file) (comment c)) found.comments.items
       → map place_of kept.indexes.items ≡ map (place_in file) found.indexes.items
       → map place_of kept.interpolations.items ≡ map (place_in file) found.interpolations.items
-      → map kept_declaration kept.declarations.items ≡ map (λ (d : Declared). declaration_at (place_in file) (declaration d)) found.declarations.items
-      → kept_facts kept ≡ facts_at (place_in file) (facts_of (tokens_of file))
+      → map stored_declaration kept.declarations.items ≡ map (λ (d : Declared). declaration_at (place_in file) (declaration d)) found.declarations.items
+      → stored_facts kept ≡ facts_at (place_in file) (facts_of (tokens_of file))
   all_kept kept c n w d =
-      ap (λ cs. made cs (map place_of kept.indexes.items) (map place_of kept.interpolations.items) (map kept_declaration kept.declarations.items)) (c ∙ sym (map-map (comment_at (place_in file)) comment found.comments.items))
-      ∙ ap (λ ns. made (map (comment_at (place_in file)) (map comment found.comments.items)) ns (map place_of kept.interpolations.items) (map kept_declaration kept.declarations.items)) n
-      ∙ ap (λ ws. made (map (comment_at (place_in file)) (map comment found.comments.items)) (map (place_in file) found.indexes.items) ws (map kept_declaration kept.declarations.items)) w
+      ap (λ cs. made cs (map place_of kept.indexes.items) (map place_of kept.interpolations.items) (map stored_declaration kept.declarations.items)) (c ∙ sym (map-map (comment_at (place_in file)) comment found.comments.items))
+      ∙ ap (λ ns. made (map (comment_at (place_in file)) (map comment found.comments.items)) ns (map place_of kept.interpolations.items) (map stored_declaration kept.declarations.items)) n
+      ∙ ap (λ ws. made (map (comment_at (place_in file)) (map comment found.comments.items)) (map (place_in file) found.indexes.items) ws (map stored_declaration kept.declarations.items)) w
       ∙ ap (λ ds. made (map (comment_at (place_in file)) (map comment found.comments.items)) (map (place_in file) found.indexes.items) (map (place_in file) found.interpolations.items) ds)
       (d ∙ sym (map-map (declaration_at (place_in file)) declaration found.declarations.items))
       ∙ ap (facts_at (place_in file)) is

@@ -13,15 +13,15 @@ use Rattle.tf_facts.specs.Comments.{Comment, comments}
 use Rattle.tf_rules.specs.Findings.{Finding, findings}
 use Rattle.tf_facts.specs.Facts.{facts_of}
 use Rattle.tf_rules.specs.Issues.{Asked, File, Place, tokens_of, place_in, all_references, all_comments, comment_at, is_silenced, issues_in, reported_issues, issues}
-use Rattle.tf_rules.specs.Kept.{Kept, nothing, with_file, kept_of, facts_at, issue_at}
-use Rattle.tf_rules.specs.KeptIssues.{reported_of_kept, issues_of_kept}
+use Rattle.tf_rules.specs.Stored.{Stored, nothing, with_file, stored_of, facts_at, issue_at}
+use Rattle.tf_rules.specs.StoredIssues.{reported_of_stored, issues_of_stored}
 use Rattle.tf_rules.proofs.FindingLemmas.{map-map, map-flat_map, flat_map_same, finding_at, findings-at, findings-both, SameTexts, findings_same}
 use Rattle.rule_set.specs.declared.rule.Rule.{Rule}
 use Rattle.rule_set.specs.declared.rule.Rule.TheVariants.{CommentSyntax, DeprecatedIndex, DeprecatedInterpolation, DocumentedOutputs, DocumentedVariables, ModulePinnedSource, ModuleVersion, NamingConvention, TypedVariables, UnusedDeclarations}
 use Rattle.tf_rules.specs.declared.naming.Naming.{Naming}
 
-pub kept_of_more : (files : List File) (file : File) → kept_of (files ++ file ∷ []) ≡ with_file (kept_of files) file
-kept_of_more files file = fold-append with_file nothing files (file ∷ [])
+pub stored_of_more : (files : List File) (file : File) → stored_of (files ++ file ∷ []) ≡ with_file (stored_of files) file
+stored_of_more files file = fold-append with_file nothing files (file ∷ [])
 
 -- ---- references
 
@@ -63,23 +63,23 @@ all_inserted p ks [] = sym (or_false (list_any p ks))
 all_inserted p ks (x ∷ xs) =
     all_inserted p (insert_key bytes_eq ks x) xs ∙ ap (λ b. b || list_any p xs) (inserted_any p ks x) ∙ or_assoc (list_any p ks) (p x) (list_any p xs)
 
-kept_any : (p : List ℕ → Bool) (kept : Kept) (files : List File) → list_any p (fold with_file kept files).references ≡ (list_any p kept.references || list_any p (all_references files))
-kept_any p kept [] = sym (or_false (list_any p kept.references))
-kept_any p kept (file ∷ files) =
-    kept_any p (with_file kept file) files
+stored_any : (p : List ℕ → Bool) (kept : Stored) (files : List File) → list_any p (fold with_file kept files).references ≡ (list_any p kept.references || list_any p (all_references files))
+stored_any p kept [] = sym (or_false (list_any p kept.references))
+stored_any p kept (file ∷ files) =
+    stored_any p (with_file kept file) files
     ∙ ap (λ b. b || list_any p (all_references files)) (all_inserted p kept.references (references (tokens_of file)))
     ∙ or_assoc (list_any p kept.references) (list_any p (references (tokens_of file))) (list_any p (all_references files))
     ∙ ap (λ b. list_any p kept.references || b) (sym (list_any-append p (references (tokens_of file)) (all_references files)))
 
-pub same_references : (files : List File) → SameTexts (all_references files) (kept_of files).references
-same_references files text = sym (kept_any (bytes_eq text) nothing files)
+pub same_references : (files : List File) → SameTexts (all_references files) (stored_of files).references
+same_references files text = sym (stored_any (bytes_eq text) nothing files)
 
 -- ---- findings, file by file
 
 abbrev found_in : Naming → List (List ℕ) → Rule → File → List (Finding Place)
 found_in naming used rule file = findings naming used (facts_at (place_in file) (facts_of (tokens_of file))) rule
 
-found_kept : (naming : Naming) (used : List (List ℕ)) (rule : Rule) (kept : Kept) (files : List File)
+found_kept : (naming : Naming) (used : List (List ℕ)) (rule : Rule) (kept : Stored) (files : List File)
     → findings naming used (fold with_file kept files).facts rule ≡ findings naming used kept.facts rule ++ flat_map (found_in naming used rule) files
 found_kept naming used rule kept [] = sym (append-nil (findings naming used kept.facts rule))
 found_kept naming used rule kept (file ∷ files) =
@@ -105,30 +105,30 @@ issues_found asked used rule file =
     ∙ map-map (issue_at rule) (finding_at (place_in file)) (findings asked.naming used (facts_of (tokens_of file)) rule)
 
 by_rule : (asked : Asked) (files : List File) (rule : Rule)
-    → flat_map (issues_in asked (all_references files) rule) files ≡ map (issue_at rule) (findings asked.naming (kept_of files).references (kept_of files).facts rule)
+    → flat_map (issues_in asked (all_references files) rule) files ≡ map (issue_at rule) (findings asked.naming (stored_of files).references (stored_of files).facts rule)
 by_rule asked files rule =
     let used = all_references files in
     sym (
     ap (map (issue_at rule)) (
-    sym (findings_same asked.naming used (kept_of files).references (same_references files) (kept_of files).facts rule)
+    sym (findings_same asked.naming used (stored_of files).references (same_references files) (stored_of files).facts rule)
     ∙ found_kept asked.naming used rule nothing files
     ∙ ap (λ r. r ++ flat_map (found_in asked.naming used rule) files) (none_found asked.naming used rule))
     ∙ map-flat_map (issue_at rule) (found_in asked.naming used rule) files
     ∙ flat_map_same (λ file. map (issue_at rule) (found_in asked.naming used rule file)) (issues_in asked used rule) (issues_found asked used rule) files)
 
-pub reported_is : (asked : Asked) (files : List File) → reported_issues asked files ≡ reported_of_kept asked (kept_of files)
+pub reported_is : (asked : Asked) (files : List File) → reported_issues asked files ≡ reported_of_stored asked (stored_of files)
 reported_is asked files =
     flat_map_same (λ rule. flat_map (issues_in asked (all_references files) rule) files)
-    (λ rule. map (issue_at rule) (findings asked.naming (kept_of files).references (kept_of files).facts rule)) (by_rule asked files) asked.rules
+    (λ rule. map (issue_at rule) (findings asked.naming (stored_of files).references (stored_of files).facts rule)) (by_rule asked files) asked.rules
 
 -- ---- comments
 
-kept_comments : (kept : Kept) (files : List File) → (fold with_file kept files).facts.comments ≡ kept.facts.comments ++ all_comments files
-kept_comments kept [] = sym (append-nil kept.facts.comments)
-kept_comments kept (file ∷ files) =
-    kept_comments (with_file kept file) files
+stored_comments : (kept : Stored) (files : List File) → (fold with_file kept files).facts.comments ≡ kept.facts.comments ++ all_comments files
+stored_comments kept [] = sym (append-nil kept.facts.comments)
+stored_comments kept (file ∷ files) =
+    stored_comments (with_file kept file) files
     ∙ append_assoc kept.facts.comments (map (comment_at (place_in file)) (comments (tokens_of file))) (all_comments files)
 
-pub issues_of_kept_is : (asked : Asked) (files : List File) → issues asked files ≡ issues_of_kept asked (kept_of files)
+pub issues_of_kept_is : (asked : Asked) (files : List File) → issues asked files ≡ issues_of_stored asked (stored_of files)
 issues_of_kept_is asked files =
-    ap₂ (λ (cs : List (Comment Place)) is. filter (λ i. not (is_silenced cs i)) is) (sym (kept_comments nothing files)) (reported_is asked files)
+    ap₂ (λ (cs : List (Comment Place)) is. filter (λ i. not (is_silenced cs i)) is) (sym (stored_comments nothing files)) (reported_is asked files)

@@ -3,13 +3,13 @@ use Rattle.std.specs.Prelude.{not, List, filter, map}
 use Rattle.std.specs.List.{flat_map}
 use Rattle.tf_rules.specs.Findings.{findings}
 use Rattle.tf_rules.specs.Issues.{Issue, Asked, is_silenced}
-use Rattle.tf_rules.specs.Kept.{Kept, issue_at}
+use Rattle.tf_rules.specs.Stored.{Stored, issue_at}
 
-abbrev pub reported_of_kept : Asked → Kept → List Issue
-reported_of_kept asked kept =
+abbrev pub reported_of_stored : Asked → Stored → List Issue
+reported_of_stored asked kept =
     flat_map (λ rule. map (issue_at rule) (findings asked.naming kept.references kept.facts rule))
     asked.rules
 
-abbrev pub issues_of_kept : Asked → Kept → List Issue
-issues_of_kept asked kept =
-    filter (λ i. not (is_silenced kept.facts.comments i)) (reported_of_kept asked kept)
+abbrev pub issues_of_stored : Asked → Stored → List Issue
+issues_of_stored asked kept =
+    filter (λ i. not (is_silenced kept.facts.comments i)) (reported_of_stored asked kept)
