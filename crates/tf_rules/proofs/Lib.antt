@@ -9,7 +9,7 @@ pub mod WalkLemmas
 pub mod PlaceLemmas
 pub mod EntryLemmas
 pub mod ExchangeLemmas
-pub mod SaidLemmas
+pub mod StatementLemmas
 pub mod SortLemmas
 pub mod SilencedLemmas
 pub mod RisingLemmas

@@ -6,7 +6,7 @@ use rule_set::Rule;
 
 /// A rule's message about a token, in parts: the text of an issue that isn't shown is never built.
 #[derive(Clone, Copy)]
-pub enum Said<'f> {
+pub enum Statement<'f> {
     /// A text of the rule's own.
     Fixed(&'static str),
     /// `KIND "NAME` of a declaration, and the text from the closing quote on.
@@ -23,7 +23,7 @@ pub enum Said<'f> {
 #[derive(Clone, Copy)]
 pub struct Finding<'f> {
     pub at: TokenPlace,
-    pub said: Said<'f>,
+    pub statement: Statement<'f>,
 }
 
 /// An issue, with the number of its token.
@@ -31,5 +31,5 @@ pub struct Finding<'f> {
 pub struct Entry<'f> {
     pub at: TokenPlace,
     pub rule: Rule,
-    pub said: Said<'f>,
+    pub statement: Statement<'f>,
 }

@@ -12,10 +12,10 @@ ghost use Rattle.tf_facts.specs.Declarations.{is_kind};
 ghost use Rattle.tf_facts.specs.Found.{source};
 ghost use Rattle.std.specs.Option.{option_map};
 
-use crate::entry::{Entry, Said};
+use crate::entry::{Entry, Statement};
 use crate::kept::{StoredDeclaration, StoredNames, StoredSource, TokenPlace};
 use crate::naming::{Naming, matches_naming};
-use crate::said::last;
+use crate::statement::last;
 use crate::settings::Settings;
 use rule_set::Rule;
 use std::alloc::AllocError;
@@ -39,13 +39,13 @@ fn put<'f>(
     entries: &mut Vec<Entry<'f>>,
     rule: Rule,
     at: TokenPlace,
-    said: Said<'f>,
+    statement: Statement<'f>,
 ) -> Result<(), AllocError>
     ensures { OnOk result (issues_of entries.new.items
         ≡ issues_of entries.old.items ++ issue_at rule
-        (record { at = place_of at; message = text_of said.entry }) ∷ []) }
+        (record { at = place_of at; message = text_of statement.entry }) ∷ []) }
 {
-    entries.push(Entry { at, rule, said })?;
+    entries.push(Entry { at, rule, statement })?;
     Ok(())
 }
 
@@ -71,7 +71,7 @@ fn push_lacking<'f>(
         entries,
         rule,
         declaration.at,
-        Said::About(declaration, rest),
+        Statement::About(declaration, rest),
     )
 }
 
@@ -94,13 +94,13 @@ fn push_unpinned_by<'f>(
             entries,
             rule,
             found.at,
-            Said::About(declaration, "\" source is not pinned"),
+            Statement::About(declaration, "\" source is not pinned"),
         ),
         ModuleSource::DefaultBranch(branch) => put(
             entries,
             rule,
             found.at,
-            Said::DefaultBranch(declaration, branch),
+            Statement::DefaultBranch(declaration, branch),
         ),
     }
 }
@@ -152,7 +152,7 @@ fn push_misnamed<'f>(
         entries,
         rule,
         declaration.at,
-        Said::Misnamed(declaration, naming),
+        Statement::Misnamed(declaration, naming),
     )
 }
 
@@ -239,7 +239,7 @@ fn push_unused<'f>(
     if !is_unused(used, declaration, text)? {
         return Ok(());
     }
-    put(entries, rule, declaration.at, Said::Unused(declaration))
+    put(entries, rule, declaration.at, Statement::Unused(declaration))
 }
 
 /// Pushes the finding of a rule about a declaration, if all files together have these references. A reference to it is

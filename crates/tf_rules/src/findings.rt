@@ -7,7 +7,7 @@ ghost use Rattle.tf_rules.specs.Stored.{issue_at};
 ghost use Rattle.tf_rules.specs.Inner.Entries.{issues_of, finding_listed, issues_declared};
 ghost use Rattle.tf_rules.specs.Inner.StoredViews.{stored_comment, stored_declaration, place_of};
 
-use crate::entry::{Entry, Finding, Said};
+use crate::entry::{Entry, Finding, Statement};
 use crate::finding::{Inputs, push_findings};
 use crate::kept::{StoredComment, StoredDeclaration, TokenPlace};
 use crate::settings::Settings;
@@ -30,7 +30,7 @@ fn put<'f>(
     entries.push(Entry {
         at: found.at,
         rule,
-        said: found.said,
+        statement: found.statement,
     })?;
     Ok(())
 }
@@ -44,7 +44,7 @@ fn slash_comment_finding(comment: StoredComment) -> Option<Finding<'static>>
     }
     Some(Finding {
         at: comment.at,
-        said: Said::Fixed("line comments should begin with #"),
+        statement: Statement::Fixed("line comments should begin with #"),
     })
 }
 
@@ -78,7 +78,7 @@ pub fn push_places(
     for at in places {
         let found = Finding {
             at: *at,
-            said: Said::Fixed(text),
+            statement: Statement::Fixed(text),
         };
         put(entries, rule, Some(found))?;
     }

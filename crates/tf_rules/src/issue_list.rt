@@ -6,7 +6,7 @@ ghost use Rattle.tf_rules.specs.Inner.Entries.{shown_of};
 
 use crate::entry::Entry;
 use crate::listed_issue::ListedIssue;
-use crate::said::message_parts;
+use crate::statement::message_parts;
 use std::marker::Model;
 
 /// The entry of this number.
@@ -26,7 +26,7 @@ fn listed_issue_of<'f>(entry: Entry<'f>) -> ListedIssue<'f>
         file: entry.at.file,
         at: entry.at.at,
         rule: entry.rule,
-        message: message_parts(entry.said),
+        message: message_parts(entry.statement),
     }
 }
 

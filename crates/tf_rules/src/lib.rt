@@ -24,7 +24,7 @@ mod message_text;
 mod naming;
 mod order;
 mod owned;
-mod said;
+mod statement;
 mod settings;
 mod silenced;
 

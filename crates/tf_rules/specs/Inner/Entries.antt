@@ -18,8 +18,8 @@ use Rattle.tf_rules.specs.Naming.{naming_text}
 use Rattle.tf_rules.specs.Inner.StoredViews.{stored_declaration, stored_names, place_of}
 use Rattle.tf_rules.specs.declared.entry.Entry.{Entry}
 use Rattle.tf_rules.specs.declared.entry.Finding.{Finding}
-use Rattle.tf_rules.specs.declared.entry.Said.{Said}
-use Rattle.tf_rules.specs.declared.entry.Said.TheVariants.{Fixed, About, DefaultBranch, Misnamed, Unused}
+use Rattle.tf_rules.specs.declared.entry.Statement.{Statement}
+use Rattle.tf_rules.specs.declared.entry.Statement.TheVariants.{Fixed, About, DefaultBranch, Misnamed, Unused}
 use Rattle.tf_facts.specs.References.{last_of}
 
 -- a blank, a quote and a name; the closing quote begins the text after it
@@ -27,7 +27,7 @@ abbrev pub opened : List ℕ → List ℕ → List ℕ
 opened name rest = codes " \"" ++ (name ++ rest)
 
 -- the text of a message
-abbrev pub text_of : Said → List ℕ
+abbrev pub text_of : Statement → List ℕ
 text_of (Fixed text) = text.now
 text_of (About d rest) = findings.kind_text d.now.kind ++ opened (last_of (stored_names d.now.names)) rest.now
 text_of (DefaultBranch d branch) = findings.about (stored_declaration d.now) (codes " source uses a default branch: " ++ branch.now)
@@ -35,7 +35,7 @@ text_of (Misnamed d naming) = findings.kind_text d.now.kind ++ (codes " name" ++
 text_of (Unused d) = findings.kind_text d.now.kind ++ findings.both_quoted (stored_names d.now.names) (codes " is declared but not used")
 
 abbrev pub issue_of : Entry → Issue
-issue_of e = record { place = place_of e.at; rule = e.rule; message = text_of e.said }
+issue_of e = record { place = place_of e.at; rule = e.rule; message = text_of e.statement }
 
 abbrev pub issues_of : List Entry → List Issue
 issues_of entries = map issue_of entries
@@ -47,7 +47,7 @@ shown_of e = shown_issue (issue_of e)
 -- a list of one finding or none
 abbrev pub finding_listed : Option Finding → List (findings.Finding Place)
 finding_listed None = []
-finding_listed (Some f) = record { at = place_of f.at; message = text_of f.said } ∷ []
+finding_listed (Some f) = record { at = place_of f.at; message = text_of f.statement } ∷ []
 
 -- the order by file, then token, then the name of the rule
 abbrev pub entry_cmp : Entry → Entry → Ordering

@@ -1,4 +1,4 @@
-use Rattle.tf_rules.proofs.SaidLemmas.{listed_is}
+use Rattle.tf_rules.proofs.StatementLemmas.{listed_is}
 use Rattle.tf_rules.proofs.issue_list.listed_issue_of.Goals as goal
 
 pub returns : goal.returns

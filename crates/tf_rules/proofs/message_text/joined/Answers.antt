@@ -1,5 +1,5 @@
 use Rattle.std.specs.String.{string_bytes}
-use Rattle.tf_rules.proofs.SaidLemmas.{text_more}
+use Rattle.tf_rules.proofs.StatementLemmas.{text_more}
 use Rattle.tf_rules.proofs.message_text.joined.Goals as goal
 
 pub loop-text-preserved : goal.loop-text-preserved

@@ -23,5 +23,5 @@ pub told_by_name : (front kind quote name of rest : List ℕ) → front ≡ kind
 told_by_name front kind quote name of rest e f = ap₂ (λ a b. a ++ (b ++ rest)) e f ∙ append_assoc kind quote (of ++ rest)
 
 -- an entry in a list is the issue as it is shown
-pub listed_is : (e : Entry) (p : MessageParts) → text_of_parts p ≡ text_of e.said → listed_issue (record { file = e.at.file; at = e.at.at; rule = e.rule; message = p }) ≡ shown_of e
+pub listed_is : (e : Entry) (p : MessageParts) → text_of_parts p ≡ text_of e.statement → listed_issue (record { file = e.at.file; at = e.at.at; rule = e.rule; message = p }) ≡ shown_of e
 listed_is e p same = ap (λ m. record { file = e.at.file; at = e.at.at; rule = e.rule; message = m }) same

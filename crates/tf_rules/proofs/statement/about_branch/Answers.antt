@@ -3,8 +3,8 @@ use Rattle.std.proofs.lemmas.List.{append-nil}
 use Rattle.tf_facts.specs.References.{last_of}
 use Rattle.tf_rules.specs.Findings.{kind_text}
 use Rattle.tf_rules.specs.Inner.StoredViews.{stored_names}
-use Rattle.tf_rules.proofs.SaidLemmas.{told_by_name}
-use Rattle.tf_rules.proofs.said.about_branch.Goals as goal
+use Rattle.tf_rules.proofs.StatementLemmas.{told_by_name}
+use Rattle.tf_rules.proofs.statement.about_branch.Goals as goal
 
 pub returns : goal.returns
 returns c =

@@ -8,7 +8,7 @@ ghost use Rattle.tf_rules.specs.Naming.{naming_text};
 ghost use Rattle.tf_rules.specs.Inner.Entries.{opened, text_of};
 ghost use Rattle.tf_rules.specs.Inner.StoredViews.{stored_declaration, stored_names};
 
-use crate::entry::Said;
+use crate::entry::Statement;
 use crate::kept::{StoredDeclaration, StoredNames};
 use crate::message_parts::MessageParts;
 use crate::naming::Naming;
@@ -169,14 +169,14 @@ fn about_unused<'f>(declaration: &'f StoredDeclaration) -> MessageParts<'f>
 
 /// The message, part by part. Its callers match on the parts at once, so they aren't stored.
 #[inline(always)]
-pub fn message_parts<'f>(said: Said<'f>) -> MessageParts<'f>
-    ensures { text_of_parts result ≡ text_of said.entry }
+pub fn message_parts<'f>(statement: Statement<'f>) -> MessageParts<'f>
+    ensures { text_of_parts result ≡ text_of statement.entry }
 {
-    match said {
-        Said::Fixed(text) => MessageParts::whole(text),
-        Said::About(declaration, rest) => about(declaration, rest),
-        Said::DefaultBranch(declaration, branch) => about_branch(declaration, branch),
-        Said::Misnamed(declaration, naming) => about_naming(declaration, naming),
-        Said::Unused(declaration) => about_unused(declaration),
+    match statement {
+        Statement::Fixed(text) => MessageParts::whole(text),
+        Statement::About(declaration, rest) => about(declaration, rest),
+        Statement::DefaultBranch(declaration, branch) => about_branch(declaration, branch),
+        Statement::Misnamed(declaration, naming) => about_naming(declaration, naming),
+        Statement::Unused(declaration) => about_unused(declaration),
     }
 }

@@ -1,6 +1,6 @@
 use Rattle.std.proofs.Common.{◌++◌, codes, refl}
-use Rattle.tf_rules.proofs.SaidLemmas.{told_by_name}
-use Rattle.tf_rules.proofs.said.unused_by_both.Goals as goal
+use Rattle.tf_rules.proofs.StatementLemmas.{told_by_name}
+use Rattle.tf_rules.proofs.statement.unused_by_both.Goals as goal
 
 pub returns : goal.returns
 returns c =
