@@ -16,7 +16,7 @@ use Rattle.tf_rules.specs.Inner.Entries.{issue_of, issues_of}
 use Rattle.tf_rules.specs.Inner.StoredViews.{stored_comment}
 use Rattle.tf_rules.specs.Inner.SilencedLines.{is_in_set, is_on, same_line, silenced_at}
 use Rattle.tf_rules.specs.declared.entry.Entry.{Entry}
-use Rattle.tf_rules.specs.declared.kept.StoredComment.{StoredComment}
+use Rattle.tf_rules.specs.declared.stored.StoredComment.{StoredComment}
 use Rattle.rule_set.specs.declared.rule.Rule.{Rule}
 use Rattle.rule_set.specs.declared.rule.Rule.TheVariants.{CommentSyntax, DeprecatedIndex, DeprecatedInterpolation, DocumentedOutputs, DocumentedVariables, ModulePinnedSource, ModuleVersion, NamingConvention, TypedVariables, UnusedDeclarations}
 use Rattle.rule_set.specs.declared.rule_set.RuleSet.{RuleSet}

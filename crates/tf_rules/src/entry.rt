@@ -1,7 +1,7 @@
 //! Issues before they are shown, with the places of their tokens.
 
-use crate::kept::{StoredDeclaration, TokenPlace};
 use crate::naming::Naming;
+use crate::stored::{StoredDeclaration, TokenPlace};
 use rule_set::Rule;
 
 /// A rule's message about a token, in parts: the text of an issue that isn't shown is never built.

@@ -13,10 +13,10 @@ ghost use Rattle.tf_facts.specs.Found.{source};
 ghost use Rattle.std.specs.Option.{option_map};
 
 use crate::entry::{Entry, Statement};
-use crate::kept::{StoredDeclaration, StoredNames, StoredSource, TokenPlace};
 use crate::naming::{Naming, matches_naming};
-use crate::statement::last;
 use crate::settings::Settings;
+use crate::statement::last;
+use crate::stored::{StoredDeclaration, StoredNames, StoredSource, TokenPlace};
 use rule_set::Rule;
 use std::alloc::AllocError;
 use tf_facts::{DeclarationKind, ModuleSource, TextSet};
@@ -45,7 +45,11 @@ fn put<'f>(
         ≡ issues_of entries.old.items ++ issue_at rule
         (record { at = place_of at; message = text_of statement.entry }) ∷ []) }
 {
-    entries.push(Entry { at, rule, statement })?;
+    entries.push(Entry {
+        at,
+        rule,
+        statement,
+    })?;
     Ok(())
 }
 
@@ -191,7 +195,11 @@ fn is_unknown_data(
 }
 
 /// Whether there is no reference to the data of these labels.
-fn is_unused_data(used: &TextSet, names: &StoredNames, text: &mut String) -> Result<bool, AllocError>
+fn is_unused_data(
+    used: &TextSet,
+    names: &StoredNames,
+    text: &mut String,
+) -> Result<bool, AllocError>
     ensures { IfOk result (λ unused. unused
         ≡ is_unused used.now (uses_of DeclarationKind.Data (stored_names names.now))) }
 {
@@ -239,7 +247,12 @@ fn push_unused<'f>(
     if !is_unused(used, declaration, text)? {
         return Ok(());
     }
-    put(entries, rule, declaration.at, Statement::Unused(declaration))
+    put(
+        entries,
+        rule,
+        declaration.at,
+        Statement::Unused(declaration),
+    )
 }
 
 /// Pushes the finding of a rule about a declaration, if all files together have these references. A reference to it is

@@ -9,8 +9,8 @@ ghost use Rattle.tf_rules.specs.Inner.StoredViews.{stored_comment, stored_declar
 
 use crate::entry::{Entry, Finding, Statement};
 use crate::finding::{Inputs, push_findings};
-use crate::kept::{StoredComment, StoredDeclaration, TokenPlace};
 use crate::settings::Settings;
+use crate::stored::{StoredComment, StoredDeclaration, TokenPlace};
 use rule_set::Rule;
 use std::alloc::{AllocError, Global};
 use tf_facts::TextSet;

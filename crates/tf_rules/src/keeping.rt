@@ -10,8 +10,10 @@ ghost use Rattle.tf_facts.specs.Found as found;
 ghost use Rattle.tf_rules.specs.Inner.StoredViews.{stored_comment, stored_declaration, stored_names, stored_source, place_of};
 ghost use Rattle.tf_rules.specs.Inner.Locating.{CanAdvance, advanced, numbers_of, quotes};
 
-use crate::kept::{StoredComment, StoredDeclaration, StoredName, StoredNames, StoredSource, TokenPlace};
 use crate::locator::Locator;
+use crate::stored::{
+    StoredComment, StoredDeclaration, StoredName, StoredNames, StoredSource, TokenPlace,
+};
 use std::alloc::{AllocError, Global};
 use tf_facts::{Declared, FoundComment, FoundSource, Names};
 

@@ -7,7 +7,7 @@ ghost use Rattle.tf_rules.specs.Inner.StoredViews.{place_of};
 ghost use Rattle.tf_rules.specs.Inner.Locating.{CanAdvance, advanced};
 
 use crate::cursor::PositionCursor;
-use crate::kept::TokenPlace;
+use crate::stored::TokenPlace;
 use hcl_tokens::Tokens;
 use std::marker::Model;
 

@@ -10,7 +10,7 @@ ghost use Rattle.tf_rules.specs.Inner.SilencedLines.{AreSilenced, silenced_at};
 ghost use Rattle.rule_set.specs.declared.rule.Rule.{Rule};
 
 use crate::entry::Entry;
-use crate::kept::StoredComment;
+use crate::stored::StoredComment;
 use indexmap::IndexMap;
 use rule_set::{RuleSet, rules_of_both};
 use std::alloc::{AllocError, Global};
@@ -58,7 +58,10 @@ fn silence_by(lines: &mut SilencedLines, comment: StoredComment) -> Result<(), A
 }
 
 /// The rules that these comments silence on their own lines.
-pub fn silenced_lines(alloc: Global, comments: &[StoredComment]) -> Result<SilencedLines, AllocError>
+pub fn silenced_lines(
+    alloc: Global,
+    comments: &[StoredComment],
+) -> Result<SilencedLines, AllocError>
     ensures { IfOk result (λ lines. AreSilenced lines (map stored_comment comments.now)) }
 {
     let mut lines = IndexMap::new(alloc);

@@ -9,9 +9,9 @@ ghost use Rattle.tf_rules.specs.Inner.Entries.{opened, text_of};
 ghost use Rattle.tf_rules.specs.Inner.StoredViews.{stored_declaration, stored_names};
 
 use crate::entry::Statement;
-use crate::kept::{StoredDeclaration, StoredNames};
 use crate::message_parts::MessageParts;
 use crate::naming::Naming;
+use crate::stored::{StoredDeclaration, StoredNames};
 use tf_facts::DeclarationKind;
 
 /// The word for a kind of declaration.

@@ -7,9 +7,9 @@ ghost use Rattle.tf_rules.specs.Issues.{place_in, tokens_of};
 ghost use Rattle.tf_rules.specs.Stored.{facts_at};
 ghost use Rattle.tf_rules.specs.Inner.StoredFacts.{stored_facts};
 
-use crate::keeping::{stored_comments, stored_declarations, places};
-use crate::kept::{StoredComment, StoredDeclaration, TokenPlace};
+use crate::keeping::{places, stored_comments, stored_declarations};
 use crate::locator::Locator;
+use crate::stored::{StoredComment, StoredDeclaration, TokenPlace};
 use hcl_syntax::{Accepted, Outline};
 use std::alloc::{AllocError, Global};
 use tf_facts::facts_of;
@@ -40,7 +40,11 @@ pub fn stored_file(
     let comments = stored_comments(alloc, &found.comments, Locator::new(number, tokens))?;
     let indexes = places(alloc, &found.indexes, Locator::new(number, tokens))?;
     let interpolations = places(alloc, &found.interpolations, Locator::new(number, tokens))?;
-    let declarations = stored_declarations(alloc, &found.declarations, Locator::new(number, tokens))?;
+    let declarations = stored_declarations(
+        alloc,
+        &found.declarations,
+        Locator::new(number, tokens),
+    )?;
     Ok(StoredFile {
         comments,
         indexes,

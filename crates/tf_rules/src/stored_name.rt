@@ -3,7 +3,7 @@
 ghost use Rattle.std.specs.Prelude.{◌≡◌, IfOk};
 ghost use Rattle.tf_rules.specs.Inner.StoredViews.{stored_name};
 
-use crate::kept::StoredName;
+use crate::stored::StoredName;
 use arrayvec::ArrayString;
 use std::alloc::{AllocError, Global};
 

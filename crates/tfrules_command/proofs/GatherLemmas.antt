@@ -18,7 +18,7 @@ use Rattle.hcl_source.specs.declared.fault.LoadError.{LoadError}
 use Rattle.hcl_source.specs.declared.fault.LoadError.TheVariants as error
 use Rattle.hcl_source.proofs.LoadLemmas.{too_large_too}
 use Rattle.tf_rules.specs.Stored.{Stored, stored_of, with_file}
-use Rattle.tf_rules.proofs.StoredLemmas.{kept_of_more}
+use Rattle.tf_rules.proofs.StoredLemmas.{stored_of_more}
 use Rattle.tfrules_command.specs.Files.{NamedFile, IsAcceptedAs, max_module, numbered_files, size_of}
 use Rattle.hcl_source.specs.Devices.{Tells}
 use Rattle.tfrules_command.specs.Inner.Steps.{AreFine, Adds, ReadsFile, StopsAt, StopsBy, stop_by, stop_of_scan}
@@ -156,7 +156,7 @@ reached_more told names i size more name here old new lt named same p a =
       sources = p.sources ++ a.source ∷ [];
       accepted = record { each = all_zip_push p.files p.sources file a.source p.accepted.each (a.text, a.outcome); fit = subst (λ n. n ≤ max_module) (sym sum) a.fits };
       size_is = sym sum;
-      kept_is = a.kept ∙ ap (λ k. with_file k (record { number = i; source = a.source })) p.kept_is ∙ sym (kept_of_more (numbered_files 0 p.sources) (record { number = i; source = a.source }))
+      kept_is = a.kept ∙ ap (λ k. with_file k (record { number = i; source = a.source })) p.kept_is ∙ sym (stored_of_more (numbered_files 0 p.sources) (record { number = i; source = a.source }))
           ∙ ap stored_of (ap (λ (k : ℕ). numbered_files 0 p.sources ++ record { number = k; source = a.source } ∷ []) (sym count ∙ zip_length p.files p.sources p.accepted.each ∙ zero_more (length p.sources)) ∙ sym (numbered_more 0 p.sources a.source));
     }
   where

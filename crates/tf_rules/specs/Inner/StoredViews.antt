@@ -7,14 +7,14 @@ use Rattle.tf_facts.specs.Declarations.{Declaration, SourceAt}
 use Rattle.tf_rules.specs.Issues.{Place}
 use Rattle.rule_set.specs.RuleSets.{rules_of}
 use Rattle.tf_facts.specs.Found.{source}
-use Rattle.tf_rules.specs.declared.kept.StoredComment.{StoredComment}
-use Rattle.tf_rules.specs.declared.kept.StoredDeclaration.{StoredDeclaration}
-use Rattle.tf_rules.specs.declared.kept.StoredName.{StoredName}
-use Rattle.tf_rules.specs.declared.kept.StoredName.TheVariants.{Short, Long}
-use Rattle.tf_rules.specs.declared.kept.StoredNames.{StoredNames}
-use Rattle.tf_rules.specs.declared.kept.StoredNames.TheVariants.{None, One, Two, More}
-use Rattle.tf_rules.specs.declared.kept.StoredSource.{StoredSource}
-use Rattle.tf_rules.specs.declared.kept.TokenPlace.{TokenPlace}
+use Rattle.tf_rules.specs.declared.stored.StoredComment.{StoredComment}
+use Rattle.tf_rules.specs.declared.stored.StoredDeclaration.{StoredDeclaration}
+use Rattle.tf_rules.specs.declared.stored.StoredName.{StoredName}
+use Rattle.tf_rules.specs.declared.stored.StoredName.TheVariants.{Short, Long}
+use Rattle.tf_rules.specs.declared.stored.StoredNames.{StoredNames}
+use Rattle.tf_rules.specs.declared.stored.StoredNames.TheVariants.{None, One, Two, More}
+use Rattle.tf_rules.specs.declared.stored.StoredSource.{StoredSource}
+use Rattle.tf_rules.specs.declared.stored.TokenPlace.{TokenPlace}
 
 abbrev pub place_of : TokenPlace → Place
 place_of p = record { file = p.file; token = p.token; at = p.at }
