@@ -86,7 +86,13 @@ fn about<'f>(declaration: &'f StoredDeclaration, rest: &'static str) -> MessageP
 {
     let front = before_name(declaration.kind);
     let name = last(&declaration.names);
-    MessageParts::named(front, name, rest)
+    MessageParts {
+        front,
+        name,
+        between: "",
+        other: "",
+        rest,
+    }
 }
 
 /// The message that the source of a module uses a default branch.
@@ -116,7 +122,13 @@ fn about_naming<'f>(declaration: &'f StoredDeclaration, naming: Naming) -> Messa
     let front = before_misnamed(declaration.kind);
     let name = last(&declaration.names);
     let rest = after_misnamed(naming);
-    MessageParts::named(front, name, rest)
+    MessageParts {
+        front,
+        name,
+        between: "",
+        other: "",
+        rest,
+    }
 }
 
 /// The message that nothing refers to a declaration with this name.
@@ -125,7 +137,13 @@ fn unused_by_name<'f>(kind: DeclarationKind, name: &'f str) -> MessageParts<'f>
         ≡ kind_text kind ++ quoting name.now (codes " is declared but not used") }
 {
     let front = before_name(kind);
-    MessageParts::named(front, name, "\" is declared but not used")
+    MessageParts {
+        front,
+        name,
+        between: "",
+        other: "",
+        rest: "\" is declared but not used",
+    }
 }
 
 /// The message that nothing refers to a declaration with these two labels.
@@ -149,7 +167,13 @@ fn unused_by_none(kind: DeclarationKind) -> MessageParts<'static>
     ensures { text_of_parts result ≡ kind_text kind ++ codes " is declared but not used" }
 {
     let front = kind_text(kind);
-    MessageParts::named(front, "", " is declared but not used")
+    MessageParts {
+        front,
+        name: "",
+        between: "",
+        other: "",
+        rest: " is declared but not used",
+    }
 }
 
 /// The message that nothing refers to a declaration.
@@ -173,7 +197,13 @@ pub fn message_parts<'f>(statement: Statement<'f>) -> MessageParts<'f>
     ensures { text_of_parts result ≡ text_of statement.entry }
 {
     match statement {
-        Statement::Fixed(text) => MessageParts::whole(text),
+        Statement::Fixed(text) => MessageParts {
+            front: "",
+            name: "",
+            between: "",
+            other: "",
+            rest: text,
+        },
         Statement::About(declaration, rest) => about(declaration, rest),
         Statement::DefaultBranch(declaration, branch) => about_branch(declaration, branch),
         Statement::Misnamed(declaration, naming) => about_naming(declaration, naming),
