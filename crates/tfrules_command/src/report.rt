@@ -1,6 +1,6 @@
 //! The report of a run, written line by line: short lines are buffered until they fill a page.
 
-ghost use Rattle.std.specs.Prelude.{◌≡◌, ◌<◌, ◌≤◌, ◌++◌, [], ◌∷◌, false, true, drop, map, length, is_err, OnOk, if◌then◌else◌};
+ghost use Rattle.std.specs.Prelude.{◌≡◌, ◌<◌, ◌≤◌, ◌++◌, [], ◌∷◌, false, true, drop, map, length, is_err, OnOk, OnErr, if◌then◌else◌};
 ghost use Rattle.std.specs.List.{concat, flat_map, list_any};
 ghost use Rattle.std.specs.Io.KnownBytes.{Appends};
 ghost use Rattle.hcl_source.specs.Devices.{one_more};
@@ -11,7 +11,7 @@ ghost use Rattle.tfrules_command.specs.Inner.Pages.{GoesOut, Holds};
 ghost use Rattle.tfrules_command.specs.Inner.Parts.{closing_words, with_line_parts, lines_of_report, opening_words, place_words};
 
 use crate::shown_names::ShownNames;
-use arrayvec::ArrayVec;
+use arrayvec::{ArrayVec, CapacityError};
 use hcl_scan::{ByteSink, Position, WriteFault, write_fully};
 use itoa::{Buffer, write_digits};
 use tf_rules::{IssueList, ListedIssue, MessageParts, Rule, Severity};
@@ -124,6 +124,19 @@ fn write_each<O: ByteSink>(out: &mut O, pieces: &[&[u8]]) -> Result<(), WriteFau
     Ok(())
 }
 
+/// Appends a part to the waiting bytes, if there is room. Parts of a message may be empty, and a test costs less than a copy
+/// of nothing.
+#[inline(always)]
+fn push_part(page: &mut Page, part: &[u8]) -> Result<(), CapacityError>
+    ensures ok { OnOk result (page.new.items ≡ page.old.items ++ part.now) }
+    ensures err { OnErr result (page.new ≡ page.old) }
+{
+    if part.is_empty() {
+        return Ok(());
+    }
+    page.try_extend_from_slice(part)
+}
+
 /// Appends the pieces to the waiting bytes, or none of them if there is no room for all.
 fn hold(page: &mut Page, pieces: &[&[u8]]) -> bool
     ensures { Holds result page.old.items page.new.items
@@ -131,7 +144,7 @@ fn hold(page: &mut Page, pieces: &[&[u8]]) -> bool
 {
     let before = page.len();
     for piece in pieces {
-        if let Err(_) = page.try_extend_from_slice(piece) {
+        if let Err(_) = push_part(page, piece) {
             page.truncate(before);
             return false;
         }

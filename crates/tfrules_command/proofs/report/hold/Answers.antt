@@ -6,10 +6,10 @@ use Rattle.tfrules_command.proofs.report.hold.Goals as goal
 
 pub returns-in-Err : goal.returns-in-Err
 returns-in-Err c =
-    given_back c.args.page.now.items c.try_extend_from_slice.new.self.items c.truncate.new.self.items _ c.len-before.result c.len-before.ensures.value (ap (λ (v : ArrayVec ℕ). v.items) c.in-Err.ensures.err ∙ c.loop-piece.invariant)
+    given_back c.args.page.now.items c.push_part.new.page.items c.truncate.new.self.items _ c.len-before.result c.len-before.ensures.value (ap (λ (v : ArrayVec ℕ). v.items) c.in-Err.ensures.err ∙ c.loop-piece.invariant)
     c.truncate.ensures.items
 
 pub loop-piece-preserved : goal.loop-piece-preserved
 loop-piece-preserved c =
-    piece_more c.args.pieces.now c.loop-piece.piece-index _ _ c.args.page.now.items c.loop-piece.page.items c.try_extend_from_slice.new.self.items c.loop-piece-test.true refl c.in_default.ensures.ok
+    piece_more c.args.pieces.now c.loop-piece.piece-index _ _ c.args.page.now.items c.loop-piece.page.items c.push_part.new.page.items c.loop-piece-test.true refl c.in_default.ensures.ok
     c.loop-piece.invariant
