@@ -3,7 +3,7 @@ use Rattle.std.proofs.Common.{◌≡◌, ◌∙◌, ◌∷◌, ◌++◌, ◌<◌
 use Rattle.std.specs.Prelude.{◌==◌, ◌&&◌, Some, slice_get, if◌then◌else◌}
 use Rattle.std.specs.List.{flat_map}
 use Rattle.std.specs.Str.Lossy.{utf8_lossy}
-use Rattle.hcl_grammar.specs.Numbered.{numbered, numbered_from}
+use Rattle.hcl_grammar.specs.Numbered.{number_tokens, numbered_from}
 use Rattle.hcl_grammar.specs.Verdict.{start_of}
 use Rattle.hcl_grammar.proofs.NumberedLemmas.{numbered_at, numbered_here, numbered_past}
 use Rattle.hcl_source.specs.declared.fault.Position.{Position}
@@ -67,7 +67,7 @@ module _ (file : File) (n : ℕ) where
 
 -- those so far and those to come are all, and the walk is before the tokens to come
 pub record IsLooking (file : File) (first faults : List code.CommentFault) (n : ℕ) (walk : Walked) : Type 0 where
-  pub so_far : map fault_view faults ++ flat_map (fault_of file) (numbered_from n (drop n file.source.tokens)) ≡ map fault_view first ++ flat_map (fault_of file) (numbered file.source.tokens)
+  pub so_far : map fault_view faults ++ flat_map (fault_of file) (numbered_from n (drop n file.source.tokens)) ≡ map fault_view first ++ flat_map (fault_of file) (number_tokens file.source.tokens)
   pub text : walk.text ≡ file.source.text
   pub ahead : (j : ℕ) → n ≤ j → j < length file.source.tokens → walk.reached ≤ start_of file.source.tokens j
 
@@ -96,7 +96,7 @@ module _ (file : File) (first : List code.CommentFault) where
         rest : List CommentFault
         rest = flat_map (fault_of file) (numbered_from (n + 1) (drop (n + 1) file.source.tokens))
 
-    pub all_looked_at : length file.source.tokens ≤ n → map fault_view faults ≡ map fault_view first ++ flat_map (fault_of file) (numbered file.source.tokens)
+    pub all_looked_at : length file.source.tokens ≤ n → map fault_view faults ≡ map fault_view first ++ flat_map (fault_of file) (number_tokens file.source.tokens)
     all_looked_at past =
         sym (append-nil (map fault_view faults))
         ∙ ap (λ l. map fault_view faults ++ flat_map (fault_of file) l) (sym (sym (numbered_at file.source.tokens n) ∙ numbered_past file.source.tokens n past))

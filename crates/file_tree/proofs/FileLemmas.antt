@@ -2,7 +2,7 @@
 use Rattle.std.proofs.Common.{◌≡◌, Bool, true, false, List, [], ◌∷◌, ◌++◌, ℕ, Option, Some, None, ap, append_assoc, append-nil, refl, sym}
 use Rattle.std.specs.Prelude.{Result, Ok, Err, OnOk, option_map, if◌then◌else◌}
 use Rattle.std.specs.Str.{bytes_eq}
-use Rattle.file_tree.specs.Files.{Faults, Name, with_fault, with_faults, put, silent}
+use Rattle.file_tree.specs.Files.{Faults, Name, with_fault, with_faults, with_bytes, silent_files}
 use Rattle.file_tree.specs.declared.fault.TreeFault.{TreeFault}
 
 abbrev untold : Option (List ℕ)
@@ -12,11 +12,11 @@ still_untold : (bytes : List ℕ) (v : Bool) → untold ≡ (if v then option_ma
 still_untold bytes true = refl
 still_untold bytes false = refl
 
-put_silent : (name : Name) (bytes : List ℕ) → silent ≡ put silent name bytes
-put_silent name bytes = λ i. record silent { told = λ other. still_untold bytes (bytes_eq other name) i }
+put_silent : (name : Name) (bytes : List ℕ) → silent_files ≡ with_bytes silent_files name bytes
+put_silent name bytes = λ i. record silent_files { told = λ other. still_untold bytes (bytes_eq other name) i }
 
 -- it also tells nothing of files after a replacement
-pub silent_replace : {X Y : Type 0} (r : Result X Y) (name : Name) (bytes : List ℕ) → OnOk r (silent ≡ put silent name bytes)
+pub silent_replace : {X Y : Type 0} (r : Result X Y) (name : Name) (bytes : List ℕ) → OnOk r (silent_files ≡ with_bytes silent_files name bytes)
 silent_replace (Ok x) name bytes = put_silent name bytes
 silent_replace (Err y) name bytes = tt
 

@@ -8,7 +8,7 @@ use Rattle.file_tree.specs.Finds.{AreReal, Failure, IsOtherIn, with_failures}
 use Rattle.file_tree.specs.FolderFiles.{AreHeard}
 use Rattle.file_tree.specs.Inner.Walking.{Adds, Enters, Hears, HearsGiven, Reached, TakesIf, TakesLinked, TakesSpecial, failures_in, failures_of}
 use Rattle.file_tree.specs.Ordered.{Orders}
-use Rattle.file_tree.specs.Paths.{tidied}
+use Rattle.file_tree.specs.Paths.{tidy_path}
 use Rattle.file_tree.specs.declared.fault.TreeFault.{TreeFault}
 use Rattle.file_tree.specs.declared.fault.TreeFault.TheVariants.{OtherKind}
 use Rattle.file_tree.specs.declared.kind.Identity.{Identity}
@@ -103,7 +103,7 @@ hears_real files chosen path old new before after h = record {
 }
 
 -- a file was told for its name
-hears_other : (files : Files) (chosen : Chosen) (path : Name) (old new : Reached) (before after : Faults) → IsOther maybe files chosen path → Adds (tidied path) (Some OtherKind) None old new → after ≡ before
+hears_other : (files : Files) (chosen : Chosen) (path : Name) (old new : Reached) (before after : Faults) → IsOther maybe files chosen path → Adds (tidy_path path) (Some OtherKind) None old new → after ≡ before
     → HearsGiven files chosen path old.found new.found before after
 hears_other files chosen path old new before after other adds still = record {
   more = adds.f ∷ [];
@@ -111,7 +111,7 @@ hears_other files chosen path old new before after other adds still = record {
   real = record { noted = []; is = still ∙ none_noted before; real = λ f fault c e. inr (path, (0, omega arith, refl), (other, name f (cons_cases adds.f f [] c), kind f fault e (cons_cases adds.f f [] c))) };
 }
   where
-    name : (f : Found) → (adds.f ≡ f) ⊎ Contains [] f → f.name.items ≡ tidied path
+    name : (f : Found) → (adds.f ≡ f) ⊎ Contains [] f → f.name.items ≡ tidy_path path
     name f (inl e) = ap (λ (g : Found). g.name.items) (sym e) ∙ adds.name_is
     name f (inr c) = absurd (none_in f c)
 
@@ -155,7 +155,7 @@ real_heard (Ok x) files chosen path old new before after h = hears_real files ch
 real_heard (Err e) files chosen path old new before after h = tt
 
 pub real_other : {X E : Type 0} (r : Result X E) (files : Files) (chosen : Chosen) (kind : Kind) (path name : Name) (old new : Reached) (before after : Faults) → Tells (files.kind path) kind → kind ≢ Folder
-    → is_excluded chosen (tidied path) ≡ false → is_wanted chosen (tidied path) ≡ false → name ≡ tidied path → OnOk r (Adds name (Some OtherKind) None old new) → after ≡ before
+    → is_excluded chosen (tidy_path path) ≡ false → is_wanted chosen (tidy_path path) ≡ false → name ≡ tidy_path path → OnOk r (Adds name (Some OtherKind) None old new) → after ≡ before
     → OnOk r (HearsGiven files chosen path old.found new.found before after)
 real_other (Ok x) files chosen kind path name old new before after tells ne allowed is same adds still =
     hears_other files chosen path old new before after ((kind, tells, ne), is, allowed) (subst (λ n. Adds n (Some OtherKind) None old new) same adds) still

@@ -4,7 +4,7 @@ use Rattle.std.specs.Prelude.{not, ◌||◌, ◌&&◌, ◌==◌, flat_map, nat_l
 use Rattle.std.specs.List.{list_any}
 use Rattle.std.proofs.lemmas.Bool.Decides.{nat_tests}
 use Rattle.file_tree.specs.Files.{Name}
-use Rattle.file_tree.specs.Quotes.{escape, is_control, is_odd, quoted, shown_byte}
+use Rattle.file_tree.specs.Quotes.{escape, is_control, is_odd, shown_name, shown_byte}
 
 either_false : (f g : Bool) → f ≡ false → g ≡ false → (f || g) ≡ false
 either_false true g e h = e
@@ -85,7 +85,7 @@ none_odd (b ∷ name) e =
     either_false (is_control b) (list_any is_control name) (first_false (is_control b) (b == 34 || b == 92) (first_false (is_odd b) (list_any is_odd name) e))
     (none_odd name (last_false (is_odd b) (list_any is_odd name) e))
 
-pub quoted_plain : (name : Name) → list_any is_control (quoted name) ≡ false
+pub quoted_plain : (name : Name) → list_any is_control (shown_name name) ≡ false
 quoted_plain name = by (list_any is_odd name) refl
   where
     by : (v : Bool) → list_any is_odd name ≡ v → list_any is_control (if v then 34 ∷ (flat_map shown_byte name ++ 34 ∷ []) else name) ≡ false

@@ -4,14 +4,14 @@ use Rattle.std.specs.Prelude.{◌&&◌}
 use Rattle.std.proofs.lemmas.Grind.{flat_map-append}
 use Rattle.std.proofs.lemmas.List.Elements.{Contains-append_cases, Contains-append_left, Contains-append_right, Contains-push, Contains-push_cases}
 use Rattle.file_tree.specs.Below.{names_in_listing}
-use Rattle.file_tree.specs.Choices.{Chosen, any, whole}
+use Rattle.file_tree.specs.Choices.{Chosen, any, whole_tree}
 use Rattle.file_tree.specs.Files.{Faults, Files, Name}
 use Rattle.file_tree.specs.Finds.{AreReal, Finds}
 use Rattle.file_tree.specs.FolderFiles.{FindsIn}
 use Rattle.file_tree.specs.Names.{is_taken}
 use Rattle.file_tree.specs.Paths.{place}
-use Rattle.file_tree.specs.Inner.Searching.{AreLooks, AreOrdered, IsLook, Keeps, LooksInto, Searches, SeesAll, nothing, searched}
-use Rattle.file_tree.specs.Inner.Walking.{Adds, Enters, Hears, Reached, TakesAll, TakesEntry, TakesFolder, TakesIf, TakesKind, TakesLink, TakesLinked, TakesSpecial, Walked, reached}
+use Rattle.file_tree.specs.Inner.Searching.{AreLooks, AreOrdered, IsLook, Keeps, LooksInto, Searches, SeesAll, nothing, search_view}
+use Rattle.file_tree.specs.Inner.Walking.{Adds, Enters, Hears, Reached, TakesAll, TakesEntry, TakesFolder, TakesIf, TakesKind, TakesLink, TakesLinked, TakesSpecial, Walked, walk_view}
 use Rattle.file_tree.specs.Ordered.{IsFound, Orders}
 use Rattle.file_tree.specs.Seen.{Sees, all_found}
 use Rattle.file_tree.specs.declared.fault.TreeFault.{TreeFault}
@@ -91,28 +91,28 @@ module _ (found : List Found) (folders : List Name) where
 -- ---- another folder
 
 module _ (folder : Name) (here : Reached) (old new : Search) (k : Keeps folder here old new) where
-  found_more : (searched new).found ≡ (searched old).found ++ here.found
+  found_more : (search_view new).found ≡ (search_view old).found ++ here.found
   found_more =
       (λ i. all_found (k.named i).items (k.looked i))
       ∙ ap (λ l. old.walk.found.items ++ l) (flat_map-append (λ (l : ListedFolder). l.found.items) old.looked.items (k.l ∷ []) ∙ ap (λ l. flat_map (λ (l : ListedFolder). l.found.items) old.looked.items ++ l) (append-nil k.l.found.items ∙ k.found_is))
       ∙ sym (append_assoc old.walk.found.items (flat_map (λ (l : ListedFolder). l.found.items) old.looked.items) here.found)
 
-  all_after : after (searched old).found (searched old).folders here ≡ searched new
+  all_after : after (search_view old).found (search_view old).folders here ≡ search_view new
   all_after = λ i. record { found = sym found_more i; folders = sym k.folders i }
 
-  none_after : after (searched old).found (searched old).folders nothing ≡ searched old
-  none_after = λ i. record { found = append-nil (searched old).found i; folders = append-nil (searched old).folders i }
+  none_after : after (search_view old).found (search_view old).folders nothing ≡ search_view old
+  none_after = λ i. record { found = append-nil (search_view old).found i; folders = append-nil (search_view old).folders i }
 
-pub looks_takes : (files : Files) (chosen : Chosen) (folder : Name) (was is : Faults) (old new : Search) → LooksInto files chosen folder was is old new → TakesFolder files chosen folder (searched old) (searched new)
+pub looks_takes : (files : Files) (chosen : Chosen) (folder : Name) (was is : Faults) (old new : Search) → LooksInto files chosen folder was is old new → TakesFolder files chosen folder (search_view old) (search_view new)
 looks_takes files chosen folder was is old new h =
-    subst (λ (r : Reached). TakesFolder files chosen folder r (searched new)) (none_after folder h.here old new h.keeps)
-    (subst (λ (r : Reached). TakesFolder files chosen folder (after (searched old).found (searched old).folders nothing) r) (all_after folder h.here old new h.keeps)
-    (after_folder (searched old).found (searched old).folders files chosen folder nothing h.here h.takes))
+    subst (λ (r : Reached). TakesFolder files chosen folder r (search_view new)) (none_after folder h.here old new h.keeps)
+    (subst (λ (r : Reached). TakesFolder files chosen folder (after (search_view old).found (search_view old).folders nothing) r) (all_after folder h.here old new h.keeps)
+    (after_folder (search_view old).found (search_view old).folders files chosen folder nothing h.here h.takes))
 
-looks_hears : (files : Files) (chosen : Chosen) (folder : Name) (was is : Faults) (old new : Search) → LooksInto files chosen folder was is old new → Hears (searched old).found (searched new).found was is
+looks_hears : (files : Files) (chosen : Chosen) (folder : Name) (was is : Faults) (old new : Search) → LooksInto files chosen folder was is old new → Hears (search_view old).found (search_view new).found was is
 looks_hears files chosen folder was is old new h = record {
   more = h.hears.more;
-  found = found_more folder h.here old new h.keeps ∙ ap (λ l. (searched old).found ++ l) h.hears.found;
+  found = found_more folder h.here old new h.keeps ∙ ap (λ l. (search_view old).found ++ l) h.hears.found;
   heard = h.hears.heard;
 }
 
@@ -126,7 +126,7 @@ looks_more files chosen folder was is old new h before = λ l c. by l (Contains-
 -- ---- folders in turn
 
 pub searches_none : (files : Files) (chosen : Chosen) (was is : Faults) (s : Search) → is ≡ was → Searches files chosen was is s s
-searches_none files chosen was is s still = record { walked = λ paths w. w; hears = hears_none (searched s).found (searched s).found was is refl still; named = refl; looks = λ l. l }
+searches_none files chosen was is s still = record { walked = λ paths w. w; hears = hears_none (search_view s).found (search_view s).found was is refl still; named = refl; looks = λ l. l }
 
 -- one more, the last of those to be listed
 pub searches_more : (files later : Files) (chosen : Chosen) (was mid is : Faults) (first old between new : Search) (rest : List (Vec ℕ Global)) (folder : Vec ℕ Global) → later ≡ files
@@ -134,10 +134,10 @@ pub searches_more : (files later : Files) (chosen : Chosen) (was mid is : Faults
     → LooksInto later chosen folder.items mid is between new → Searches files chosen was is first new
 searches_more files later chosen was mid is first old between new rest folder same so all popped left looks = record {
   walked = λ paths before.
-      walked_popped files later chosen paths (searched old).found old.walk.folders.items rest folder folder.items (searched new) same all refl (so.walked paths before)
-      (subst (λ (r : Reached). TakesFolder later chosen folder.items r (searched new)) (λ i. record { found = all_found (popped i).walk.found.items (popped i).looked.items; folders = map (λ (f : Vec ℕ Global). f.items) (left i) })
+      walked_popped files later chosen paths (search_view old).found old.walk.folders.items rest folder folder.items (search_view new) same all refl (so.walked paths before)
+      (subst (λ (r : Reached). TakesFolder later chosen folder.items r (search_view new)) (λ i. record { found = all_found (popped i).walk.found.items (popped i).looked.items; folders = map (λ (f : Vec ℕ Global). f.items) (left i) })
       (looks_takes later chosen folder.items mid is between new looks));
-  hears = hears_then _ _ _ _ _ _ so.hears (subst (λ (s : Search). Hears (searched s).found (searched new).found mid is) popped (looks_hears later chosen folder.items mid is between new looks));
+  hears = hears_then _ _ _ _ _ _ so.hears (subst (λ (s : Search). Hears (search_view s).found (search_view new).found mid is) popped (looks_hears later chosen folder.items mid is between new looks));
   named = looks.keeps.named ∙ ap (λ (s : Search). s.walk.found) popped ∙ so.named;
   looks = λ before. subst (λ f. AreLooks f chosen new.looked.items) same
       (looks_more later chosen folder.items mid is between new looks
@@ -149,26 +149,26 @@ searches_more files later chosen was mid is first old between new rest folder sa
 none_looked : (files : Files) (chosen : Chosen) (looked : List ListedFolder) → looked ≡ [] → AreLooks files chosen looked
 none_looked files chosen looked none = λ l c. absurd (none_in l (subst (λ ls. Contains ls l) none c))
 
-pub sees_all : (files later : Files) (chosen : Chosen) (paths : List Name) (was mid is : Faults) (walk : Walk) (first last : Search) → later ≡ files → first.walk ≡ walk → first.looked.items ≡ [] → Walked files chosen paths (reached walk)
-    → AreReal files chosen paths was mid (reached walk).found → Searches later chosen mid is first last → last.walk.folders.items ≡ [] → SeesAll files chosen paths was is last
+pub sees_all : (files later : Files) (chosen : Chosen) (paths : List Name) (was mid is : Faults) (walk : Walk) (first last : Search) → later ≡ files → first.walk ≡ walk → first.looked.items ≡ [] → Walked files chosen paths (walk_view walk)
+    → AreReal files chosen paths was mid (walk_view walk).found → Searches later chosen mid is first last → last.walk.folders.items ≡ [] → SeesAll files chosen paths was is last
 sees_all files later chosen paths was mid is walk first last same begins none walked real search over = record {
-  walked = subst (λ (r : Reached). Walked files chosen paths r) (λ i. record { found = (searched last).found; folders = map (λ (f : Vec ℕ Global). f.items) (over i) })
-      (subst (λ f. Walked f chosen paths (searched last)) same (search.walked paths (subst (λ f. Walked f chosen paths (searched first)) (sym same) (subst (λ (r : Reached). Walked files chosen paths r) start walked))));
-  real = heard_real files chosen paths (searched first).found (searched last).found (searched last).found was mid is (subst (λ l. AreReal files chosen paths was mid l) (ap (λ (r : Reached). r.found) start) real) search.hears (λ f c. c);
+  walked = subst (λ (r : Reached). Walked files chosen paths r) (λ i. record { found = (search_view last).found; folders = map (λ (f : Vec ℕ Global). f.items) (over i) })
+      (subst (λ f. Walked f chosen paths (search_view last)) same (search.walked paths (subst (λ f. Walked f chosen paths (search_view first)) (sym same) (subst (λ (r : Reached). Walked files chosen paths r) start walked))));
+  real = heard_real files chosen paths (search_view first).found (search_view last).found (search_view last).found was mid is (subst (λ l. AreReal files chosen paths was mid l) (ap (λ (r : Reached). r.found) start) real) search.hears (λ f c. c);
   looks = subst (λ f. AreLooks f chosen last.looked.items) same (search.looks (none_looked later chosen first.looked.items none));
 }
   where
-    start : reached walk ≡ searched first
+    start : walk_view walk ≡ search_view first
     start = λ i. record { found = (sym (append-nil walk.found.items) ∙ (λ j. all_found (sym begins j).found.items (sym none j))) i; folders = map (λ (f : Vec ℕ Global). f.items) (sym begins i).folders.items }
 
 -- ---- in order
 
 -- the files of a folder are the same for each choice without exclusions
-whole_all : (files : Files) (folder : Name) (names : List Name) (old new : Reached) → TakesAll files any folder names old new → TakesAll files whole folder names old new
+whole_all : (files : Files) (folder : Name) (names : List Name) (old new : Reached) → TakesAll files any folder names old new → TakesAll files whole_tree folder names old new
 whole_all files folder [] old new h = h
 whole_all files folder (name ∷ names) old new h = (h.0, h.1, whole_all files folder names h.0 new h.2)
 
-whole_folder : (files : Files) (folder : Name) (old new : Reached) → TakesFolder files any folder old new → TakesFolder files whole folder old new
+whole_folder : (files : Files) (folder : Name) (old new : Reached) → TakesFolder files any folder old new → TakesFolder files whole_tree folder old new
 whole_folder files folder old new (inl h) = inl h
 whole_folder files folder old new (inr h) = inr (h.0, h.1, whole_all files folder (names_in_listing h.0) old new h.2)
 
@@ -265,7 +265,7 @@ ordered_each files (l ∷ ls) (p ∷ os) so looks o c = by (λ d. ordered_each f
 
 pub sees_any : (files : Files) (told : Chosen) (paths : List Name) (was is : Faults) (s : Search) (ordered : List ListedFolder) → told ≡ any → SeesAll files told paths was is s → AreOrdered s.looked.items ordered → Sees files paths was is s.walk.found.items ordered
 sees_any files told paths was is s ordered same sees so = record {
-  finds = λ found o. subst (λ (c : Chosen). Finds files c paths found) same (finds_from files told paths (searched s).found found sees.walked (orders_all s.walk.found.items s.looked.items ordered found so o));
+  finds = λ found o. subst (λ (c : Chosen). Finds files c paths found) same (finds_from files told paths (search_view s).found found sees.walked (orders_all s.walk.found.items s.looked.items ordered found so o));
   real = subst (λ (c : Chosen). AreReal files c paths was is (all_found s.walk.found.items ordered)) same
       (record { noted = sees.real.noted; is = sees.real.is; real = λ f fault c e. sees.real.real f fault (all_only s.walk.found.items s.looked.items ordered so f c) e });
   each = ordered_each files s.looked.items ordered so (subst (λ (x : Chosen). AreLooks files x s.looked.items) same sees.looks);

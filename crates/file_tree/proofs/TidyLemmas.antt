@@ -5,7 +5,7 @@ use Rattle.std.specs.List.{join_with_byte}
 use Rattle.std.proofs.lemmas.List.Elements.{filter_more}
 use Rattle.file_tree.specs.Files.{Name}
 use Rattle.file_tree.specs.Paths.{is_step}
-use Rattle.file_tree.specs.Inner.Steps.{Joined, added, gap, has_any}
+use Rattle.file_tree.specs.Inner.Steps.{Joined, added_text, gap, has_any}
 
 -- the text after a push that didn't fail
 pub pushed : {X Y E : Type 0} (r : Result Y E) (v : Bool) (old new : List X) (x : X) → new ≡ (if is_ok r then old ++ x ∷ [] else old) → v ≡ is_err r → v ≡ false → new ≡ old ++ x ∷ []
@@ -17,10 +17,10 @@ pushed (Err e) v old new x is said good = absurd (no (sym said ∙ good))
 
 -- ---- one part
 
-pub nothing_added : (has : Bool) (part old new : Name) → is_step part ≡ false → new ≡ old → new ≡ old ++ added has part
+pub nothing_added : (has : Bool) (part old new : Name) → is_step part ≡ false → new ≡ old → new ≡ old ++ added_text has part
 nothing_added has part old new e same = same ∙ sym (append-nil old) ∙ ap (λ (v : Bool). old ++ (if v then gap has ++ part else [])) (sym e)
 
-pub something_added : (has : Bool) (part old before mid new : Name) → is_step part ≡ true → before ≡ gap has → mid ≡ old ++ before → new ≡ mid ++ part → new ≡ old ++ added has part
+pub something_added : (has : Bool) (part old before mid new : Name) → is_step part ≡ true → before ≡ gap has → mid ≡ old ++ before → new ≡ mid ++ part → new ≡ old ++ added_text has part
 something_added has part old before mid new e is first last =
     last ∙ ap (λ m. m ++ part) first ∙ append_assoc old before part ∙ ap (λ g. old ++ (g ++ part)) is ∙ ap (λ (v : Bool). old ++ (if v then gap has ++ part else [])) (sym e)
 
@@ -68,7 +68,7 @@ joined_by true front (p ∷ ps) part path path' has has' so more now = (
     or_true true = refl
     or_true false = refl
 
-pub joined_more : (front : Name) (ps : List Name) (part path path' : Name) (has has' : Bool) → Joined front ps path has → (path' ≡ path ++ added has part) × (has' ≡ (has || is_step part))
+pub joined_more : (front : Name) (ps : List Name) (part path path' : Name) (has has' : Bool) → Joined front ps path has → (path' ≡ path ++ added_text has part) × (has' ≡ (has || is_step part))
     → Joined front (ps ++ cond (is_step part) (part ∷ []) []) path' has'
 joined_more front ps part path path' has has' so step = joined_by (is_step part) front ps part path path' has has' so step.0 step.1
 

@@ -9,7 +9,7 @@ use Rattle.file_tree.specs.Files.{Files, Name, identity_of, is_link}
 use Rattle.hcl_source.specs.Devices.{Tells}
 use Rattle.file_tree.specs.Finds.{Accounts, Finds, IsEntryBy, IsFolderOf, IsOf, IsOfBy}
 use Rattle.file_tree.specs.Names.{is_taken}
-use Rattle.file_tree.specs.Paths.{inside, place, report_name, tidied, top, within}
+use Rattle.file_tree.specs.Paths.{inside, place, report_name, tidy_path, top, within}
 use Rattle.file_tree.specs.Inner.Walking.{Adds, Covers, Enters, IsFault, Reached, TakesAll, TakesAsked, TakesEntry, TakesFolder, TakesGiven, TakesIf, TakesKind, TakesKindGiven, TakesLink, TakesLinked, TakesNamed, TakesNamedFile, TakesSpecial, TakesWanted, Walked, file_by}
 use Rattle.file_tree.specs.Ordered.{HasName, IsFound, Orders}
 use Rattle.file_tree.specs.declared.fault.TreeFault.{TreeFault}
@@ -83,23 +83,23 @@ grows_folder files chosen folder old new (inr h) = grows_all files chosen folder
 
 grows_file : (files : Files) (identity : Identity) (path : Name) (old new : Reached) → TakesNamedFile files identity path old new → Grows old new
 grows_file files identity path old new (inl h) = grows_adds (report_name path) (Some h.0) None old new h.1
-grows_file files identity path old new (inr h) = grows_adds (tidied path) None _ old new h.2
+grows_file files identity path old new (inr h) = grows_adds (tidy_path path) None _ old new h.2
 
 grows_wanted : (kind : Kind) (files : Files) (path : Name) (old new : Reached) → TakesWanted kind files path old new → Grows old new
-grows_wanted Folder files path old new h = grows_adds (tidied path) None None old new h
+grows_wanted Folder files path old new h = grows_adds (tidy_path path) None None old new h
 grows_wanted (File identity) files path old new h = grows_file files identity path old new h
-grows_wanted Link files path old new h = grows_adds (tidied path) None None old new h
-grows_wanted Other files path old new h = grows_adds (tidied path) None None old new h
+grows_wanted Link files path old new h = grows_adds (tidy_path path) None None old new h
+grows_wanted Other files path old new h = grows_adds (tidy_path path) None None old new h
 
 grows_named : (v : Bool) (kind : Kind) (files : Files) (path : Name) (old new : Reached) → TakesNamed v kind files path old new → Grows old new
 grows_named true kind files path old new h = grows_wanted kind files path old new h
-grows_named false kind files path old new h = grows_adds (tidied path) (Some OtherKind) None old new h
+grows_named false kind files path old new h = grows_adds (tidy_path path) (Some OtherKind) None old new h
 
 grows_kind_given : (files : Files) (chosen : Chosen) (kind : Kind) (path : Name) (old new : Reached) → TakesKindGiven files chosen kind path old new → Grows old new
 grows_kind_given files chosen Folder path old new h = grows_enters (top path) old new h
-grows_kind_given files chosen (File identity) path old new h = grows_named (is_wanted chosen (tidied path)) (File identity) files path old new h
-grows_kind_given files chosen Link path old new h = grows_named (is_wanted chosen (tidied path)) Link files path old new h
-grows_kind_given files chosen Other path old new h = grows_named (is_wanted chosen (tidied path)) Other files path old new h
+grows_kind_given files chosen (File identity) path old new h = grows_named (is_wanted chosen (tidy_path path)) (File identity) files path old new h
+grows_kind_given files chosen Link path old new h = grows_named (is_wanted chosen (tidy_path path)) Link files path old new h
+grows_kind_given files chosen Other path old new h = grows_named (is_wanted chosen (tidy_path path)) Other files path old new h
 
 grows_given : (files : Files) (chosen : Chosen) (path : Name) (old new : Reached) → TakesGiven files chosen path old new → Grows old new
 grows_given files chosen path old new (inl h) = grows_same old new h.1
@@ -330,7 +330,7 @@ taken_both true b e = e
 taken_both false b e = refl
 
 -- an entry of a given folder, or of one below
-module _ (files : Files) (chosen : Chosen) (paths : List Name) (path : Name) (c : Contains paths path) (allowed : is_excluded chosen (tidied path) ≡ false) (parts : List Name) (is : Says maybe (files.kind path) Folder) (leads : Leads maybe files chosen (top path) parts) where
+module _ (files : Files) (chosen : Chosen) (paths : List Name) (path : Name) (c : Contains paths path) (allowed : is_excluded chosen (tidy_path path) ≡ false) (parts : List Name) (is : Says maybe (files.kind path) Folder) (leads : Leads maybe files chosen (top path) parts) where
   sound_found : (name : Name) (file : Option FoundFile) (old new : Reached) → true ≡ is_taken name → IsEntry maybe files chosen (within (top path) parts) name
       → IsFileFor maybe files chosen (within (top path) parts ++ name) → IsEntryBy files chosen (within (top path) parts ++ name) file
       → Adds (within (top path) parts ++ name) None file old new → Sound files chosen paths old → Sound files chosen paths new
@@ -417,8 +417,8 @@ pub walked_folder : (files : Files) (chosen : Chosen) (paths : List Name) (folde
 walked_folder files chosen paths folder old new walked takes = record {
   real = sound.0;
   deeper = sound.1;
-  given = λ path c is. either (found_stays old new grows (tidied path)) (fault_stays old new grows (report_name path)) (walked.given path c is);
-  other = λ path c is. either (fault_stays old new grows (tidied path)) (fault_stays old new grows (report_name path)) (walked.other path c is);
+  given = λ path c is. either (found_stays old new grows (tidy_path path)) (fault_stays old new grows (report_name path)) (walked.given path c is);
+  other = λ path c is. either (fault_stays old new grows (tidy_path path)) (fault_stays old new grows (report_name path)) (walked.other path c is);
   below = λ path parts last c is.
       either (fault_stays old new grows (report_name path)) (covers_step files chosen folder old new takes (top path) parts last is.1 is.2) (walked.below path parts last c is);
 }
@@ -441,29 +441,29 @@ of_more : (files : Files) (chosen : Chosen) (paths : List Name) (path : Name) (f
 of_more files chosen paths path f h = (h.0, Contains-append_left paths (path ∷ []) h.0 h.1, h.2)
 
 -- a named file that is taken
-module _ (files : Files) (chosen : Chosen) (paths : List Name) (path : Name) (c : Contains paths path) (allowed : is_excluded chosen (tidied path) ≡ false) where
-  sound_file : (identity : Identity) (old new : Reached) → Says maybe (files.kind path) (File identity) → is_wanted chosen (tidied path) ≡ true → TakesNamedFile files identity path old new
+module _ (files : Files) (chosen : Chosen) (paths : List Name) (path : Name) (c : Contains paths path) (allowed : is_excluded chosen (tidy_path path) ≡ false) where
+  sound_file : (identity : Identity) (old new : Reached) → Says maybe (files.kind path) (File identity) → is_wanted chosen (tidy_path path) ≡ true → TakesNamedFile files identity path old new
       → Sound files chosen paths old → Sound files chosen paths new
   sound_file identity old new tells is (inl h) sound = sound_adds files chosen paths path (report_name path) (Some h.0) None old new h.1 c (inl (inl (refl, allowed)), refl) sound
   sound_file identity old new tells is (inr h) sound =
-      sound_adds files chosen paths path (tidied path) None (Some (file_by (is_link h.0) identity)) old new h.2 c
+      sound_adds files chosen paths path (tidy_path path) None (Some (file_by (is_link h.0) identity)) old new h.2 c
       (inl (((File identity, tells, λ e. cc), is, allowed), refl, (tells, (h.0, h.1, refl)))) sound
 
-  sound_no_file : (kind : Kind) (old new : Reached) → Says maybe (files.kind path) kind → kind ≢ Folder → identity_of kind ≡ None → is_wanted chosen (tidied path) ≡ true → Adds (tidied path) None None old new
+  sound_no_file : (kind : Kind) (old new : Reached) → Says maybe (files.kind path) kind → kind ≢ Folder → identity_of kind ≡ None → is_wanted chosen (tidy_path path) ≡ true → Adds (tidy_path path) None None old new
       → Sound files chosen paths old → Sound files chosen paths new
-  sound_no_file kind old new tells ne none is h sound = sound_adds files chosen paths path (tidied path) None None old new h c (inl (((kind, tells, ne), is, allowed), refl, (kind, tells, none))) sound
+  sound_no_file kind old new tells ne none is h sound = sound_adds files chosen paths path (tidy_path path) None None old new h c (inl (((kind, tells, ne), is, allowed), refl, (kind, tells, none))) sound
 
-  sound_wanted : (kind : Kind) (old new : Reached) → Says maybe (files.kind path) kind → kind ≢ Folder → is_wanted chosen (tidied path) ≡ true → TakesWanted kind files path old new
+  sound_wanted : (kind : Kind) (old new : Reached) → Says maybe (files.kind path) kind → kind ≢ Folder → is_wanted chosen (tidy_path path) ≡ true → TakesWanted kind files path old new
       → Sound files chosen paths old → Sound files chosen paths new
   sound_wanted Folder old new tells ne is h sound = absurd (ne refl)
   sound_wanted (File identity) old new tells ne is h sound = sound_file identity old new tells is h sound
   sound_wanted Link old new tells ne is h sound = sound_no_file Link old new tells ne refl is h sound
   sound_wanted Other old new tells ne is h sound = sound_no_file Other old new tells ne refl is h sound
 
-  sound_named : (kind : Kind) (v : Bool) (old new : Reached) → Says maybe (files.kind path) kind → kind ≢ Folder → is_wanted chosen (tidied path) ≡ v → TakesNamed v kind files path old new
+  sound_named : (kind : Kind) (v : Bool) (old new : Reached) → Says maybe (files.kind path) kind → kind ≢ Folder → is_wanted chosen (tidy_path path) ≡ v → TakesNamed v kind files path old new
       → Sound files chosen paths old → Sound files chosen paths new
   sound_named kind true old new tells ne is h sound = sound_wanted kind old new tells ne is h sound
-  sound_named kind false old new tells ne is h sound = sound_adds files chosen paths path (tidied path) (Some OtherKind) None old new h c (inr (((kind, tells, ne), is, allowed), refl, refl), refl) sound
+  sound_named kind false old new tells ne is h sound = sound_adds files chosen paths path (tidy_path path) (Some OtherKind) None old new h c (inr (((kind, tells, ne), is, allowed), refl, refl), refl) sound
 
   sound_kind_given : (kind : Kind) (old new : Reached) → Tells (files.kind path) kind → TakesKindGiven files chosen kind path old new → Sound files chosen paths old → Sound files chosen paths new
   sound_kind_given Folder old new tells h sound = sound_enters files chosen paths (top path) old new h (path, c, ([], tells, tt, refl, allowed)) sound
@@ -477,41 +477,41 @@ sound_given files chosen paths path c old new (inr (allowed, inl h)) sound = sou
 sound_given files chosen paths path c old new (inr (allowed, inr h)) sound = sound_kind_given files chosen paths path c allowed h.0 old new h.1 h.2 sound
 
 -- the effect of a path that isn't excluded
-asked_given : (files : Files) (chosen : Chosen) (path : Name) (old new : Reached) → TakesGiven files chosen path old new → is_excluded chosen (tidied path) ≡ false → TakesAsked files chosen path old new
+asked_given : (files : Files) (chosen : Chosen) (path : Name) (old new : Reached) → TakesGiven files chosen path old new → is_excluded chosen (tidy_path path) ≡ false → TakesAsked files chosen path old new
 asked_given files chosen path old new (inl h) allowed = absurd (true≢false (sym h.0 ∙ allowed))
 asked_given files chosen path old new (inr h) allowed = h.1
 
-file_told : (files : Files) (identity : Identity) (path : Name) (old new : Reached) → TakesNamedFile files identity path old new → IsFound new.found (tidied path) ⊎ IsFault new.found (report_name path)
+file_told : (files : Files) (identity : Identity) (path : Name) (old new : Reached) → TakesNamedFile files identity path old new → IsFound new.found (tidy_path path) ⊎ IsFault new.found (report_name path)
 file_told files identity path old new (inl h) = inr (fault_added (report_name path) h.0 old new h.1)
-file_told files identity path old new (inr h) = inl (found_added (tidied path) _ old new h.2)
+file_told files identity path old new (inr h) = inl (found_added (tidy_path path) _ old new h.2)
 
-wanted_told : (kind : Kind) (files : Files) (path : Name) (old new : Reached) → TakesWanted kind files path old new → IsFound new.found (tidied path) ⊎ IsFault new.found (report_name path)
-wanted_told Folder files path old new h = inl (found_added (tidied path) None old new h)
+wanted_told : (kind : Kind) (files : Files) (path : Name) (old new : Reached) → TakesWanted kind files path old new → IsFound new.found (tidy_path path) ⊎ IsFault new.found (report_name path)
+wanted_told Folder files path old new h = inl (found_added (tidy_path path) None old new h)
 wanted_told (File identity) files path old new h = file_told files identity path old new h
-wanted_told Link files path old new h = inl (found_added (tidied path) None old new h)
-wanted_told Other files path old new h = inl (found_added (tidied path) None old new h)
+wanted_told Link files path old new h = inl (found_added (tidy_path path) None old new h)
+wanted_told Other files path old new h = inl (found_added (tidy_path path) None old new h)
 
-named_found : (v : Bool) (kind : Kind) (files : Files) (path : Name) (old new : Reached) → v ≡ true → TakesNamed v kind files path old new → IsFound new.found (tidied path) ⊎ IsFault new.found (report_name path)
+named_found : (v : Bool) (kind : Kind) (files : Files) (path : Name) (old new : Reached) → v ≡ true → TakesNamed v kind files path old new → IsFound new.found (tidy_path path) ⊎ IsFault new.found (report_name path)
 named_found true kind files path old new e h = wanted_told kind files path old new h
 named_found false kind files path old new e h = absurd (true≢false (sym e))
 
-named_told : (v : Bool) (kind : Kind) (files : Files) (path : Name) (old new : Reached) → v ≡ false → TakesNamed v kind files path old new → IsFault new.found (tidied path)
+named_told : (v : Bool) (kind : Kind) (files : Files) (path : Name) (old new : Reached) → v ≡ false → TakesNamed v kind files path old new → IsFault new.found (tidy_path path)
 named_told true kind files path old new e h = absurd (true≢false e)
-named_told false kind files path old new e h = fault_added (tidied path) OtherKind old new h
+named_told false kind files path old new e h = fault_added (tidy_path path) OtherKind old new h
 
-named_kind : (files : Files) (chosen : Chosen) (kind : Kind) (path : Name) (old new : Reached) → kind ≢ Folder → TakesKindGiven files chosen kind path old new → TakesNamed (is_wanted chosen (tidied path)) kind files path old new
+named_kind : (files : Files) (chosen : Chosen) (kind : Kind) (path : Name) (old new : Reached) → kind ≢ Folder → TakesKindGiven files chosen kind path old new → TakesNamed (is_wanted chosen (tidy_path path)) kind files path old new
 named_kind files chosen Folder path old new ne h = absurd (ne refl)
 named_kind files chosen (File identity) path old new ne h = h
 named_kind files chosen Link path old new ne h = h
 named_kind files chosen Other path old new ne h = h
 
-given_itself : (files : Files) (chosen : Chosen) (path : Name) (old new : Reached) → TakesAsked files chosen path old new → IsNamed surely files chosen path → IsFound new.found (tidied path) ⊎ IsFault new.found (report_name path)
+given_itself : (files : Files) (chosen : Chosen) (path : Name) (old new : Reached) → TakesAsked files chosen path old new → IsNamed surely files chosen path → IsFound new.found (tidy_path path) ⊎ IsFault new.found (report_name path)
 given_itself files chosen path old new (inl h) is = inr (fault_added (report_name path) h.0 old new h.1)
 given_itself files chosen path old new (inr h) is =
     named_found _ h.0 files path old new is.1
     (named_kind files chosen h.0 path old new (subst (λ k. k ≢ Folder) (told_some (files.kind path) is.0.0 h.0 is.0.1 h.1) is.0.2) h.2)
 
-given_other : (files : Files) (chosen : Chosen) (path : Name) (old new : Reached) → TakesAsked files chosen path old new → IsOther surely files chosen path → IsFault new.found (tidied path) ⊎ IsFault new.found (report_name path)
+given_other : (files : Files) (chosen : Chosen) (path : Name) (old new : Reached) → TakesAsked files chosen path old new → IsOther surely files chosen path → IsFault new.found (tidy_path path) ⊎ IsFault new.found (report_name path)
 given_other files chosen path old new (inl h) is = inr (fault_added (report_name path) h.0 old new h.1)
 given_other files chosen path old new (inr h) is =
     inl (named_told _ h.0 files path old new is.1
@@ -540,15 +540,15 @@ walked_given files chosen paths path old new walked takes = record {
     sound : Sound files chosen (paths ++ path ∷ []) new
     sound = sound_given files chosen (paths ++ path ∷ []) path (Contains-push paths path) old new takes before
 
-    taken : (other : Name) → path ≡ other → is_excluded chosen (tidied other) ≡ false → TakesAsked files chosen other old new
+    taken : (other : Name) → path ≡ other → is_excluded chosen (tidy_path other) ≡ false → TakesAsked files chosen other old new
     taken other e allowed = asked_given files chosen other old new (subst (λ p. TakesGiven files chosen p old new) e takes) allowed
 
-    itself : (other : Name) → IsNamed surely files chosen other → Contains paths other ⊎ (path ≡ other) → IsFound new.found (tidied other) ⊎ IsFault new.found (report_name other)
-    itself other is (inl c) = either (found_stays old new grows (tidied other)) (fault_stays old new grows (report_name other)) (walked.given other c is)
+    itself : (other : Name) → IsNamed surely files chosen other → Contains paths other ⊎ (path ≡ other) → IsFound new.found (tidy_path other) ⊎ IsFault new.found (report_name other)
+    itself other is (inl c) = either (found_stays old new grows (tidy_path other)) (fault_stays old new grows (report_name other)) (walked.given other c is)
     itself other is (inr e) = given_itself files chosen other old new (taken other e is.2) is
 
-    told : (other : Name) → IsOther surely files chosen other → Contains paths other ⊎ (path ≡ other) → IsFault new.found (tidied other) ⊎ IsFault new.found (report_name other)
-    told other is (inl c) = either (fault_stays old new grows (tidied other)) (fault_stays old new grows (report_name other)) (walked.other other c is)
+    told : (other : Name) → IsOther surely files chosen other → Contains paths other ⊎ (path ≡ other) → IsFault new.found (tidy_path other) ⊎ IsFault new.found (report_name other)
+    told other is (inl c) = either (fault_stays old new grows (tidy_path other)) (fault_stays old new grows (report_name other)) (walked.other other c is)
     told other is (inr e) = given_other files chosen other old new (taken other e is.2) is
 
     down : (other : Name) (parts : List Name) (last : Name) → IsBelow surely files chosen other parts last → Contains paths other ⊎ (path ≡ other)
@@ -587,8 +587,8 @@ module _ (files : Files) (chosen : Chosen) (paths : List Name) (found ordered : 
   finds_from = record {
     rises = o.rises;
     real = λ f c. walked.real f (o.only f c);
-    given = λ path c is. either (o.kept (tidied path)) (told_fault (report_name path)) (walked.given path c is);
-    other = λ path c is. either (told_fault (tidied path)) (told_fault (report_name path)) (walked.other path c is);
+    given = λ path c is. either (o.kept (tidy_path path)) (told_fault (report_name path)) (walked.given path c is);
+    other = λ path c is. either (told_fault (tidy_path path)) (told_fault (report_name path)) (walked.other path c is);
     below = λ path parts last c is. either (told_fault (report_name path)) (accounts_from (top path) parts last) (walked.below path parts last c is);
   }
 
@@ -599,7 +599,7 @@ on_ok_more (Ok a) P Q h f = f h
 on_ok_more (Err e) P Q h f = tt
 
 -- the effect of a given path that is no folder, depending on whether it is to be looked at
-pub named_given : {X E : Type 0} (r : Result X E) (v : Bool) (files : Files) (chosen : Chosen) (kind : Kind) (path : Name) (old new : Reached) → (kind ≡ Folder → ⊥) → is_wanted chosen (tidied path) ≡ v
+pub named_given : {X E : Type 0} (r : Result X E) (v : Bool) (files : Files) (chosen : Chosen) (kind : Kind) (path : Name) (old new : Reached) → (kind ≡ Folder → ⊥) → is_wanted chosen (tidy_path path) ≡ v
     → OnOk r (TakesNamed v kind files path old new) → OnOk r (TakesKindGiven files chosen kind path old new)
 named_given (Err e) v files chosen kind path old new other is h = tt
 named_given (Ok x) v files chosen Folder path old new other is h = absurd (other refl)
@@ -608,7 +608,7 @@ named_given (Ok x) v files chosen Link path old new other is h = subst (λ w. Ta
 named_given (Ok x) v files chosen Other path old new other is h = subst (λ w. TakesNamed w Other files path old new) (sym is) h
 
 -- that effect, for the names of the code
-pub wanted_as : {X E : Type 0} (r : Result X E) (kind : Kind) (path name : Name) (old new : Reached) → OnOk r (Adds name None None old new) → name ≡ tidied path → OnOk r (Adds (tidied path) None None old new)
+pub wanted_as : {X E : Type 0} (r : Result X E) (kind : Kind) (path name : Name) (old new : Reached) → OnOk r (Adds name None None old new) → name ≡ tidy_path path → OnOk r (Adds (tidy_path path) None None old new)
 wanted_as r kind path name old new h same = subst (λ n. OnOk r (Adds n None None old new)) same h
 
 pub if_ok_more : {A E : Type 0} (r : Result A E) (P Q : A → Type 0) → IfOk r P → ((a : A) → P a → Q a) → IfOk r Q

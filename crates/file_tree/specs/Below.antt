@@ -5,7 +5,7 @@ use Rattle.file_tree.specs.Choices.{Chosen, is_excluded, is_wanted}
 use Rattle.file_tree.specs.Files.{Files, Name}
 use Rattle.hcl_source.specs.Devices.{Tells}
 use Rattle.file_tree.specs.Names.{is_passed_over, is_taken}
-use Rattle.file_tree.specs.Paths.{inside, place, tidied, top, within}
+use Rattle.file_tree.specs.Paths.{inside, place, tidy_path, top, within}
 use Rattle.file_tree.specs.declared.kind.Identity.{Identity}
 use Rattle.file_tree.specs.declared.kind.Kind.{Kind}
 use Rattle.file_tree.specs.declared.kind.Kind.TheVariants.{File, Folder, Link, Other}
@@ -46,14 +46,14 @@ IsGiven sure files path = (kind : Kind) × Says sure (files.kind path) kind × (
 -- A NAMED FILE that is taken
 abbrev pub IsNamed : Certainty → Files → Chosen → Name → Type 0
 IsNamed sure files chosen path =
-    IsGiven sure files path × (is_wanted chosen (tidied path) ≡ true)
-    × (is_excluded chosen (tidied path) ≡ false)
+    IsGiven sure files path × (is_wanted chosen (tidy_path path) ≡ true)
+    × (is_excluded chosen (tidy_path path) ≡ false)
 
 -- a named file whose name isn't of a kind that is taken
 abbrev pub IsOther : Certainty → Files → Chosen → Name → Type 0
 IsOther sure files chosen path =
-    IsGiven sure files path × (is_wanted chosen (tidied path) ≡ false)
-    × (is_excluded chosen (tidied path) ≡ false)
+    IsGiven sure files path × (is_wanted chosen (tidy_path path) ≡ false)
+    × (is_excluded chosen (tidy_path path) ≡ false)
 
 -- an entry is a file, or a link that leads to one
 abbrev pub IsFile : Certainty → Files → Name → Type 0
@@ -90,4 +90,4 @@ abbrev pub IsBelow : Certainty → Files → Chosen → Name → List Name → N
 IsBelow sure files chosen path parts last =
     Says sure (files.kind path) Folder × Leads sure files chosen (top path) parts
     × HasFile sure files chosen (within (top path) parts) last
-    × (is_excluded chosen (tidied path) ≡ false)
+    × (is_excluded chosen (tidy_path path) ≡ false)

@@ -22,44 +22,44 @@ chosen_by any_name excluded =
 
 -- with pipes, sockets and devices
 abbrev pub with_specials : Bool → Chosen → Chosen
-with_specials specials chosen = record chosen { specials = specials }
+with_specials specials choice_view = record choice_view { specials = specials }
 
 -- nothing is excluded
-abbrev pub whole : Chosen
-whole = with_specials true (chosen_by false [])
+abbrev pub whole_tree : Chosen
+whole_tree = with_specials true (chosen_by false [])
 
 -- nor is any given name
 abbrev pub any : Chosen
 any = with_specials true (chosen_by true [])
 
-abbrev pub chosen : Choice → Chosen
-chosen choice =
+abbrev pub choice_view : Choice → Chosen
+choice_view choice =
     with_specials choice.specials
     (chosen_by choice.any_name (map (λ name. name.now) choice.excluded.now))
 
 -- ---- exclusions
 
 -- a name without a `/` at its end
-abbrev pub plain : Name → Name
-plain name = if ends (codes "/") name then take (length name - 1) name else name
+abbrev pub without_slash : Name → Name
+without_slash name = if ends (codes "/") name then take (length name - 1) name else name
 
 -- a part of a path has this name
 abbrev pub has_part : Name → Name → Bool
 has_part name path =
-    list_any (λ part. is_step part && bytes_eq part (plain name)) (slice_split (λ b. b == 47) path)
+    list_any (λ part. is_step part && bytes_eq part (without_slash name)) (slice_split (λ b. b == 47) path)
 
 -- a path is that of a folder, or is below it; the current folder isn't excluded
 abbrev pub is_at : Name → Name → Bool
-is_at folder path = nat_lt 0 (length folder) && (bytes_eq path (plain folder) || begins folder path)
+is_at folder path = nat_lt 0 (length folder) && (bytes_eq path (without_slash folder) || begins folder path)
 
 -- EXCLUDED is a path with one of the names, one of the paths, and everything below
 abbrev pub is_excluded : Chosen → Name → Bool
-is_excluded chosen path =
-    list_any (λ name. has_part name path) chosen.names
-    || list_any (λ folder. is_at folder path) chosen.folders
+is_excluded choice_view path =
+    list_any (λ name. has_part name path) choice_view.names
+    || list_any (λ folder. is_at folder path) choice_view.folders
 
 -- ---- named files
 
 -- A NAMED FILE is taken if the walk takes such names, or if its name ends with `.hcl`
 abbrev pub is_wanted : Chosen → Name → Bool
-is_wanted chosen name = chosen.any_name || (is_taken name || ends (codes ".hcl") name)
+is_wanted choice_view name = choice_view.any_name || (is_taken name || ends (codes ".hcl") name)

@@ -3,29 +3,29 @@ use Rattle.std.specs.Prelude.{◌≡◌, ℕ, refl, true, false, List, [], ◌�
 use Rattle.std.specs.Str.{bytes_eq}
 use Rattle.std.proofs.Common.{inl, inr, lit<}
 use Rattle.file_tree.specs.Below.{HasFile, HasFolder, IsBelow, is_met, names_in_listing, surely}
-use Rattle.file_tree.specs.Choices.{Chosen, chosen_by, is_excluded, is_wanted, whole}
+use Rattle.file_tree.specs.Choices.{Chosen, chosen_by, is_excluded, is_wanted, whole_tree}
 use Rattle.file_tree.specs.Files.{Files, Name}
 use Rattle.file_tree.specs.Names.{is_taken}
-use Rattle.file_tree.specs.Paths.{place, report_name, tidied, top, within}
+use Rattle.file_tree.specs.Paths.{place, report_name, tidy_path, top, within}
 use Rattle.file_tree.specs.declared.kind.Identity.{Identity}
 use Rattle.file_tree.specs.declared.kind.Kind.{Kind}
 use Rattle.file_tree.specs.declared.kind.Kind.TheVariants.{File, Folder, Other}
 
 -- ---- paths
 
-dots : tidied (codes "./a//b/./c.tf") ≡ codes "a/b/c.tf"
+dots : tidy_path (codes "./a//b/./c.tf") ≡ codes "a/b/c.tf"
 dots = refl
 
-up : tidied (codes "../a/") ≡ codes "../a"
+up : tidy_path (codes "../a/") ≡ codes "../a"
 up = refl
 
-from_the_root : tidied (codes "//etc/./x") ≡ codes "/etc/x"
+from_the_root : tidy_path (codes "//etc/./x") ≡ codes "/etc/x"
 from_the_root = refl
 
-this : tidied (codes ".") ≡ []
+this : tidy_path (codes ".") ≡ []
 this = refl
 
-root : tidied (codes "/") ≡ codes "/"
+root : tidy_path (codes "/") ≡ codes "/"
 root = refl
 
 -- a given folder, as it is listed
@@ -106,7 +106,7 @@ below : IsBelow surely small all (codes "modules") (codes "net" ∷ []) (codes "
 below = (refl, (net, tt), main, refl)
 
 -- and so is the pipe, if such are taken
-pipe : HasFile surely small whole (codes "modules/net/") (codes "pipe.tf")
+pipe : HasFile surely small whole_tree (codes "modules/net/") (codes "pipe.tf")
 pipe = ((codes "notes.txt" ++ (0 ∷ codes "main.tf" ++ (0 ∷ codes "pipe.tf" ++ 0 ∷ [])), refl, (2, lit< tt, refl), refl), inr (refl, inl refl), refl)
 
 -- the other isn't, since files of its name aren't taken; nor is anything in the hidden folder

@@ -34,8 +34,8 @@ pub record Files : Type 0 where
   pub path : Name → Option Name  -- the full path of a folder, links followed, with a `/` at its end
 
 -- a device that tells nothing, as the system's does
-abbrev pub silent : Files
-silent =
+abbrev pub silent_files : Files
+silent_files =
     record {
       kind = λ name. None;
       entry = λ name. None;
@@ -46,8 +46,8 @@ silent =
     }
 
 -- the files with these bytes for the one of this real name, if the device tells its bytes
-abbrev pub put : Files → Name → List ℕ → Files
-put files name bytes =
+abbrev pub with_bytes : Files → Name → List ℕ → Files
+with_bytes files name bytes =
     record files {
       told = λ other. if bytes_eq other name
           then option_map (λ _. bytes) (files.told other) else files.told other;

@@ -5,7 +5,7 @@ use Rattle.file_tree.specs.Below.{IsBelow, IsEntry, IsNamed, IsOther, IsSpecial,
 use Rattle.file_tree.specs.Choices.{Chosen, is_excluded}
 use Rattle.file_tree.specs.Files.{Faults, Files, Name, identity_of, is_link, with_faults}
 use Rattle.file_tree.specs.Ordered.{HasName, IsFound, Rises}
-use Rattle.file_tree.specs.Paths.{inside, place, report_name, tidied, top, within}
+use Rattle.file_tree.specs.Paths.{inside, place, report_name, tidy_path, top, within}
 use Rattle.file_tree.specs.declared.fault.TreeFault.{TreeFault}
 use Rattle.file_tree.specs.declared.fault.TreeFault.TheVariants.{OtherKind}
 use Rattle.file_tree.specs.declared.kind.Identity.{Identity}
@@ -21,13 +21,13 @@ abbrev pub IsFolderOf : Files → Chosen → Name → Name → Type 0
 IsFolderOf files chosen path folder =
     (parts : List Name) × Says maybe (files.kind path) Folder
     × Leads maybe files chosen (top path) parts × (folder ≡ within (top path) parts)
-    × (is_excluded chosen (tidied path) ≡ false)
+    × (is_excluded chosen (tidy_path path) ≡ false)
 
 -- the file of a given path, by the kind of its name: the name may be a link to the file. None if it is no file
 abbrev pub IsNamedBy : Files → Name → Option FoundFile → Type 0
 IsNamedBy files path (Some file) =
     Says maybe (files.kind path) (File file.identity)
-    × ((entry : Kind) × Says maybe (files.entry (tidied path)) entry
+    × ((entry : Kind) × Says maybe (files.entry (tidy_path path)) entry
     × (file.is_link ≡ is_link entry))
 IsNamedBy files path None =
     (kind : Kind) × Says maybe (files.kind path) kind × (identity_of kind ≡ None)
@@ -46,14 +46,14 @@ IsEntryBy files chosen name None = (chosen.specials ≡ true) × IsSpecial maybe
 -- what a path stands for: itself, or a file below
 abbrev pub IsFileOf : Files → Chosen → Name → Name → Option FoundFile → Type 0
 IsFileOf files chosen path name file =
-    (IsNamed maybe files chosen path × (name ≡ tidied path) × IsNamedBy files path file)
+    (IsNamed maybe files chosen path × (name ≡ tidy_path path) × IsNamedBy files path file)
     ⊎ ((parts : List Name) × (last : Name) × IsBelow maybe files chosen path parts last
     × (name ≡ within (top path) parts ++ last) × IsEntryBy files chosen name file)
 
 -- a reported name: that of the path, of its folder or of one below, or of an entry there
 abbrev pub IsReportOf : Files → Chosen → Name → Name → Type 0
 IsReportOf files chosen path name =
-    ((name ≡ report_name path) × (is_excluded chosen (tidied path) ≡ false))
+    ((name ≡ report_name path) × (is_excluded chosen (tidy_path path) ≡ false))
     ⊎ ((folder : Name) × IsFolderOf files chosen path folder
     × ((name ≡ place folder)
     ⊎ ((last : Name) × IsEntry maybe files chosen folder last × (name ≡ folder ++ last))))
@@ -61,7 +61,7 @@ IsReportOf files chosen path name =
 -- a file reported because its name isn't of a kind that is taken: that of the path
 abbrev pub IsOtherOf : Files → Chosen → Name → Name → TreeFault → Type 0
 IsOtherOf files chosen path name fault =
-    IsOther maybe files chosen path × (name ≡ tidied path) × (fault ≡ OtherKind)
+    IsOther maybe files chosen path × (name ≡ tidy_path path) × (fault ≡ OtherKind)
 
 abbrev pub IsOfBy : Files → Chosen → Name → Name → Option TreeFault → Option FoundFile → Type 0
 IsOfBy files chosen path name None file = IsFileOf files chosen path name file
@@ -92,9 +92,9 @@ pub record Finds (files : Files) (chosen : Chosen) (paths : List Name) (found : 
     pub rises : Rises found
     pub real : (f : Found) → Contains found f → IsOf files chosen paths f
     pub given : (path : Name) → Contains paths path → IsNamed surely files chosen path
-        → IsFound found (tidied path) ⊎ HasName found (report_name path)
+        → IsFound found (tidy_path path) ⊎ HasName found (report_name path)
     pub other : (path : Name) → Contains paths path → IsOther surely files chosen path
-        → HasName found (tidied path) ⊎ HasName found (report_name path)
+        → HasName found (tidy_path path) ⊎ HasName found (report_name path)
     pub below : (path : Name) (parts : List Name) (last : Name) → Contains paths path
         → IsBelow surely files chosen path parts last
         → HasName found (report_name path) ⊎ Accounts (HasName found) (top path) parts last

@@ -28,21 +28,21 @@ of_digit rights false = rights.other
 
 -- THE RIGHTS KEPT: all if the group is kept; otherwise a member of the old group is now one of the others, and the
 -- other way round, so each gets the rights that both had
-abbrev pub kept : Bool → Rights → Rights
-kept true old = old
-kept false old =
+abbrev pub kept_rights : Bool → Rights → Rights
+kept_rights true old = old
+kept_rights false old =
     record { own = old.own; group = both old.group old.other; other = both old.group old.other }
 
 -- the bits of a mode for those who run the file, and for its removal: setuid, setgid and sticky
-abbrev pub special : ℕ → ℕ
-special mode = mode / 512 % 8
+abbrev pub special_bits : ℕ → ℕ
+special_bits mode = mode / 512 % 8
 
 -- THE MODE OF A NEW FILE, given whether owner and group are kept: nobody runs it with the rights of someone else than
 -- before
 abbrev pub new_mode : ℕ → Bool → Bool → ℕ
 new_mode old has_owner has_group =
-    let rights : Rights = kept has_group (rights_of old) in
-    (if has_owner && has_group then special old
+    let rights : Rights = kept_rights has_group (rights_of old) in
+    (if has_owner && has_group then special_bits old
     else 0) * 512 + (rights.own * 64 + (rights.group * 8 + rights.other))
 
 -- NO RIGHT MORE: nobody but the owner has a right by the new mode that he hadn't by the old one, whichever groups he is

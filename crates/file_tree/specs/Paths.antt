@@ -19,21 +19,21 @@ abbrev pub root : Name → Name
 root path = if begins (codes "/") path then codes "/" else []
 
 -- A PATH TIDIED: `./a//b/` is `a/b`, and a `/` at its front stays
-abbrev pub tidied : Name → Name
-tidied path = root path ++ join_with_byte 47 (steps path)
+abbrev pub tidy_path : Name → Name
+tidy_path path = root path ++ join_with_byte 47 (steps path)
 
 -- A GIVEN FOLDER, as it is listed: `./a//b` is `a/b/`
 abbrev pub top : Name → Name
 top path =
-    if length (tidied path) == 0 || bytes_eq (tidied path) (codes "/") then tidied path
-    else tidied path ++ codes "/"
+    if length (tidy_path path) == 0 || bytes_eq (tidy_path path) (codes "/") then tidy_path path
+    else tidy_path path ++ codes "/"
 
 -- the name under which a path is reported that can't be looked at: tidied, unless nothing is left of it. A `/` at its
 -- end stays: `file/` isn't `file`
 abbrev pub report_name : Name → Name
 report_name path =
-    if length (tidied path) == 0 then path
-    else tidied path ++ (if ends (codes "/") path then codes "/" else [])
+    if length (tidy_path path) == 0 then path
+    else tidy_path path ++ (if ends (codes "/") path then codes "/" else [])
 
 -- ---- folders below
 

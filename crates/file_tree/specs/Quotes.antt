@@ -30,8 +30,8 @@ abbrev pub in_quotes : List ℕ → List ℕ
 in_quotes text = 34 ∷ (flat_map shown_byte text ++ 34 ∷ [])
 
 -- A NAME AS IT IS SHOWN: itself, or between double quotes if it has an odd byte
-abbrev pub quoted : Name → List ℕ
-quoted name = if list_any is_odd name then in_quotes name else name
+abbrev pub shown_name : Name → List ℕ
+shown_name name = if list_any is_odd name then in_quotes name else name
 
 -- a name that is shown as itself has a blank
 abbrev pub has_plain_blank : Name → Bool
@@ -40,4 +40,4 @@ has_plain_blank name = not (list_any is_odd name) && list_any (λ b. b == 32) na
 -- A NAME IN THE HEAD OF A DIFF: as it is shown, with a tab after it if it has a blank and isn't quoted, by which
 -- `patch` takes it whole
 abbrev pub shown_head : Name → List ℕ
-shown_head name = quoted name ++ (if has_plain_blank name then 9 ∷ [] else [])
+shown_head name = shown_name name ++ (if has_plain_blank name then 9 ∷ [] else [])

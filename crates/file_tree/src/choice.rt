@@ -3,8 +3,8 @@
 ghost use Rattle.std.specs.Prelude.{◌≡◌, ◌==◌, ◌&&◌, ◌||◌, IfOk, map};
 ghost use Rattle.std.specs.List.{list_any, slice_split};
 ghost use Rattle.std.specs.Str.{bytes_eq};
-ghost use Rattle.file_tree.specs.Choices.{any, chosen, has_part, is_at, is_excluded, is_wanted, plain, whole};
-ghost use Rattle.file_tree.specs.Inner.Chosen.{told};
+ghost use Rattle.file_tree.specs.Choices.{any, choice_view, has_part, is_at, is_excluded, is_wanted, without_slash, whole_tree};
+ghost use Rattle.file_tree.specs.Inner.Chosen.{chooser_view};
 ghost use Rattle.file_tree.specs.Paths.{is_step, top};
 
 use crate::names::is_taken;
@@ -24,8 +24,8 @@ pub struct Choice<'a> {
 
 impl<'a> Choice<'a> {
     /// Nothing is excluded, and pipes, sockets and devices are taken.
-    pub fn whole() -> Choice<'a>
-        ensures { chosen result ≡ whole }
+    pub fn whole_tree() -> Choice<'a>
+        ensures { chosen result ≡ whole_tree }
     {
         Choice {
             any_name: false,
@@ -40,7 +40,7 @@ impl<'a> Choice<'a> {
     {
         Choice {
             any_name: true,
-            ..Choice::whole()
+            ..Choice::whole_tree()
         }
     }
 }
@@ -55,8 +55,8 @@ pub(crate) struct Chooser<'a> {
 }
 
 /// A name without a slash at its end.
-fn plain(name: &[u8]) -> &[u8]
-    ensures { result.now ≡ plain name.now }
+fn without_slash(name: &[u8]) -> &[u8]
+    ensures { result.now ≡ without_slash name.now }
 {
     if name.ends_with(b"/") {
         &name[..name.len() - 1]
@@ -94,14 +94,14 @@ fn has_step(name: &[u8], path: &[u8]) -> bool
 fn has_part(name: &[u8], path: &[u8]) -> bool
     ensures { result ≡ has_part name.now path.now }
 {
-    has_step(plain(name), path)
+    has_step(without_slash(name), path)
 }
 
 /// Whether a path is that of a folder or leads below it.
 fn is_at(folder: &[u8], path: &[u8]) -> bool
     ensures { result ≡ is_at folder.now path.now }
 {
-    !folder.is_empty() && (path == plain(folder) || path.starts_with(folder))
+    !folder.is_empty() && (path == without_slash(folder) || path.starts_with(folder))
 }
 
 /// Whether a part of a path has one of these names.
@@ -137,7 +137,7 @@ fn folders_of(alloc: Global, paths: &[&[u8]]) -> Result<Vec<Vec<u8>>, AllocError
 impl<'a> Chooser<'a> {
     /// The judge by this choice.
     pub(crate) fn new(alloc: Global, choice: Choice<'a>) -> Result<Chooser<'a>, AllocError>
-        ensures { IfOk result (λ chooser. told chooser ≡ chosen choice.entry) }
+        ensures { IfOk result (λ chooser. chooser_view chooser ≡ choice_view choice.entry) }
     {
         let folders = folders_of(alloc, choice.excluded)?;
         Ok(Chooser {
@@ -150,7 +150,7 @@ impl<'a> Chooser<'a> {
 
     /// Whether a path is excluded.
     pub(crate) fn is_excluded(&self, path: &[u8]) -> bool
-        ensures { result ≡ is_excluded (told self.now) path.now }
+        ensures { result ≡ is_excluded (chooser_view self.now) path.now }
     {
         either(
             any_part(self.names, path),
@@ -160,14 +160,14 @@ impl<'a> Chooser<'a> {
 
     /// Whether pipes, sockets and devices are taken.
     pub(crate) fn takes_specials(&self) -> bool
-        ensures { result ≡ (told self.now).specials }
+        ensures { result ≡ (chooser_view self.now).specials }
     {
         self.specials
     }
 
     /// Whether a file with this name is taken if it is named.
     pub(crate) fn is_wanted(&self, name: &[u8]) -> bool
-        ensures { result ≡ is_wanted (told self.now) name.now }
+        ensures { result ≡ is_wanted (chooser_view self.now) name.now }
     {
         self.any_name || is_taken(name) || name.ends_with(b".hcl")
     }

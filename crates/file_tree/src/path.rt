@@ -3,8 +3,8 @@
 ghost use Rattle.std.specs.Prelude.{◌≡◌, ◌&&◌, ◌==◌, ◌++◌, ◌||◌, IfOk, length, map};
 ghost use Rattle.std.specs.Str.{bytes_eq};
 ghost use Rattle.file_tree.specs.Below.{names_in_listing};
-ghost use Rattle.file_tree.specs.Inner.Steps.{added, gap};
-ghost use Rattle.file_tree.specs.Paths.{is_step, place, report_name, root, tidied, top};
+ghost use Rattle.file_tree.specs.Inner.Steps.{added_text, gap};
+ghost use Rattle.file_tree.specs.Paths.{is_step, place, report_name, root, tidy_path, top};
 
 use std::alloc::{AllocError, Global};
 
@@ -65,7 +65,7 @@ fn gap(has_step: bool) -> &'static [u8]
 /// now.
 fn add_step(tidied: &mut Vec<u8>, has_step: bool, part: &[u8]) -> Result<bool, AllocError>
     ensures { IfOk result
-        (λ has. (tidied.new.items ≡ tidied.old.items ++ added has_step part.now)
+        (λ has. (tidy_path.new.items ≡ tidy_path.old.items ++ added_text has_step part.now)
         × (has ≡ (has_step || is_step part.now))) }
 {
     if !is_step(part) {
@@ -78,7 +78,7 @@ fn add_step(tidied: &mut Vec<u8>, has_step: bool, part: &[u8]) -> Result<bool, A
 
 /// A path without `.` and empty names in it, except a `/` at its front.
 pub fn tidy(alloc: Global, path: &[u8]) -> Result<Vec<u8>, AllocError>
-    ensures { IfOk result (λ path_tidied. path_tidied.items ≡ tidied path.now) }
+    ensures { IfOk result (λ path_tidied. path_tidied.items ≡ tidy_path path.now) }
 {
     let mut tidied = Vec::new(alloc);
     tidied.extend_from_slice(root(path))?;

@@ -3,7 +3,7 @@
 ghost use Rattle.std.specs.Prelude.{◌≡◌, ◌++◌, ◌≤◌, ◌==◌, ℕ, List, IfOk, OnOk, false, flat_map, is_err, take};
 ghost use Rattle.std.specs.List.{list_any};
 ghost use Rattle.command_line.specs.Rows.{Took, writer};
-ghost use Rattle.file_tree.specs.Quotes.{has_plain_blank, in_quotes, is_control, is_odd, quoted, shown_byte, shown_head};
+ghost use Rattle.file_tree.specs.Quotes.{has_plain_blank, in_quotes, is_control, is_odd, shown_name, shown_byte, shown_head};
 
 use hcl_source::{ByteSink, Failed, write_fully};
 use std::alloc::{AllocError, Global};
@@ -18,7 +18,7 @@ fn is_odd(byte: u8) -> bool
 }
 
 /// The bytes that show a byte between quotes: the front of these, and how many.
-fn shown(byte: u8) -> ([u8; 4], usize)
+fn escape_of(byte: u8) -> ([u8; 4], usize)
     ensures within { result.1 ≤ 4 }
     ensures shown { take result.1 result.0 ≡ shown_byte byte }
 {
@@ -52,7 +52,7 @@ fn has_blank(name: &[u8]) -> bool
 fn push_shown(to: &mut Vec<u8>, byte: u8) -> Result<(), AllocError>
     ensures { OnOk result (to.new.items ≡ to.old.items ++ shown_byte byte) }
 {
-    let (bytes, count) = shown(byte);
+    let (bytes, count) = escape_of(byte);
     to.extend_from_slice(&bytes[..count])
 }
 
@@ -76,8 +76,8 @@ pub fn push_in_quotes(to: &mut Vec<u8>, text: &[u8]) -> Result<(), AllocError>
 }
 
 /// A name as it is shown: itself, or between double quotes if it has a byte below blank, DEL, `"` or `\`.
-pub fn quoted(alloc: Global, name: &[u8]) -> Result<Vec<u8>, AllocError>
-    ensures { IfOk result (λ text. text.items ≡ quoted name.now) }
+pub fn quote_name(alloc: Global, name: &[u8]) -> Result<Vec<u8>, AllocError>
+    ensures { IfOk result (λ text. text.items ≡ shown_name name.now) }
 {
     if !has_odd(name) {
         return Vec::from_slice(alloc, name);
@@ -92,7 +92,7 @@ pub fn quoted(alloc: Global, name: &[u8]) -> Result<Vec<u8>, AllocError>
 pub fn shown_head(alloc: Global, name: &[u8]) -> Result<Vec<u8>, AllocError>
     ensures { IfOk result (λ text. text.items ≡ shown_head name.now) }
 {
-    let mut to = quoted(alloc, name)?;
+    let mut to = quote_name(alloc, name)?;
     if has_plain_blank(name) {
         to.extend_from_slice(b"\t")?;
     }
@@ -123,7 +123,7 @@ fn write_shown<S: ByteSink>(sink: &mut S, byte: u8) -> Result<(), Failed>
     ensures took { Took (writer S.ByteSink sink.old sink.new) (shown_byte byte) }
     ensures failed { S.failed sink.new ≡ is_err result }
 {
-    let (bytes, count) = shown(byte);
+    let (bytes, count) = escape_of(byte);
     write_bytes(sink, &bytes[..count])
 }
 
@@ -142,7 +142,7 @@ fn write_all_shown<S: ByteSink>(sink: &mut S, name: &[u8]) -> Result<(), Failed>
 /// Writes a name as it is shown, up to the first write that fails. It needs no memory.
 pub fn write_quoted<S: ByteSink>(sink: &mut S, name: &[u8]) -> Result<(), Failed>
     requires { S.failed sink.old ≡ false }
-    ensures took { Took (writer S.ByteSink sink.old sink.new) (quoted name.now) }
+    ensures took { Took (writer S.ByteSink sink.old sink.new) (shown_name name.now) }
     ensures failed { S.failed sink.new ≡ is_err result }
 {
     if !has_odd(name) {
@@ -156,5 +156,5 @@ pub fn write_quoted<S: ByteSink>(sink: &mut S, name: &[u8]) -> Result<(), Failed
 /// No shown name has a control byte, so none has a newline. No program calls this: its contract is the law.
 #[tactic(auto, using(crate::proofs::QuoteLemmas::quoted_plain))]
 pub fn shown_without_controls()
-    ensures { (name : List ℕ) → list_any is_control (quoted name) ≡ false }
+    ensures { (name : List ℕ) → list_any is_control (shown_name name) ≡ false }
 {}

@@ -2,7 +2,7 @@
 
 ghost use Rattle.std.specs.Prelude.{◌≡◌, Err, None, false, OnOk, OnErr, IfOk};
 ghost use Rattle.file_tree.specs.Asked.{Asked, with_asked};
-ghost use Rattle.file_tree.specs.Files.{Faults, Files, fault_of, fault_of_reader, with_fault, put};
+ghost use Rattle.file_tree.specs.Files.{Faults, Files, fault_of, fault_of_reader, with_fault, with_bytes};
 ghost use Rattle.file_tree.specs.declared.fault.TreeFault.TheVariants.{Missing};
 ghost use Rattle.hcl_source.specs.Devices.{Tells};
 
@@ -104,7 +104,7 @@ pub trait WritableTree: Tree {
         // The old bytes are those of the file, if the device tells them.
         requires old { Tells ((Self.files self.old).told ((Self.files self.old).real name.now))
             old.now }
-        ensures ok { OnOk result (Self.files self.new ≡ put (Self.files self.old)
+        ensures ok { OnOk result (Self.files self.new ≡ with_bytes (Self.files self.old)
             ((Self.files self.old).real name.now) new.now) }
         ensures err { OnErr result (Self.files self.new ≡ Self.files self.old) }
         ensures faults { Self.faults self.new

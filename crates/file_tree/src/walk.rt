@@ -1,18 +1,18 @@
 //! The files that names stand for.
 
 ghost use Rattle.std.specs.Prelude.{◌≡◌, ◌&&◌, not, ◌==◌, false, [], IfOk, List, OnOk, length, map};
-ghost use Rattle.file_tree.specs.Choices.{chosen, is_excluded};
+ghost use Rattle.file_tree.specs.Choices.{choice_view, is_excluded};
 ghost use Rattle.file_tree.specs.Files.{Name, Tells};
 ghost use Rattle.file_tree.specs.Unchanged.{Unchanged};
 ghost use Rattle.file_tree.specs.Finds.{AreReal, Finds};
 ghost use Rattle.file_tree.specs.FolderFiles.{AreHeard, FindsIn};
-ghost use Rattle.file_tree.specs.Inner.Chosen.{told};
+ghost use Rattle.file_tree.specs.Inner.Chosen.{chooser_view};
 ghost use Rattle.file_tree.specs.Inner.Searching.{AreOrdered, Keeps, LooksInto, Searches, SeesAll};
-ghost use Rattle.file_tree.specs.Inner.Walking.{Adds, Enters, Hears, HearsGiven, TakesAll, TakesAsked, TakesEntry, TakesFolder, TakesGiven, TakesIf, TakesKind, TakesKindGiven, TakesLink, TakesLinked, TakesMet, TakesNamedFile, TakesSpecial, TakesWanted, Walked, reached};
+ghost use Rattle.file_tree.specs.Inner.Walking.{Adds, Enters, Hears, HearsGiven, TakesAll, TakesAsked, TakesEntry, TakesFolder, TakesGiven, TakesIf, TakesKind, TakesKindGiven, TakesLink, TakesLinked, TakesMet, TakesNamedFile, TakesSpecial, TakesWanted, Walked, walk_view};
 ghost use Rattle.file_tree.specs.Ordered.{Orders};
 ghost use Rattle.file_tree.specs.Seen.{Sees};
 ghost use Rattle.file_tree.specs.Names.{is_passed_over, is_taken};
-ghost use Rattle.file_tree.specs.Paths.{tidied};
+ghost use Rattle.file_tree.specs.Paths.{tidy_path};
 
 use crate::choice::{Choice, Chooser};
 use crate::fault::TreeFault;
@@ -101,7 +101,7 @@ impl Walk {
         fault: Option<TreeFault>,
         file: Option<FoundFile>,
     ) -> Result<(), AllocError>
-        ensures { OnOk result (Adds name.items fault file (reached self.old) (reached self.new)) }
+        ensures { OnOk result (Adds name.items fault file (walk_view self.old) (walk_view self.new)) }
     {
         let found = Found { name, fault, file };
         match self.found.push(found) {
@@ -111,7 +111,7 @@ impl Walk {
     }
 
     fn add_folder(&mut self, name: Vec<u8>) -> Result<(), AllocError>
-        ensures { OnOk result (Enters name.items (reached self.old) (reached self.new)) }
+        ensures { OnOk result (Enters name.items (walk_view self.old) (walk_view self.new)) }
     {
         match self.folders.push(name) {
             Ok(()) => Ok(()),
@@ -127,7 +127,7 @@ impl Walk {
         identity: Identity,
     ) -> Result<(), AllocError>
         ensures { OnOk result (TakesIf is_taken path.items identity
-            (reached self.old) (reached self.new)) }
+            (walk_view self.old) (walk_view self.new)) }
     {
         if is_taken {
             let file = FoundFile {
@@ -142,7 +142,7 @@ impl Walk {
     /// Takes a pipe, a socket or a device, if such are taken.
     fn take_special(&mut self, is_taken: bool, path: Vec<u8>) -> Result<(), AllocError>
         ensures { OnOk result (TakesSpecial is_taken path.items
-            (reached self.old) (reached self.new)) }
+            (walk_view self.old) (walk_view self.new)) }
     {
         if is_taken {
             return self.add(path, None, None);
@@ -153,7 +153,7 @@ impl Walk {
     /// Takes a link that leads to this kind, if that is a file, or another kind that is taken.
     fn take_linked(&mut self, specials: bool, kind: Kind, path: Vec<u8>) -> Result<(), AllocError>
         ensures { OnOk result (TakesLinked specials kind path.items
-            (reached self.old) (reached self.new)) }
+            (walk_view self.old) (walk_view self.new)) }
     {
         match kind {
             Kind::File(identity) => {
@@ -179,8 +179,8 @@ impl Walk {
     ) -> Result<(), AllocError>
         ensures unchanged { Unchanged T.Tree tree.old tree.new }
         ensures takes { OnOk result (TakesLink is_taken specials (T.files tree.old) path.items
-            (reached self.old) (reached self.new)) }
-        ensures hears { OnOk result (Hears (reached self.old).found (reached self.new).found
+            (walk_view self.old) (walk_view self.new)) }
+        ensures hears { OnOk result (Hears (walk_view self.old).found (walk_view self.new).found
             (T.faults tree.old) (T.faults tree.new)) }
     {
         if !is_taken {
@@ -204,8 +204,8 @@ impl Walk {
     ) -> Result<(), AllocError>
         ensures unchanged { Unchanged T.Tree tree.old tree.new }
         ensures takes { OnOk result (TakesKind specials kind (T.files tree.old)
-            met.entry.path.items met.entry.name.now (reached self.old) (reached self.new)) }
-        ensures hears { OnOk result (Hears (reached self.old).found (reached self.new).found
+            met.entry.path.items met.entry.name.now (walk_view self.old) (walk_view self.new)) }
+        ensures hears { OnOk result (Hears (walk_view self.old).found (walk_view self.new).found
             (T.faults tree.old) (T.faults tree.new)) }
     {
         let Entry { name, path } = met;
@@ -231,8 +231,8 @@ impl Walk {
     ) -> Result<(), AllocError>
         ensures unchanged { Unchanged T.Tree tree.old tree.new }
         ensures takes { OnOk result (TakesMet specials (T.files tree.old) met.entry.path.items
-            met.entry.name.now (reached self.old) (reached self.new)) }
-        ensures hears { OnOk result (Hears (reached self.old).found (reached self.new).found
+            met.entry.name.now (walk_view self.old) (walk_view self.new)) }
+        ensures hears { OnOk result (Hears (walk_view self.old).found (walk_view self.new).found
             (T.faults tree.old) (T.faults tree.new)) }
     {
         match tree.entry_kind(met.path.as_slice()) {
@@ -252,9 +252,9 @@ impl Walk {
         tree: &mut T,
     ) -> Result<(), AllocError>
         ensures unchanged { Unchanged T.Tree tree.old tree.new }
-        ensures takes { OnOk result (TakesEntry (T.files tree.old) (told chooser.now) folder.now
-            name.now (reached self.old) (reached self.new)) }
-        ensures hears { OnOk result (Hears (reached self.old).found (reached self.new).found
+        ensures takes { OnOk result (TakesEntry (T.files tree.old) (chooser_view chooser.now) folder.now
+            name.now (walk_view self.old) (walk_view self.new)) }
+        ensures hears { OnOk result (Hears (walk_view self.old).found (walk_view self.new).found
             (T.faults tree.old) (T.faults tree.new)) }
     {
         if !is_met(name) {
@@ -277,9 +277,9 @@ impl Walk {
         tree: &mut T,
     ) -> Result<(), AllocError>
         ensures unchanged { Unchanged T.Tree tree.old tree.new }
-        ensures takes { OnOk result (TakesAll (T.files tree.old) (told chooser.now) folder.now
-            (map (λ name. name.now) names.now) (reached self.old) (reached self.new)) }
-        ensures hears { OnOk result (Hears (reached self.old).found (reached self.new).found
+        ensures takes { OnOk result (TakesAll (T.files tree.old) (chooser_view chooser.now) folder.now
+            (map (λ name. name.now) names.now) (walk_view self.old) (walk_view self.new)) }
+        ensures hears { OnOk result (Hears (walk_view self.old).found (walk_view self.new).found
             (T.faults tree.old) (T.faults tree.new)) }
     {
         for name in names {
@@ -298,9 +298,9 @@ impl Walk {
         tree: &mut T,
     ) -> Result<(), AllocError>
         ensures unchanged { Unchanged T.Tree tree.old tree.new }
-        ensures takes { OnOk result (TakesFolder (T.files tree.old) (told chooser.now) folder.now
-            (reached self.old) (reached self.new)) }
-        ensures hears { OnOk result (Hears (reached self.old).found (reached self.new).found
+        ensures takes { OnOk result (TakesFolder (T.files tree.old) (chooser_view chooser.now) folder.now
+            (walk_view self.old) (walk_view self.new)) }
+        ensures hears { OnOk result (Hears (walk_view self.old).found (walk_view self.new).found
             (T.faults tree.old) (T.faults tree.new)) }
     {
         let place = place(folder);
@@ -325,11 +325,11 @@ impl Walk {
         operand: Operand<'_>,
         tree: &mut T,
     ) -> Result<(), AllocError>
-        requires tidied { operand.tidied.items ≡ tidied operand.path.now }
+        requires tidied { operand.tidied.items ≡ tidy_path operand.path.now }
         ensures unchanged { Unchanged T.Tree tree.old tree.new }
         ensures takes { OnOk result (TakesNamedFile (T.files tree.old) identity
-            operand.entry.path.now (reached self.old) (reached self.new)) }
-        ensures hears { OnOk result (Hears (reached self.old).found (reached self.new).found
+            operand.entry.path.now (walk_view self.old) (walk_view self.new)) }
+        ensures hears { OnOk result (Hears (walk_view self.old).found (walk_view self.new).found
             (T.faults tree.old) (T.faults tree.new)) }
     {
         match tree.entry_kind(operand.tidied.as_slice()) {
@@ -353,11 +353,11 @@ impl Walk {
         operand: Operand<'_>,
         tree: &mut T,
     ) -> Result<(), AllocError>
-        requires tidied { operand.tidied.items ≡ tidied operand.path.now }
+        requires tidied { operand.tidied.items ≡ tidy_path operand.path.now }
         ensures unchanged { Unchanged T.Tree tree.old tree.new }
         ensures takes { OnOk result (TakesWanted kind (T.files tree.old) operand.entry.path.now
-            (reached self.old) (reached self.new)) }
-        ensures hears { OnOk result (Hears (reached self.old).found (reached self.new).found
+            (walk_view self.old) (walk_view self.new)) }
+        ensures hears { OnOk result (Hears (walk_view self.old).found (walk_view self.new).found
             (T.faults tree.old) (T.faults tree.new)) }
     {
         match kind {
@@ -375,14 +375,14 @@ impl Walk {
         operand: Operand<'_>,
         tree: &mut T,
     ) -> Result<(), AllocError>
-        requires tidied { operand.tidied.items ≡ tidied operand.path.now }
-        requires allowed { is_excluded (told chooser.now) (tidied operand.path.now) ≡ false }
+        requires tidied { operand.tidied.items ≡ tidy_path operand.path.now }
+        requires allowed { is_excluded (chooser_view chooser.now) (tidy_path operand.path.now) ≡ false }
         requires told { Tells ((T.files tree.old).kind operand.path.now) kind }
         ensures unchanged { Unchanged T.Tree tree.old tree.new }
-        ensures takes { OnOk result (TakesKindGiven (T.files tree.old) (told chooser.now) kind
-            operand.entry.path.now (reached self.old) (reached self.new)) }
-        ensures hears { OnOk result (HearsGiven (T.files tree.old) (told chooser.now)
-            operand.entry.path.now (reached self.old).found (reached self.new).found
+        ensures takes { OnOk result (TakesKindGiven (T.files tree.old) (chooser_view chooser.now) kind
+            operand.entry.path.now (walk_view self.old) (walk_view self.new)) }
+        ensures hears { OnOk result (HearsGiven (T.files tree.old) (chooser_view chooser.now)
+            operand.entry.path.now (walk_view self.old).found (walk_view self.new).found
             (T.faults tree.old) (T.faults tree.new)) }
     {
         if kind == Kind::Folder {
@@ -404,13 +404,13 @@ impl Walk {
         operand: Operand<'_>,
         tree: &mut T,
     ) -> Result<(), AllocError>
-        requires tidied { operand.tidied.items ≡ tidied operand.path.now }
-        requires allowed { is_excluded (told chooser.now) (tidied operand.path.now) ≡ false }
+        requires tidied { operand.tidied.items ≡ tidy_path operand.path.now }
+        requires allowed { is_excluded (chooser_view chooser.now) (tidy_path operand.path.now) ≡ false }
         ensures unchanged { Unchanged T.Tree tree.old tree.new }
-        ensures takes { OnOk result (TakesAsked (T.files tree.old) (told chooser.now)
-            operand.entry.path.now (reached self.old) (reached self.new)) }
-        ensures hears { OnOk result (HearsGiven (T.files tree.old) (told chooser.now)
-            operand.entry.path.now (reached self.old).found (reached self.new).found
+        ensures takes { OnOk result (TakesAsked (T.files tree.old) (chooser_view chooser.now)
+            operand.entry.path.now (walk_view self.old) (walk_view self.new)) }
+        ensures hears { OnOk result (HearsGiven (T.files tree.old) (chooser_view chooser.now)
+            operand.entry.path.now (walk_view self.old).found (walk_view self.new).found
             (T.faults tree.old) (T.faults tree.new)) }
     {
         match tree.kind(operand.path) {
@@ -432,10 +432,10 @@ impl Walk {
         tree: &mut T,
     ) -> Result<(), AllocError>
         ensures unchanged { Unchanged T.Tree tree.old tree.new }
-        ensures takes { OnOk result (TakesGiven (T.files tree.old) (told chooser.now) path.now
-            (reached self.old) (reached self.new)) }
-        ensures hears { OnOk result (HearsGiven (T.files tree.old) (told chooser.now) path.now
-            (reached self.old).found (reached self.new).found
+        ensures takes { OnOk result (TakesGiven (T.files tree.old) (chooser_view chooser.now) path.now
+            (walk_view self.old) (walk_view self.new)) }
+        ensures hears { OnOk result (HearsGiven (T.files tree.old) (chooser_view chooser.now) path.now
+            (walk_view self.old).found (walk_view self.new).found
             (T.faults tree.old) (T.faults tree.new)) }
     {
         let tidied = tidy(alloc, path)?;
@@ -446,18 +446,18 @@ impl Walk {
     }
 
     /// A walk that has taken the given names.
-    fn over<T: Tree>(
+    fn from_names<T: Tree>(
         alloc: Global,
         chooser: &Chooser<'_>,
         paths: &[&[u8]],
         tree: &mut T,
     ) -> Result<Walk, AllocError>
         ensures unchanged { Unchanged T.Tree tree.old tree.new }
-        ensures walked { IfOk result (λ walk. Walked (T.files tree.old) (told chooser.now)
-            (map (λ path. path.now) paths.now) (reached walk)) }
-        ensures real { IfOk result (λ walk. AreReal (T.files tree.old) (told chooser.now)
+        ensures walked { IfOk result (λ walk. Walked (T.files tree.old) (chooser_view chooser.now)
+            (map (λ path. path.now) paths.now) (walk_view walk)) }
+        ensures real { IfOk result (λ walk. AreReal (T.files tree.old) (chooser_view chooser.now)
             (map (λ path. path.now) paths.now) (T.faults tree.old) (T.faults tree.new)
-            (reached walk).found) }
+            (walk_view walk).found) }
     {
         let mut walk = Walk {
             found: Vec::new(alloc),
@@ -478,10 +478,10 @@ impl Walk {
     ) -> Result<(), AllocError>
         ensures unchanged { Unchanged T.Tree tree.old tree.new }
         ensures walked { OnOk result ((paths : List Name)
-            → Walked (T.files tree.old) (told chooser.now) paths (reached self.old)
-            → Walked (T.files tree.old) (told chooser.now) paths
+            → Walked (T.files tree.old) (chooser_view chooser.now) paths (walk_view self.old)
+            → Walked (T.files tree.old) (chooser_view chooser.now) paths
             (record { found = self.new.found.items; folders = [] })) }
-        ensures hears { OnOk result (Hears (reached self.old).found self.new.found.items
+        ensures hears { OnOk result (Hears (walk_view self.old).found self.new.found.items
             (T.faults tree.old) (T.faults tree.new)) }
     {
         for _ in 0..u64::MAX {
@@ -497,7 +497,7 @@ impl Walk {
 impl Search {
     /// Keeps the entries found in a folder, and the folders in it.
     fn keep(&mut self, folder: Vec<u8>, here: Walk) -> Result<(), AllocError>
-        ensures { OnOk result (Keeps folder.items (reached here) self.old self.new) }
+        ensures { OnOk result (Keeps folder.items (walk_view here) self.old self.new) }
     {
         let Walk {
             mut found,
@@ -523,7 +523,7 @@ impl Search {
         tree: &mut T,
     ) -> Result<(), AllocError>
         ensures unchanged { Unchanged T.Tree tree.old tree.new }
-        ensures looks { OnOk result (LooksInto (T.files tree.old) (told chooser.now) folder.items
+        ensures looks { OnOk result (LooksInto (T.files tree.old) (chooser_view chooser.now) folder.items
             (T.faults tree.old) (T.faults tree.new) self.old self.new) }
     {
         let mut here = Walk {
@@ -542,7 +542,7 @@ impl Search {
         tree: &mut T,
     ) -> Result<(), AllocError>
         ensures unchanged { Unchanged T.Tree tree.old tree.new }
-        ensures searches { OnOk result (Searches (T.files tree.old) (told chooser.now)
+        ensures searches { OnOk result (Searches (T.files tree.old) (chooser_view chooser.now)
             (T.faults tree.old) (T.faults tree.new) self.old self.new) }
         ensures none { OnOk result (self.new.walk.folders.items ≡ []) }
     {
@@ -563,11 +563,11 @@ impl Search {
         tree: &mut T,
     ) -> Result<Search, AllocError>
         ensures unchanged { Unchanged T.Tree tree.old tree.new }
-        ensures sees { IfOk result (λ search. SeesAll (T.files tree.old) (told chooser.now)
+        ensures sees { IfOk result (λ search. SeesAll (T.files tree.old) (chooser_view chooser.now)
             (map (λ operand. operand.now) operands.now) (T.faults tree.old) (T.faults tree.new)
             search) }
     {
-        let walk = Walk::over(alloc, chooser, operands, tree)?;
+        let walk = Walk::from_names(alloc, chooser, operands, tree)?;
         let mut search = Search {
             walk,
             looked: Vec::new(alloc),
@@ -596,21 +596,21 @@ pub fn find<T: Tree>(
 ) -> Result<Vec<Found>, AllocError>
     ensures unchanged { Unchanged T.Tree tree.old tree.new }
     // All files that the names stand for and that aren't excluded, and nothing else.
-    ensures finds { IfOk result (λ found. Finds (T.files tree.old) (chosen choice.entry)
+    ensures finds { IfOk result (λ found. Finds (T.files tree.old) (choice_view choice.entry)
         (map (λ operand. operand.now) operands.now) found.items) }
     // If the device tells the faults of its calls, a name is reported only for a failed call, or for its kind of name.
-    ensures real { IfOk result (λ found. AreReal (T.files tree.old) (chosen choice.entry)
+    ensures real { IfOk result (λ found. AreReal (T.files tree.old) (choice_view choice.entry)
         (map (λ operand. operand.now) operands.now) (T.faults tree.old) (T.faults tree.new)
         found.items) }
 {
     let chooser = Chooser::new(alloc, choice)?;
-    let mut walk = Walk::over(alloc, &chooser, operands, tree)?;
+    let mut walk = Walk::from_names(alloc, &chooser, operands, tree)?;
     walk.look_into_all(alloc, &chooser, tree)?;
     Ok(in_order(walk.found))
 }
 
 /// These folders, and in each the found names in order, each once.
-fn ordered(alloc: Global, looked: Vec<ListedFolder>) -> Result<Vec<ListedFolder>, AllocError>
+fn order_each(alloc: Global, looked: Vec<ListedFolder>) -> Result<Vec<ListedFolder>, AllocError>
     ensures { IfOk result (λ ordered. AreOrdered looked.items ordered.items) }
 {
     let mut ordered = Vec::new(alloc);
@@ -640,7 +640,7 @@ pub fn look<T: Tree>(alloc: Global, operands: &[&[u8]], tree: &mut T) -> Result<
         found: named,
         folders: _,
     } = walk;
-    let looked = ordered(alloc, looked)?;
+    let looked = order_each(alloc, looked)?;
     Ok(Seen { named, looked })
 }
 
@@ -662,7 +662,7 @@ pub fn find_in<T: Tree>(
         found: Vec::new(alloc),
         folders: Vec::new(alloc),
     };
-    let chooser = Chooser::new(alloc, Choice::whole())?;
+    let chooser = Chooser::new(alloc, Choice::whole_tree())?;
     walk.take_folder(alloc, &chooser, folder, tree)?;
     Ok(in_order(walk.found))
 }

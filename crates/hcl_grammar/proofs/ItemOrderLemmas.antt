@@ -6,7 +6,7 @@ use Rattle.hcl_tokens.specs.Kinds.{is}
 use Rattle.hcl_tokens.specs.declared.token.Kind.TheVariants.{Assign, BraceClose, BraceOpen, Ident, Newline, QuoteOpen}
 use Rattle.hcl_tokens.specs.Lexemes.{Lexeme}
 use Rattle.hcl_tokens.specs.declared.token.Kind.{Kind}
-use Rattle.hcl_grammar.specs.Numbered.{Numbered, numbered, numbered_from, without_comments, is_comment, end_of}
+use Rattle.hcl_grammar.specs.Numbered.{Numbered, number_tokens, numbered_from, without_comments, is_comment, end_of}
 use Rattle.hcl_grammar.specs.Items.{deepen, is_closed, onto, segments, after_brace, block_end, body, block, item_of, items, label_at, labels, outline, closing_quote}
 use Rattle.hcl_grammar.specs.ItemOrder.{Climbs, Spans, lead, past}
 use Rattle.hcl_grammar.specs.declared.item.Item.{Item}
@@ -160,5 +160,5 @@ items_climb (suc n) level from to ts h = all_climb (items n (level + 1)) (items_
 pub outline_climbs : (tokens : List Lexeme) → Climbs 0 (outline tokens) (length tokens)
 outline_climbs tokens =
     let e : 0 + length tokens ≡ length tokens = omega arith in
-    let r : Rises 0 (numbered tokens) (length tokens) = subst (λ (to : ℕ). Rises 0 (numbered tokens) to) e (rises_numbered 0 tokens) in
-    items_climb (length (numbered tokens)) 0 0 (length tokens) (without_comments (numbered tokens)) (rises_filter (λ t. not (is_comment t.kind)) 0 (length tokens) (numbered tokens) r)
+    let r : Rises 0 (number_tokens tokens) (length tokens) = subst (λ (to : ℕ). Rises 0 (number_tokens tokens) to) e (rises_numbered 0 tokens) in
+    items_climb (length (number_tokens tokens)) 0 0 (length tokens) (without_comments (number_tokens tokens)) (rises_filter (λ t. not (is_comment t.kind)) 0 (length tokens) (number_tokens tokens) r)

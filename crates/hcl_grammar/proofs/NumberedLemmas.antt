@@ -3,7 +3,7 @@ use Rattle.std.proofs.Common.{◌≡◌, ◌∙◌, ap, sym, refl, ℕ, suc, zer
 use Rattle.std.specs.Prelude.{Some, slice_get}
 use Rattle.std.proofs.lemmas.Option.{slice_get_within, get_or_from_slice_get}
 use Rattle.hcl_tokens.specs.Lexemes.{Lexeme}
-use Rattle.hcl_grammar.specs.Numbered.{Numbered, numbered, numbered_from}
+use Rattle.hcl_grammar.specs.Numbered.{Numbered, number_tokens, numbered_from}
 
 pub drop_at : {X : Type 0} (ts : List X) (n : ℕ) (t : X) → slice_get ts n ≡ Some t → drop n ts ≡ t ∷ drop (n + 1) ts
 drop_at ts n t e =
@@ -20,13 +20,13 @@ drop_numbered zero xs k = let z : k + 0 ≡ k = omega arith in ap (λ j. numbere
 drop_numbered (suc n) [] k = refl
 drop_numbered (suc n) (x ∷ xs) k = let s : k + suc n ≡ k + 1 + n = omega arith in drop_numbered n xs (k + 1) ∙ ap (λ j. numbered_from j (drop n xs)) (sym s)
 
-pub numbered_at : (ts : List Lexeme) (n : ℕ) → drop n (numbered ts) ≡ numbered_from n (drop n ts)
+pub numbered_at : (ts : List Lexeme) (n : ℕ) → drop n (number_tokens ts) ≡ numbered_from n (drop n ts)
 numbered_at ts n = let z : 0 + n ≡ n = omega arith in drop_numbered n ts 0 ∙ ap (λ j. numbered_from j (drop n ts)) z
 
-pub numbered_here : (ts : List Lexeme) (n : ℕ) (t : Lexeme) → slice_get ts n ≡ Some t → drop n (numbered ts) ≡ number_of n t ∷ numbered_from (n + 1) (drop (n + 1) ts)
+pub numbered_here : (ts : List Lexeme) (n : ℕ) (t : Lexeme) → slice_get ts n ≡ Some t → drop n (number_tokens ts) ≡ number_of n t ∷ numbered_from (n + 1) (drop (n + 1) ts)
 numbered_here ts n t e = numbered_at ts n ∙ ap (numbered_from n) (drop_at ts n t e)
 
-pub numbered_past : (ts : List Lexeme) (n : ℕ) → length ts ≤ n → drop n (numbered ts) ≡ []
+pub numbered_past : (ts : List Lexeme) (n : ℕ) → length ts ≤ n → drop n (number_tokens ts) ≡ []
 numbered_past ts n h = numbered_at ts n ∙ ap (numbered_from n) (past ts n h)
   where
     past : (xs : List Lexeme) (k : ℕ) → length xs ≤ k → drop k xs ≡ []

@@ -6,7 +6,7 @@ use Rattle.hcl_tokens.specs.Kinds.{is}
 use Rattle.hcl_tokens.specs.declared.token.Kind.TheVariants.{Assign, BraceClose, BraceOpen, Ident, QuoteOpen}
 use Rattle.hcl_tokens.specs.Lexemes.{Lexeme}
 use Rattle.hcl_tokens.specs.declared.token.Kind.{Kind}
-use Rattle.hcl_grammar.specs.Numbered.{Numbered, numbered, without_comments, is_comment, end_of}
+use Rattle.hcl_grammar.specs.Numbered.{Numbered, number_tokens, without_comments, is_comment, end_of}
 use Rattle.hcl_grammar.specs.Items.{is_closed, segments, block_end, body, block, item_of, items, label_at, labels, outline, closing_quote}
 use Rattle.hcl_grammar.specs.ItemOrder.{TopsApart}
 use Rattle.hcl_grammar.specs.declared.item.Item.{Item}
@@ -128,5 +128,5 @@ items_tops (suc n) level from to ts h = all_tops (items n (level + 1)) (items_de
 pub tops_apart : (tokens : List Lexeme) → TopsApart 0 (outline tokens) (length tokens)
 tops_apart tokens =
     let e : 0 + length tokens ≡ length tokens = omega arith in
-    let r : Rises 0 (numbered tokens) (length tokens) = subst (λ (to : ℕ). Rises 0 (numbered tokens) to) e (rises_numbered 0 tokens) in
-    items_tops (length (numbered tokens)) 0 0 (length tokens) (without_comments (numbered tokens)) (rises_filter (λ t. not (is_comment t.kind)) 0 (length tokens) (numbered tokens) r)
+    let r : Rises 0 (number_tokens tokens) (length tokens) = subst (λ (to : ℕ). Rises 0 (number_tokens tokens) to) e (rises_numbered 0 tokens) in
+    items_tops (length (number_tokens tokens)) 0 0 (length tokens) (without_comments (number_tokens tokens)) (rises_filter (λ t. not (is_comment t.kind)) 0 (length tokens) (number_tokens tokens) r)

@@ -8,7 +8,7 @@ use Rattle.hcl_tokens.specs.declared.token.Kind.TheVariants.{Assign, BraceClose,
 use Rattle.hcl_tokens.specs.Lexemes.{Lexeme}
 use Rattle.hcl_tokens.specs.declared.token.Kind.{Kind}
 use Rattle.hcl_tokens.specs.Balanced.{opener_count, closer_count}
-use Rattle.hcl_grammar.specs.Numbered.{Numbered, numbered, without_comments, end_of}
+use Rattle.hcl_grammar.specs.Numbered.{Numbered, number_tokens, without_comments, end_of}
 use Rattle.hcl_grammar.specs.declared.item.Item.{Item}
 use Rattle.hcl_grammar.specs.declared.item.Item.TheVariants as item
 
@@ -90,4 +90,4 @@ items_of ts = items (length ts) 0 (without_comments ts)
 
 -- the items of a file
 abbrev pub outline : List Lexeme → List Item
-outline tokens = items_of (numbered tokens)
+outline tokens = items_of (number_tokens tokens)

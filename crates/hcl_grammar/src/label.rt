@@ -4,7 +4,7 @@ ghost use Rattle.std.specs.Prelude.{◌≡◌, ◌<◌, ◌+◌, length, drop};
 ghost use Rattle.hcl_tokens.specs.Kinds.{is};
 ghost use Rattle.hcl_tokens.specs.declared.token.Kind.TheVariants.{Lit};
 ghost use Rattle.hcl_grammar.specs.Labels.{first_literal, label_text};
-ghost use Rattle.hcl_grammar.specs.Numbered.{numbered};
+ghost use Rattle.hcl_grammar.specs.Numbered.{number_tokens};
 
 use crate::accepted::Accepted;
 use crate::item::Label;
@@ -19,7 +19,7 @@ fn is_lit(kind: Kind) -> bool
 /// The text of the token after this number if it is a literal, else nothing.
 fn literal_after<'s>(tokens: &Tokens<'s>, number: usize) -> &'s str
     requires { number < length tokens.now.tokens }
-    ensures { result.now ≡ first_literal (drop (number + 1) (numbered tokens.now.tokens)) }
+    ensures { result.now ≡ first_literal (drop (number + 1) (number_tokens tokens.now.tokens)) }
 {
     let count = tokens.len();
     let next = number + 1;
@@ -36,7 +36,7 @@ fn literal_after<'s>(tokens: &Tokens<'s>, number: usize) -> &'s str
 /// The text of a label: the identifier, or the literal as written.
 pub fn label_text<'s>(accepted: &Accepted<'_, 's>, label: &Label) -> &'s str
     requires { label.now.first < length accepted.now.tokens }
-    ensures { result.now ≡ label_text (numbered accepted.now.tokens) label.now }
+    ensures { result.now ≡ label_text (number_tokens accepted.now.tokens) label.now }
 {
     let tokens = accepted.tokens();
     if label.first == label.last {

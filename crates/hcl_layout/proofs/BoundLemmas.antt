@@ -12,11 +12,11 @@ use Rattle.hcl_layout.specs.Columns.{widest}
 use Rattle.hcl_layout.specs.Gaps.{align, gap_to, gaps, gaps_after, plain_gaps, set_gap, width}
 use Rattle.hcl_layout.specs.Lines.{Line, ends_line, lines, onto_line}
 use Rattle.hcl_layout.specs.Print.{print, printed_text}
-use Rattle.hcl_layout.specs.Inner.Depths.{BalancedFrom, Sound, depth_after, fresh, level_at, next_levels, with_level}
+use Rattle.hcl_layout.specs.Inner.Depths.{BalancedFrom, Sound, depth_after, fresh_levels, level_at, next_levels, with_level}
 use Rattle.hcl_layout.specs.Inner.Bounds.{AreApart}
 use Rattle.hcl_layout.specs.Inner.LineGaps.{len_with_blanks}
-use Rattle.hcl_layout.specs.Inner.Rooms.{cells_of, no_extent, room_before, room_of, start_of, taken, with_cells, with_line, with_lines}
-use Rattle.hcl_layout.specs.Inner.Stream.{assign_column, assign_widths, comment_column, comment_widths, comment_stream, next_of, plain}
+use Rattle.hcl_layout.specs.Inner.Rooms.{cells_of, no_extent, room_before, room_of, start_of, room_taken, with_cells, with_line, with_lines}
+use Rattle.hcl_layout.specs.Inner.Stream.{assign_column, assign_widths, comment_column, comment_widths, comment_stream, next_of, first_gaps}
 use Rattle.hcl_layout.specs.declared.bound.Extent.{Extent}
 use Rattle.hcl_layout.proofs.ClusterLemmas.{clusters_few}
 use Rattle.hcl_layout.proofs.LevelLemmas.{next_levels_sound, sound_less}
@@ -104,7 +104,7 @@ sound_after d e levels low p = go (nat_lt d e) refl
         let none : 0 ≡ e - d = omega arith in
         subst (λ n. Sound e (with_level levels (get_or levels d 0 + 1) (d + 1) n)) none (sound_less d e levels le p)
 
-plain_low : (d : ℕ) (levels : List ℕ) (l : Line) → Sound d levels → excess (plain d levels l) ≤ 2 * d
+plain_low : (d : ℕ) (levels : List ℕ) (l : Line) → Sound d levels → excess (first_gaps d levels l) ≤ 2 * d
 plain_low d levels l p = omega (arith, plain_excess (level_at d (depth_after d l) levels) l, level_low d (depth_after d l) levels p)
 
 -- ---- the source text before a cell
@@ -200,25 +200,25 @@ last_keeps (l ∷ ls) d w = by (cells_of (assign_cell l) (running_comment l)) (l
 
 -- a line with its sign in a column
 signed_excess : (d : ℕ) (levels : List ℕ) (l : Line) (column : Option ℕ) (most : ℕ) → Sound d levels → UpTo most column
-    → excess (align assign_cell (plain d levels l) l column) ≤ 2 * d + share (assign_cell l) most
-signed_excess d levels l column most p q = omega (arith, cell_excess most (assign_cell l) (plain d levels l) l column q, plain_low d levels l p)
+    → excess (align assign_cell (first_gaps d levels l) l column) ≤ 2 * d + share (assign_cell l) most
+signed_excess d levels l column most p q = omega (arith, cell_excess most (assign_cell l) (first_gaps d levels l) l column q, plain_low d levels l p)
 
 -- the width before a sign, and before a comment if the sign's column is no wider
 sign_upto : (d w i : ℕ) (levels : List ℕ) (l : Line) (ls : List Line) → Fair d levels (l ∷ ls) → assign_cell l ≡ Some i
-    → width i (plain d levels l) l ≤ last (depth_after d l) (max w (room_of d l)) ls
+    → width i (first_gaps d levels l) l ≤ last (depth_after d l) (max w (room_of d l)) ls
 sign_upto d w i levels l ls p e =
     omega (
       arith,
-      width_excess i (plain d levels l) l,
+      width_excess i (first_gaps d levels l) l,
       plain_low d levels l p.sound,
       room_tells l (assign_cell l) i 0 p.apart.0 e (assign_within l i e),
       last_keeps ls (depth_after d l) (max w (room_of d l)),
     )
 
 comment_upto : (d w j : ℕ) (levels : List ℕ) (l : Line) (ls : List Line) (column : Option ℕ) (most : ℕ) → Fair d levels (l ∷ ls) → running_comment l ≡ Some j
-    → UpTo most column → last (depth_after d l) (max w (room_of d l)) ls ≤ most → width j (align assign_cell (plain d levels l) l column) l ≤ 2 * most
+    → UpTo most column → last (depth_after d l) (max w (room_of d l)) ls ≤ most → width j (align assign_cell (first_gaps d levels l) l column) l ≤ 2 * most
 comment_upto d w j levels l ls column most p e q le =
-    let gs = align assign_cell (plain d levels l) l column in
+    let gs = align assign_cell (first_gaps d levels l) l column in
     omega (
       arith,
       width_excess j gs l,
@@ -235,7 +235,7 @@ signs_widest [] d w levels p = omega arith
 signs_widest (l ∷ ls) d w levels p =
     let now = depth_after d l in
     let then = next_levels d now levels in
-    by (assign_cell l) (running_comment l) (λ i. width i (plain d levels l) l) (assign_widths now then ls) (last now (max w (room_of d l)) ls)
+    by (assign_cell l) (running_comment l) (λ i. width i (first_gaps d levels l) l) (assign_widths now then ls) (last now (max w (room_of d l)) ls)
     (λ i e. sign_upto d w i levels l ls p e) (signs_widest ls now (max w (room_of d l)) then (fair_after d levels l ls p))
   where
     by : (a b : Option ℕ) (f : ℕ → ℕ) (ws : List (Option ℕ)) (then : ℕ) → ((i : ℕ) → a ≡ Some i → f i ≤ then) → widest ws ≤ then → widest (option_map f a ∷ ws) ≤ last_by (cells_of a b) w then
@@ -270,7 +270,7 @@ comments_widest (l ∷ ls) d w levels column p q =
     let then = next_levels d now levels in
     let here = assign_column d levels column (l ∷ ls) in
     let within : UpTo (last d w (l ∷ ls)) here = column_upto (l ∷ ls) d w levels column p q in
-    let gs = align assign_cell (plain d levels l) l here in
+    let gs = align assign_cell (first_gaps d levels l) l here in
     by (assign_cell l) (running_comment l) (λ i. width i gs l) (comment_widths now then here ls) (last now (max w (room_of d l)) ls) here within
     (λ j e q. comment_upto d w j levels l ls here (last now (max w (room_of d l)) ls) p e q (omega arith))
     (λ q. comments_widest ls now (max w (room_of d l)) then here (fair_after d levels l ls p) q)
@@ -314,9 +314,9 @@ lines_excess (l ∷ ls) d levels column comment e p q r =
     let more = with_line d l e in
     let a = assign_cell l in
     let b = running_comment l in
-    let gs = align assign_cell (plain d levels l) l here in
+    let gs = align assign_cell (first_gaps d levels l) l here in
     let set = align trailing_comment gs l there in
-    let f : ℕ → ℕ = λ i. width i (plain d levels l) l in
+    let f : ℕ → ℕ = λ i. width i (first_gaps d levels l) l in
     let h : ℕ → ℕ = λ i. width i gs l in
     let g : ℕ → ℕ = λ w. last now w ls in
     let within : UpTo most here = column_upto (l ∷ ls) d e.width levels column p q in
@@ -334,18 +334,18 @@ lines_excess (l ∷ ls) d levels column comment e p q r =
           (carried_comment a b h (comment_widths now then here ls) comment (2 * d) (room_of d l) e g over),
     )
 
-fresh_sound : Sound 0 fresh
+fresh_sound : Sound 0 fresh_levels
 fresh_sound = (length-replicate {A = ℕ} (max_open + 1) 0, low)
   where
-    low : (k : ℕ) → k ≤ 0 → get_or fresh k 0 ≤ k
+    low : (k : ℕ) → k ≤ 0 → get_or fresh_levels k 0 ≤ k
     low zero le = omega arith
     low (suc k) le = absurd (omega arith)
 
-pub print_within : (ts : List Lexeme) → BalancedFrom 0 ts → AreApart 0 ts → length (print ts) ≤ len_with_blanks ts + ((with_lines 0 (lines ts) no_extent).passed + taken (with_lines 0 (lines ts) no_extent))
+pub print_within : (ts : List Lexeme) → BalancedFrom 0 ts → AreApart 0 ts → length (print ts) ≤ len_with_blanks ts + ((with_lines 0 (lines ts) no_extent).passed + room_taken (with_lines 0 (lines ts) no_extent))
 print_within ts p q =
     omega (
       arith,
       printed_excess (gaps ts) ts,
       ap excess (gaps_all ts p),
-      lines_excess (lines ts) 0 fresh None None no_extent (record { sound = fresh_sound; low = omega arith; balanced = balanced_lines ts 0 p; apart = lines_apart ts 0 q }) tt tt,
+      lines_excess (lines ts) 0 fresh_levels None None no_extent (record { sound = fresh_sound; low = omega arith; balanced = balanced_lines ts 0 p; apart = lines_apart ts 0 q }) tt tt,
     )

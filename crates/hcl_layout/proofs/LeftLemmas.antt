@@ -6,7 +6,7 @@ use Rattle.hcl_tokens.specs.Balanced.{max_open}
 use Rattle.hcl_layout.specs.Inner.Left.{token_before}
 use Rattle.std.specs.List.{flat_map}
 use Rattle.hcl_tokens.specs.Lexemes.{Lexeme}
-use Rattle.hcl_layout.specs.Inner.Depths.{BalancedFrom, fresh}
+use Rattle.hcl_layout.specs.Inner.Depths.{BalancedFrom, fresh_levels}
 use Rattle.hcl_layout.specs.Gaps.{clusters, gaps, width}
 use Rattle.hcl_layout.specs.Inner.LineGaps.{gap_of, gaps_from, gaps_in, plain_gap}
 use Rattle.hcl_layout.specs.Lines.{lines}
@@ -18,11 +18,11 @@ use Rattle.hcl_layout.proofs.LineLemmas.{blank, indented, width_next}
 use Rattle.hcl_layout.proofs.StreamLemmas.{gaps_all}
 use Rattle.hcl_layout.proofs.SurveyLemmas.{drop_at, token_at}
 
-pub start_all : (ts : List Lexeme) (d : ℕ) (levels : List ℕ) (column comment : Option ℕ) → BalancedFrom 0 ts → d ≡ 0 → levels ≡ fresh → column ≡ None → comment ≡ None
+pub start_all : (ts : List Lexeme) (d : ℕ) (levels : List ℕ) (column comment : Option ℕ) → BalancedFrom 0 ts → d ≡ 0 → levels ≡ fresh_levels → column ≡ None → comment ≡ None
     → flat_map (λ g. g) (comment_stream d levels column comment (lines ts)) ≡ gaps ts
 start_all ts d levels column comment p e f g h =
     ap₂ (λ (x : ℕ) (y : List ℕ). flat_map (λ g. g) (comment_stream x y column comment (lines ts))) e f
-    ∙ ap₂ (λ (x y : Option ℕ). flat_map (λ g. g) (comment_stream 0 fresh x y (lines ts))) g h ∙ sym (gaps_all ts p)
+    ∙ ap₂ (λ (x y : Option ℕ). flat_map (λ g. g) (comment_stream 0 fresh_levels x y (lines ts))) g h ∙ sym (gaps_all ts p)
 
 -- a line's first token has no token before it in that line
 pub none_after : (ts : List Lexeme) (at n : ℕ) → n ≤ at → token_before ts at n ≡ None

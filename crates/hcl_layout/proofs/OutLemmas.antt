@@ -5,7 +5,7 @@ use Rattle.std.proofs.lemmas.List.{append-nil, length-take-le, take-append-le}
 use Rattle.std.specs.Prelude.{IfErr, OnOk, Result, Ok, Err}
 use Rattle.std.specs.Io.KnownBytes.{Appends}
 use Rattle.hcl_source.specs.declared.device.WriteFault.{WriteFault}
-use Rattle.hcl_layout.specs.Inner.Out.{Out, CutShort, buffered, stretch_text}
+use Rattle.hcl_layout.specs.Inner.Out.{Out, CutShort, buffered_bytes, stretch_text}
 use Rattle.hcl_layout.specs.declared.buffer.Buffer.{Buffer}
 use Rattle.hcl_layout.specs.declared.buffer.Stretch.{Stretch}
 use Rattle.hcl_layout.proofs.FormatLemmas.{after}
@@ -20,17 +20,17 @@ pub Appends-no_extent : (a : Option (List ℕ)) → Appends a a []
 Appends-no_extent None = tt
 Appends-no_extent (Some a) = sym (append-nil a)
 
-held_none : (b : Buffer) → b.len ≡ 0 → buffered b ≡ []
+held_none : (b : Buffer) → b.len ≡ 0 → buffered_bytes b ≡ []
 held_none b e = ap (λ n. take n b.bytes) e
 
 -- the buffer was written
-pub out_sent : (base now new : Option (List ℕ)) (b b' : Buffer) (front : List ℕ) → b'.len ≡ 0 → b'.sent ≡ b.sent + b.len → length (buffered b) ≡ b.len → Appends now new (buffered b)
+pub out_sent : (base now new : Option (List ℕ)) (b b' : Buffer) (front : List ℕ) → b'.len ≡ 0 → b'.sent ≡ b.sent + b.len → length (buffered_bytes b) ≡ b.len → Appends now new (buffered_bytes b)
     → Out base now b front → Out base new b' front
 out_sent base now new b b' front e f long q p = record {
-  sent = p.sent ++ buffered b;
-  whole = p.whole ∙ sym (append-nil (p.sent ++ buffered b)) ∙ ap (λ l. (p.sent ++ buffered b) ++ l) (sym (held_none b' e));
-  count = omega (arith, f, p.count, length-append p.sent (buffered b), long);
-  out = Appends-then base now new p.sent (buffered b) p.out q;
+  sent = p.sent ++ buffered_bytes b;
+  whole = p.whole ∙ sym (append-nil (p.sent ++ buffered_bytes b)) ∙ ap (λ l. (p.sent ++ buffered_bytes b) ++ l) (sym (held_none b' e));
+  count = omega (arith, f, p.count, length-append p.sent (buffered_bytes b), long);
+  out = Appends-then base now new p.sent (buffered_bytes b) p.out q;
 }
 
 -- more bytes were written past the empty buffer
@@ -56,7 +56,7 @@ out_all base now b front e p = subst (Appends base now) (sym (p.whole ∙ ap (λ
 pub out_none : (base : Option (List ℕ)) (b : Buffer) → b.len ≡ 0 → b.sent ≡ 0 → Out base base b []
 out_none base b e f = record { sent = []; whole = sym (held_none b e); count = f; out = Appends-no_extent base }
 
-pub held_length : (b : Buffer) → b.len ≤ length b.bytes → length (buffered b) ≡ b.len
+pub held_length : (b : Buffer) → b.len ≤ length b.bytes → length (buffered_bytes b) ≡ b.len
 held_length b le = length-take-le b.len b.bytes le
 
 pub err_by : (r : Result (Unit {0}) WriteFault) (P Q : WriteFault → Type 0) → ((fault : WriteFault) → P fault → Q fault) → IfErr r P → IfErr r Q

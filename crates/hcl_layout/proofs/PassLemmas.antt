@@ -10,7 +10,7 @@ use Rattle.hcl_layout.specs.Lines.{Line, lines}
 use Rattle.hcl_layout.specs.Inner.Depths.{level_at, next_levels}
 use Rattle.hcl_layout.specs.Inner.Laid.{Laid, bare_line, cell_of, shape, text_of}
 use Rattle.hcl_layout.specs.Inner.LineGaps.{HasAssignSet, LineGaps, gaps_in, plain_of}
-use Rattle.hcl_layout.specs.Inner.Stream.{assign_column, assign_width, assign_widths, next_of, plain}
+use Rattle.hcl_layout.specs.Inner.Stream.{assign_column, assign_width, assign_widths, next_of, first_gaps}
 use Rattle.hcl_layout.specs.Inner.Survey.{IsLine, facts_in}
 use Rattle.hcl_layout.specs.declared.line.Line.{Line as LineRead}
 use Rattle.hcl_layout.specs.declared.lines.LaidLine.{LaidLine}
@@ -31,16 +31,16 @@ abbrev pub with_sign_at : LaidLine → ℕ → ℕ → ℕ → LaidLine
 with_sign_at b n w gap = record { first = b.first; end = b.end; level = b.level; assign = record { number = n; width = w; gap = gap }; comment = b.comment }
 
 module _ (ts : List Lexeme) (d : ℕ) (r : LineRead) (p : IsLine ts r.first d (facts_in r)) (levels : List ℕ) (level : ℕ) (low : level ≤ max_open) (is : level ≡ level_at d r.depth levels) where
-  pub level_gaps : plain_gaps level (text_in ts r) ≡ plain d levels (text_in ts r)
+  pub level_gaps : plain_gaps level (text_in ts r) ≡ first_gaps d levels (text_in ts r)
   level_gaps = ap (λ k. plain_gaps k (text_in ts r)) is ∙ read_level ts d r p levels
 
   bare : shape (bare_line r level) ≡ plain_of level
   bare = rw (not_less r.end) refl
 
   -- a line without a sign
-  pub bare_gaps : (column : Option ℕ) → r.assign ≡ None → gaps_in (shape (bare_line r level)) (text_in ts r) ≡ align assign_cell (plain d levels (text_in ts r)) (text_in ts r) column
+  pub bare_gaps : (column : Option ℕ) → r.assign ≡ None → gaps_in (shape (bare_line r level)) (text_in ts r) ≡ align assign_cell (first_gaps d levels (text_in ts r)) (text_in ts r) column
   bare_gaps column e =
-      ap (λ (s : LineGaps). gaps_in s (text_in ts r)) bare ∙ plain_in level (text_in ts r) ∙ level_gaps ∙ aligned_none (plain d levels (text_in ts r)) (text_in ts r) column (sign_none ts d r p e)
+      ap (λ (s : LineGaps). gaps_in s (text_in ts r)) bare ∙ plain_in level (text_in ts r) ∙ level_gaps ∙ aligned_none (first_gaps d levels (text_in ts r)) (text_in ts r) column (sign_none ts d r p e)
 
   -- a line with a sign
   module _ (n w gap : ℕ) (e : r.assign ≡ Some n) (own : w ≡ width (n - r.first) (plain_gaps level (text_in ts r)) (text_in ts r)) where
@@ -55,15 +55,15 @@ module _ (ts : List Lexeme) (d : ℕ) (r : LineRead) (p : IsLine ts r.first d (f
 
     pub set_width : assign_width d levels (text_in ts r) ≡ Some w
     set_width =
-        ap (option_map (λ i. width i (plain d levels (text_in ts r)) (text_in ts r))) (sign_is ts d r p n e)
+        ap (option_map (λ i. width i (first_gaps d levels (text_in ts r)) (text_in ts r))) (sign_is ts d r p n e)
         ∙ ap (λ (k : ℕ). Some k) (sym (own ∙ ap (λ (g : List ℕ). width (n - r.first) g (text_in ts r)) level_gaps))
 
-    pub set_gaps : (column : ℕ) → gap ≡ column - w + 1 → gaps_in (shape (with_sign_at (bare_line r level) n w gap)) (text_in ts r) ≡ align assign_cell (plain d levels (text_in ts r)) (text_in ts r) (Some column)
+    pub set_gaps : (column : ℕ) → gap ≡ column - w + 1 → gaps_in (shape (with_sign_at (bare_line r level) n w gap)) (text_in ts r) ≡ align assign_cell (first_gaps d levels (text_in ts r)) (text_in ts r) (Some column)
     set_gaps column g =
         ap (λ (s : LineGaps). gaps_in s (text_in ts r)) set
         ∙ assigned_in level (n - r.first) w gap (text_in ts r)
         ∙ ap (λ (gs : List ℕ). slice_set gs (n - r.first) gap) level_gaps
-        ∙ aligned_some (plain d levels (text_in ts r)) (text_in ts r) column (n - r.first) gap (sign_is ts d r p n e)
+        ∙ aligned_some (first_gaps d levels (text_in ts r)) (text_in ts r) column (n - r.first) gap (sign_is ts d r p n e)
         (g ∙ ap (λ k. column - k + 1) (own ∙ ap (λ (gs : List ℕ). width (n - r.first) gs (text_in ts r)) level_gaps))
 
     -- the column that its run has

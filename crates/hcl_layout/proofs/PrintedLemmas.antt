@@ -4,7 +4,7 @@ use Rattle.std.specs.Prelude.{slice_get}
 use Rattle.std.proofs.lemmas.List.{length-replicate}
 use Rattle.hcl_tokens.specs.Lexemes.{Lexeme}
 use Rattle.hcl_layout.specs.Print.{print, printed_text}
-use Rattle.hcl_layout.specs.Inner.Depths.{BalancedFrom, fresh}
+use Rattle.hcl_layout.specs.Inner.Depths.{BalancedFrom, fresh_levels}
 use Rattle.hcl_layout.specs.Inner.Laid.{gaps_after, gaps_on, left_after, left_on, shape}
 use Rattle.hcl_layout.specs.Inner.Left.{gap_before, token_before}
 use Rattle.hcl_layout.specs.Inner.LineGaps.{gaps_from}
@@ -33,5 +33,5 @@ piece_len xs text rest gap e =
     omega (arith, ap length e, length-append (replicate gap 32 ++ text) rest, length-append (replicate gap 32) text, length-replicate {A = ℕ} gap 32)
 
 -- before the first line
-pub left_all : (ts : List Lexeme) (s : Lines) → BalancedFrom 0 ts → s.next ≡ 0 → s.depth ≡ 0 → s.levels ≡ fresh → s.assigns ≡ None → s.comments ≡ None → left_after ts s ≡ print ts
-left_all ts s p n d v a b = rw (n, d, v, a, b) (ap (λ g. printed_text g ts) (start_all ts 0 fresh None None p refl refl refl refl))
+pub left_all : (ts : List Lexeme) (s : Lines) → BalancedFrom 0 ts → s.next ≡ 0 → s.depth ≡ 0 → s.levels ≡ fresh_levels → s.assigns ≡ None → s.comments ≡ None → left_after ts s ≡ print ts
+left_all ts s p n d v a b = rw (n, d, v, a, b) (ap (λ g. printed_text g ts) (start_all ts 0 fresh_levels None None p refl refl refl refl))

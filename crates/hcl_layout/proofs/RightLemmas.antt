@@ -12,7 +12,7 @@ use Rattle.hcl_layout.specs.Inner.Depths.{next_levels}
 use Rattle.hcl_layout.specs.Inner.Laid.{AreRight, Grows, IsRight, Moves, RunsGrow, column_of, ends_wrong, ends_wrong_at, gaps_after, gaps_on, laid_gaps, shape, gaps_after_assign, text_of}
 use Rattle.hcl_layout.specs.Inner.Left.{token_before}
 use Rattle.hcl_layout.specs.Inner.LineGaps.{gaps_from, gaps_in}
-use Rattle.hcl_layout.specs.Inner.Stream.{assign_column, assign_widths, assign_line, comment_column, comment_widths, comment_stream, next_of, plain}
+use Rattle.hcl_layout.specs.Inner.Stream.{assign_column, assign_widths, assign_line, comment_column, comment_widths, comment_stream, next_of, first_gaps}
 use Rattle.hcl_layout.specs.Inner.Survey.{IsLine, facts_in}
 use Rattle.hcl_layout.specs.declared.line.Line.{Line as LineRead}
 use Rattle.hcl_layout.specs.declared.lines.LaidLine.{LaidLine}
@@ -62,7 +62,7 @@ module _ (ts : List Lexeme) (old new : Lines) (r : LineRead) (p : IsLine ts r.fi
   comment_step column =
       let cut = read_cut ts old.depth r p in
       ap (comment_widths old.depth old.levels column) cut
-      ∙ ap₂ (λ (c : Option ℕ) (k : ℕ). option_map (λ i. width i (align assign_cell (plain old.depth old.levels t) t c) t) (running_comment t) ∷ comment_widths k (next_levels old.depth k old.levels) c after)
+      ∙ ap₂ (λ (c : Option ℕ) (k : ℕ). option_map (λ i. width i (align assign_cell (first_gaps old.depth old.levels t) t c) t) (running_comment t) ∷ comment_widths k (next_levels old.depth k old.levels) c after)
       (ap (assign_column old.depth old.levels column) (sym cut)) (sym p.depth)
 
   sign_widths_new : assign_widths new.depth new.levels (lines (drop new.next ts)) ≡ assign_widths r.depth levels' after
@@ -84,9 +84,9 @@ module _ (ts : List Lexeme) (old new : Lines) (r : LineRead) (p : IsLine ts r.fi
       let cut = read_cut ts old.depth r p in
       ap (λ n. flat_map (λ g. g) (comment_stream old.depth old.levels (column_of old.assigns) (column_of old.comments) (lines (drop n ts)))) (sym at)
       ∙ ap (λ ls. flat_map (λ g. g) (comment_stream old.depth old.levels (column_of old.assigns) (column_of old.comments) ls)) cut
-      ∙ ap (λ d. align trailing_comment (align assign_cell (plain old.depth old.levels t) t (assign_column old.depth old.levels (column_of old.assigns) (t ∷ after))) t (comment_column old.depth old.levels (column_of old.assigns) (column_of old.comments) (t ∷ after))
+      ∙ ap (λ d. align trailing_comment (align assign_cell (first_gaps old.depth old.levels t) t (assign_column old.depth old.levels (column_of old.assigns) (t ∷ after))) t (comment_column old.depth old.levels (column_of old.assigns) (column_of old.comments) (t ∷ after))
       ++ flat_map (λ g. g) (comment_stream d (next_levels old.depth d old.levels) (assign_column old.depth old.levels (column_of old.assigns) (t ∷ after)) (comment_column old.depth old.levels (column_of old.assigns) (column_of old.comments) (t ∷ after)) after)) (sym p.depth)
-      ∙ ap₂ (λ (x y : Option ℕ). align trailing_comment (align assign_cell (plain old.depth old.levels t) t x) t y ++ flat_map (λ g. g) (comment_stream r.depth levels' x y after))
+      ∙ ap₂ (λ (x y : Option ℕ). align trailing_comment (align assign_cell (first_gaps old.depth old.levels t) t x) t y ++ flat_map (λ g. g) (comment_stream r.depth levels' x y after))
       (sym (c ∙ ap (assign_column old.depth old.levels (column_of old.assigns)) cut)) (sym (k ∙ ap (comment_column old.depth old.levels (column_of old.assigns) (column_of old.comments)) cut))
       ∙ ap (λ gs. laid_gaps old new t ++ gs) (sym gaps_new)
 
@@ -95,7 +95,7 @@ module _ (ts : List Lexeme) (old new : Lines) (r : LineRead) (p : IsLine ts r.fi
   right_step g wrong right =
       let parts = or_false old.wrong (ends_wrong_at old.assigns (assign_cell t)) (ends_wrong_at old.comments (running_comment t)) (sym g.wrong ∙ wrong) in
       let c = column_of old.assigns in
-      let assigns = run_back old.assigns new.assigns (assign_cell t) (λ i. width i (plain old.depth old.levels t) t) (assign_widths r.depth levels' after) g.assigns parts.1
+      let assigns = run_back old.assigns new.assigns (assign_cell t) (λ i. width i (first_gaps old.depth old.levels t) t) (assign_widths r.depth levels' after) g.assigns parts.1
       (subst (λ (ws : List (Option ℕ)). IsRight new.assigns ws) sign_widths_new right.0) in
       let step = sign_step ts old.depth r p old.levels in
       let column : column_of new.assigns ≡ assign_column old.depth old.levels c (lines (drop r.first ts)) = assigns.column ∙ ap (next_of c) (sym step) in
@@ -103,7 +103,7 @@ module _ (ts : List Lexeme) (old new : Lines) (r : LineRead) (p : IsLine ts r.fi
       let comments = run_back old.comments new.comments (running_comment t) own (comment_widths r.depth levels' (column_of new.assigns) after) g.comments parts.2
       (subst (λ (ws : List (Option ℕ)). IsRight new.comments ws) (comment_widths_new (column_of new.assigns)) right.1) in
       let more : comment_widths old.depth old.levels c (lines (drop r.first ts)) ≡ option_map own (running_comment t) ∷ comment_widths r.depth levels' (column_of new.assigns) after =
-      comment_step c ∙ ap (λ (x : Option ℕ). option_map (λ i. width i (align assign_cell (plain old.depth old.levels t) t x) t) (running_comment t) ∷ comment_widths r.depth levels' x after) (sym column) in
+      comment_step c ∙ ap (λ (x : Option ℕ). option_map (λ i. width i (align assign_cell (first_gaps old.depth old.levels t) t x) t) (running_comment t) ∷ comment_widths r.depth levels' x after) (sym column) in
       let other : column_of new.comments ≡ comment_column old.depth old.levels c (column_of old.comments) (lines (drop r.first ts)) = comments.column ∙ ap (next_of (column_of old.comments)) (sym more) in (
         parts.0,
         (

@@ -8,12 +8,12 @@ use Rattle.hcl_tokens.specs.Lexemes.{Lexeme}
 use Rattle.hcl_tokens.specs.declared.token.Kind.{Kind}
 use Rattle.hcl_layout.specs.Cells.{assign_cell, running_comment, trailing_comment}
 use Rattle.hcl_grammar.specs.Items.{deepen}
-use Rattle.hcl_layout.specs.Inner.Depths.{net_of_kind, BalancedFrom, Steps, depth_after, fresh, level_at, next_levels}
+use Rattle.hcl_layout.specs.Inner.Depths.{net_of_kind, BalancedFrom, Steps, depth_after, fresh_levels, level_at, next_levels}
 use Rattle.hcl_layout.specs.Gaps.{aligned_gaps, aligned_gaps_by, align, gaps, indented_gaps, line_gaps, plain_gaps, zip_with}
 use Rattle.hcl_tokens.specs.Balanced.{is_closer, is_opener, max_open}
 use Rattle.hcl_layout.specs.Levels.{Net, is_above, levels, net_of, no_net, plus}
 use Rattle.hcl_layout.specs.Lines.{Line, ends_line, lines, onto_line}
-use Rattle.hcl_layout.specs.Inner.Stream.{assign_column, assign_widths, assign_stream, comment_column, comment_widths, comment_stream, level_stream, plain}
+use Rattle.hcl_layout.specs.Inner.Stream.{assign_column, assign_widths, assign_stream, comment_column, comment_widths, comment_stream, level_stream, first_gaps}
 use Rattle.hcl_layout.proofs.BalanceLemmas.{disjoint}
 use Rattle.hcl_layout.proofs.ColumnLemmas.{columns_at, before_run}
 use Rattle.hcl_layout.proofs.LevelLemmas.{Counted, Is, above_is, count, deeper_is, filter_higher, filter_lower, groups_then, is_deeper, levels_from, levels_of_state, next_levels_above, next_levels_before, next_levels_length}
@@ -155,10 +155,10 @@ zeros_get zero k = refl
 zeros_get (suc n) zero = refl
 zeros_get (suc n) (suc k) = zeros_get n k
 
-pub leveled_all : (ls : List Line) → BalancedLines 0 ls → indented_gaps ls ≡ level_stream 0 fresh ls
+pub leveled_all : (ls : List Line) → BalancedLines 0 ls → indented_gaps ls ≡ level_stream 0 fresh_levels ls
 leveled_all ls p =
     ap (λ k. zip_with plain_gaps k ls) (levels_of_state [] (map net_of ls))
-    ∙ leveled_is ls 0 no_net [] fresh refl (record { room = length-replicate {A = ℕ} (max_open + 1) 0; below = λ k m r low. sym (zeros_get (max_open + 1) k); all = λ k m r high. refl }) (omega arith) p
+    ∙ leveled_is ls 0 no_net [] fresh_levels refl (record { room = length-replicate {A = ℕ} (max_open + 1) 0; below = λ k m r low. sym (zeros_get (max_open + 1) k); all = λ k m r high. refl }) (omega arith) p
 
 -- ---- runs
 
@@ -166,28 +166,28 @@ assigned_is : (ls : List Line) (d : ℕ) (levels : List ℕ) (column : Option �
     → aligned_gaps_by assign_cell (level_stream d levels ls) ls (columns_at column (assign_widths d levels ls)) ≡ assign_stream d levels column ls
 assigned_is [] d levels column = refl
 assigned_is (l ∷ ls) d levels column =
-    ap (λ r. align assign_cell (plain d levels l) l (assign_column d levels column (l ∷ ls)) ∷ r)
+    ap (λ r. align assign_cell (first_gaps d levels l) l (assign_column d levels column (l ∷ ls)) ∷ r)
     (assigned_is ls (depth_after d l) (next_levels d (depth_after d l) levels) (assign_column d levels column (l ∷ ls)))
 
 commented_is : (ls : List Line) (d : ℕ) (levels : List ℕ) (column comment : Option ℕ)
     → aligned_gaps_by trailing_comment (assign_stream d levels column ls) ls (columns_at comment (comment_widths d levels column ls)) ≡ comment_stream d levels column comment ls
 commented_is [] d levels column comment = refl
 commented_is (l ∷ ls) d levels column comment =
-    ap (λ r. align trailing_comment (align assign_cell (plain d levels l) l (assign_column d levels column (l ∷ ls))) l (comment_column d levels column comment (l ∷ ls)) ∷ r)
+    ap (λ r. align trailing_comment (align assign_cell (first_gaps d levels l) l (assign_column d levels column (l ∷ ls))) l (comment_column d levels column comment (l ∷ ls)) ∷ r)
     (commented_is ls (depth_after d l) (next_levels d (depth_after d l) levels) (assign_column d levels column (l ∷ ls)) (comment_column d levels column comment (l ∷ ls)))
 
-assigned_all : (ls : List Line) → BalancedLines 0 ls → aligned_gaps assign_cell assign_cell (indented_gaps ls) ls ≡ assign_stream 0 fresh None ls
+assigned_all : (ls : List Line) → BalancedLines 0 ls → aligned_gaps assign_cell assign_cell (indented_gaps ls) ls ≡ assign_stream 0 fresh_levels None ls
 assigned_all ls p =
     ap (λ g. aligned_gaps assign_cell assign_cell g ls) (leveled_all ls p)
-    ∙ ap (λ c. aligned_gaps_by assign_cell (level_stream 0 fresh ls) ls c) (before_run (assign_widths 0 fresh ls))
-    ∙ assigned_is ls 0 fresh None
+    ∙ ap (λ c. aligned_gaps_by assign_cell (level_stream 0 fresh_levels ls) ls c) (before_run (assign_widths 0 fresh_levels ls))
+    ∙ assigned_is ls 0 fresh_levels None
 
-commented_all : (ls : List Line) → BalancedLines 0 ls → line_gaps ls ≡ comment_stream 0 fresh None None ls
+commented_all : (ls : List Line) → BalancedLines 0 ls → line_gaps ls ≡ comment_stream 0 fresh_levels None None ls
 commented_all ls p =
     ap (λ g. aligned_gaps trailing_comment running_comment g ls) (assigned_all ls p)
-    ∙ ap (λ c. aligned_gaps_by trailing_comment (assign_stream 0 fresh None ls) ls c) (before_run (comment_widths 0 fresh None ls))
-    ∙ commented_is ls 0 fresh None None
+    ∙ ap (λ c. aligned_gaps_by trailing_comment (assign_stream 0 fresh_levels None ls) ls c) (before_run (comment_widths 0 fresh_levels None ls))
+    ∙ commented_is ls 0 fresh_levels None None
 
 -- the gaps of the text are those of the remaining lines at its beginning
-pub gaps_all : (ts : List Lexeme) → BalancedFrom 0 ts → gaps ts ≡ flat_map (λ g. g) (comment_stream 0 fresh None None (lines ts))
+pub gaps_all : (ts : List Lexeme) → BalancedFrom 0 ts → gaps ts ≡ flat_map (λ g. g) (comment_stream 0 fresh_levels None None (lines ts))
 gaps_all ts p = ap (flat_map (λ g. g)) (commented_all (lines ts) (balanced_lines ts 0 p))

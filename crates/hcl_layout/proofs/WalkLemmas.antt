@@ -7,9 +7,9 @@ use Rattle.hcl_tokens.specs.Lexemes.{Lexeme}
 use Rattle.hcl_layout.specs.Cells.{assign_cell, trailing_comment}
 use Rattle.hcl_layout.specs.Gaps.{plain_gaps}
 use Rattle.hcl_layout.specs.Lines.{Line, lines}
-use Rattle.hcl_layout.specs.Inner.Depths.{BalancedFrom, fresh, level_at, next_levels}
+use Rattle.hcl_layout.specs.Inner.Depths.{BalancedFrom, fresh_levels, level_at, next_levels}
 use Rattle.hcl_layout.specs.Inner.Laid.{IsAt}
-use Rattle.hcl_layout.specs.Inner.Stream.{assign_width, assign_widths, plain}
+use Rattle.hcl_layout.specs.Inner.Stream.{assign_width, assign_widths, first_gaps}
 use Rattle.hcl_layout.specs.Inner.Survey.{IsLine, facts_in}
 use Rattle.hcl_layout.specs.declared.line.Line.{Line as LineRead}
 use Rattle.hcl_layout.specs.declared.lines.Lines.{Lines}
@@ -38,7 +38,7 @@ module _ (ts : List Lexeme) (d : ℕ) (r : LineRead) (p : IsLine ts r.first d (f
   pub read_cut : lines (drop r.first ts) ≡ take (r.end - r.first) (drop r.first ts) ∷ lines (drop r.end ts)
   read_cut = let place : r.first + (r.end - r.first) ≡ r.end = omega (arith, p.some) in p.cut ∙ ap (λ k. text ∷ lines (drop k ts)) place
 
-  pub read_level : (levels : List ℕ) → plain_gaps (level_at d r.depth levels) (take (r.end - r.first) (drop r.first ts)) ≡ plain d levels (take (r.end - r.first) (drop r.first ts))
+  pub read_level : (levels : List ℕ) → plain_gaps (level_at d r.depth levels) (take (r.end - r.first) (drop r.first ts)) ≡ first_gaps d levels (take (r.end - r.first) (drop r.first ts))
   read_level levels = ap (λ k. plain_gaps (level_at d k levels) text) p.depth
 
   -- its sign
@@ -74,7 +74,7 @@ running_some true x n e = e
 running_some false x n e = cc
 
 -- before the first line
-pub start_at : (ts : List Lexeme) (s : Lines) → BalancedFrom 0 ts → length ts ≤ 2 ^ 22 → s.next ≡ 0 → s.depth ≡ 0 → s.levels ≡ fresh → s.assigns ≡ None → s.comments ≡ None → IsAt ts s
+pub start_at : (ts : List Lexeme) (s : Lines) → BalancedFrom 0 ts → length ts ≤ 2 ^ 22 → s.next ≡ 0 → s.depth ≡ 0 → s.levels ≡ fresh_levels → s.assigns ≡ None → s.comments ≡ None → IsAt ts s
 start_at ts s p few n d v a b = record {
   come = record {
     stands = record { balanced = rw (n, d) p; low = rw d (omega arith); sound = rw (d, v) (length-replicate {A = ℕ} (max_open + 1) 0, λ k le. omega (arith, zeros_get (max_open + 1) k)) };

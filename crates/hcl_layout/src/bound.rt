@@ -57,7 +57,7 @@ fn cells_in(line: Line) -> u64
     ensures { result ≡ cells_of (facts_in line).assign (facts_in line).running }
 {
     let assigns = u64::from(line.assign.is_some());
-    if line.running().is_some() {
+    if line.run_comment().is_some() {
         return assigns + 2;
     }
     assigns
@@ -82,7 +82,7 @@ impl Extent {
             };
         }
         let assign = room_before(tokens, line, line.assign);
-        let comment = room_before(tokens, line, line.running());
+        let comment = room_before(tokens, line, line.run_comment());
         Extent {
             passed: self.passed + indent,
             cells: self.cells + cells,

@@ -27,7 +27,7 @@ pub struct Line {
 
 impl Line {
     /// The comment, if it is part of a run.
-    pub fn running(self) -> Option<usize>
+    pub fn run_comment(self) -> Option<usize>
         ensures { result ≡ (if not self.runs then None else self.comment) }
     {
         if self.runs {

@@ -459,7 +459,7 @@ impl Lines {
         let mut greatest = 0;
         while ahead.next < tokens.len() {
             let line = line_at(tokens, ahead.next, ahead.depth);
-            let Some(number) = line.running() else {
+            let Some(number) = line.run_comment() else {
                 return greatest;
             };
             let laid = ahead.pass_assign(tokens, line);

@@ -2,7 +2,7 @@
 ghost use Rattle.std.specs.Prelude.{◌≡◌, ◌<◌, ◌≤◌, ◌+◌, ◌-◌, ◌^◌, ◌++◌, IsTrue, false, length, take, drop, replicate, is_err, IfErr, IfSome, OnOk};
 ghost use Rattle.std.specs.Io.KnownBytes.{Appends};
 ghost use Rattle.hcl_layout.specs.Inner.Left.{bytes_of};
-ghost use Rattle.hcl_layout.specs.Inner.Out.{BeginsWith, Fails, FailsBefore, Finishes, Keeps, Lies, Pushes, buffered, passed, stretch_len, stretch_text};
+ghost use Rattle.hcl_layout.specs.Inner.Out.{BeginsWith, Fails, FailsBefore, Finishes, Keeps, Lies, Pushes, buffered_bytes, passed_count, stretch_len, stretch_text};
 ghost use Rattle.hcl_layout.specs.Inner.Simple.{IsFrom};
 ghost use Rattle.hcl_layout.specs.Print.{print};
 
@@ -53,7 +53,7 @@ impl Buffer {
     /// Appends bytes for which there is room.
     fn hold(&mut self, text: &[u8])
         requires { self.old.len + length text.now ≤ 8192 }
-        ensures buffered { buffered self.new ≡ buffered self.old ++ text.now }
+        ensures buffered { buffered self.new ≡ buffered_bytes self.old ++ text.now }
         ensures len { self.new.len ≡ self.old.len + length text.now }
         ensures sent { self.new.sent ≡ self.old.sent }
     {
@@ -65,7 +65,7 @@ impl Buffer {
     /// Appends a number of spaces, for which there is room.
     fn hold_blanks(&mut self, count: usize)
         requires { self.old.len + count ≤ 8192 }
-        ensures buffered { buffered self.new ≡ buffered self.old ++ replicate count 32 }
+        ensures buffered { buffered self.new ≡ buffered_bytes self.old ++ replicate count 32 }
         ensures len { self.new.len ≡ self.old.len + count }
         ensures sent { self.new.sent ≡ self.old.sent }
     {
@@ -78,7 +78,7 @@ impl Buffer {
     fn hold_few_blanks(&mut self, count: usize)
         requires few { count ≤ 16 }
         requires room { self.old.len + 16 ≤ 8192 }
-        ensures buffered { buffered self.new ≡ buffered self.old ++ replicate count 32 }
+        ensures buffered { buffered self.new ≡ buffered_bytes self.old ++ replicate count 32 }
         ensures len { self.new.len ≡ self.old.len + count }
         ensures sent { self.new.sent ≡ self.old.sent }
     {
@@ -91,7 +91,7 @@ impl Buffer {
     fn hold_front(&mut self, block: &[u8; 32], count: usize)
         requires few { count ≤ 32 }
         requires room { self.old.len + 32 ≤ 8192 }
-        ensures buffered { buffered self.new ≡ buffered self.old ++ take count block.now }
+        ensures buffered { buffered self.new ≡ buffered_bytes self.old ++ take count block.now }
         ensures len { self.new.len ≡ self.old.len + count }
         ensures sent { self.new.sent ≡ self.old.sent }
     {
@@ -142,7 +142,7 @@ fn send_past<W: ByteSink>(to: &mut W, buffer: &mut Buffer, text: &[u8]) -> Resul
     ensures err { IfErr result (Fails (W.taken to.old) (W.taken to.new) buffer.old text.now) }
     ensures failed { W.failed to.new ≡ is_err result }
     ensures flushes { W.flushes to.new ≡ W.flushes to.old }
-    ensures count { OnOk result (passed buffer.new ≡ passed buffer.old + length text.now) }
+    ensures count { OnOk result (passed_count buffer.new ≡ passed_count buffer.old + length text.now) }
 {
     if let Err(fault) = write_fully(to, text) {
         return Err(WriteFault {
@@ -163,7 +163,7 @@ fn push<W: ByteSink>(to: &mut W, buffer: &mut Buffer, text: &[u8]) -> Result<(),
     ensures err { IfErr result (Fails (W.taken to.old) (W.taken to.new) buffer.old text.now) }
     ensures failed { W.failed to.new ≡ is_err result }
     ensures flushes { W.flushes to.new ≡ W.flushes to.old }
-    ensures count { OnOk result (passed buffer.new ≡ passed buffer.old + length text.now) }
+    ensures count { OnOk result (passed_count buffer.new ≡ passed_count buffer.old + length text.now) }
 {
     if text.len() <= 8192 - buffer.len {
         buffer.hold(text);
@@ -189,7 +189,7 @@ fn push_blanks<W: ByteSink>(to: &mut W, buffer: &mut Buffer, gap: u64) -> Result
         (Fails (W.taken to.old) (W.taken to.new) buffer.old (replicate gap 32)) }
     ensures failed { W.failed to.new ≡ is_err result }
     ensures flushes { W.flushes to.new ≡ W.flushes to.old }
-    ensures count { OnOk result (passed buffer.new ≡ passed buffer.old + gap) }
+    ensures count { OnOk result (passed_count buffer.new ≡ passed_count buffer.old + gap) }
 {
     // a single blank is appended quicker by itself
     if gap > 1 && gap <= 8192 - buffer.len as u64 {
@@ -228,7 +228,7 @@ fn push_text<W: ByteSink>(
         (Fails (W.taken to.old) (W.taken to.new) buffer.old (replicate gap 32 ++ text.now)) }
     ensures failed { W.failed to.new ≡ is_err result }
     ensures flushes { W.flushes to.new ≡ W.flushes to.old }
-    ensures count { OnOk result (passed buffer.new ≡ passed buffer.old + gap + length text.now) }
+    ensures count { OnOk result (passed_count buffer.new ≡ passed_count buffer.old + gap + length text.now) }
 {
     if let Err(fault) = push_blanks(to, buffer, gap) {
         return Err(fault);
@@ -255,7 +255,7 @@ fn push_stretch<W: ByteSink>(
         (Fails (W.taken to.old) (W.taken to.new) buffer.old (stretch_text source.now stretch)) }
     ensures failed { W.failed to.new ≡ is_err result }
     ensures flushes { W.flushes to.new ≡ W.flushes to.old }
-    ensures count { OnOk result (passed buffer.new ≡ passed buffer.old + stretch_len stretch) }
+    ensures count { OnOk result (passed_count buffer.new ≡ passed_count buffer.old + stretch_len stretch) }
 {
     let (start, end) = (stretch.start, stretch.end);
     if !buffer.has_room(stretch) {

@@ -6,7 +6,7 @@ use Rattle.hcl_tokens.specs.Lexemes.{Opener, Quote, Heredoc, Sequence, Brace, Br
 use Rattle.hcl_tokens.specs.Spelling.{Context, Template, Expression, context, context_in}
 use Rattle.hcl_tokens.specs.Kinds.{is}
 use Rattle.hcl_tokens.specs.Scans.{Hidden, offsets_of, unclosed_opener, must_be_closed}
-use Rattle.hcl_scan.specs.Inner.Openings.{opener_of, openers_of, offsets_in, hidden_of, hidden_under, popped_groups, popped_if, closed, closes_on, top_closes, opens_or_closes, opened_by}
+use Rattle.hcl_scan.specs.Inner.Openings.{opener_of, openers_of, offsets_in, hidden_of, hidden_under, popped_groups, popped_if, without_closed, closes_on, top_closes, opens_or_closes, opened_by}
 use Rattle.hcl_scan.specs.Inner.Scanners.{fits_in, AreEndsBy, IsStack}
 use Rattle.hcl_scan.specs.declared.stack.Opener as kept
 use Rattle.hcl_scan.specs.declared.stack.Opener.TheVariants as by
@@ -257,7 +257,7 @@ module _ (stack : List Opened) where
       let n : length stack - length (opener ∷ openers_of stack) ≡ 0 = omega (arith, length-map stack (λ (o : Opened). opener_of o.by)) in
       ap (λ k. drop k stack) (sym n)
 
-  pub dropped_so : (kind : Kind) → dropped kind stack ≡ closed kind stack
+  pub dropped_so : (kind : Kind) → dropped kind stack ≡ without_closed kind stack
   dropped_so ParenClose = leaves_open (dropped ParenClose stack) (open_after ParenClose (openers_of stack)) (back_if Paren stack) (dropped_is ParenClose stack refl (λ k. cc))
   dropped_so BracketClose = leaves_open (dropped BracketClose stack) (open_after BracketClose (openers_of stack)) (back_if Bracket stack) (dropped_is BracketClose stack refl (λ k. cc))
   dropped_so BraceClose =
@@ -278,7 +278,7 @@ module _ (stack : List Opened) where
   dropped_so _ = leaves_open stack (openers_of stack) (back_none stack) refl
 
 -- a token that neither opens nor closes leaves everything open
-pub stays_so : (kind : Kind) (stack : List Opened) → opens_or_closes kind ≡ false → stack ≡ closed kind stack
+pub stays_so : (kind : Kind) (stack : List Opened) → opens_or_closes kind ≡ false → stack ≡ without_closed kind stack
 stays_so kind stack h = by kind h ∙ dropped_so stack kind
   where
     by : (kind : Kind) → opens_or_closes kind ≡ false → stack ≡ dropped kind stack
@@ -304,7 +304,7 @@ pub changes_no_dot : (kind : Kind) → opens_or_closes kind ≡ true → false �
 changes_no_dot Dot h = absurd (cc)
 changes_no_dot _ h = refl
 
-pub closed_is : (kind : Kind) (stack : List Opened) → opened_by kind ≡ None → kind ≢ HeredocOpen → openers_of (closed kind stack) ≡ open_after kind (openers_of stack)
+pub closed_is : (kind : Kind) (stack : List Opened) → opened_by kind ≡ None → kind ≢ HeredocOpen → openers_of (without_closed kind stack) ≡ open_after kind (openers_of stack)
 closed_is kind stack none no_open = ap openers_of (sym (dropped_so stack kind)) ∙ dropped_is kind stack none no_open
 
 sequence_plain : (opens : List Opener) → tops_with (same_opener Sequence) opens ≡ true → tops_with (same_opener Heredoc) opens ≡ false
@@ -346,7 +346,7 @@ dropped_drops QuoteClose stack no_close h = drops_top stack (quote_plain (opener
 dropped_drops HeredocClose stack no_close h = absurd (no_close refl)
 dropped_drops _ stack no_close h = drops_none stack
 
-pub closed_drops : (kind : Kind) (stack : List Opened) → kind ≢ HeredocClose → Closable kind (openers_of stack) → Drops stack (closed kind stack)
+pub closed_drops : (kind : Kind) (stack : List Opened) → kind ≢ HeredocClose → Closable kind (openers_of stack) → Drops stack (without_closed kind stack)
 closed_drops kind stack no_close h = subst (λ (z : List Opened). Drops stack z) (dropped_so stack kind) (dropped_drops kind stack no_close h)
 
 -- offsets match the open constructs

@@ -14,7 +14,7 @@ use Rattle.hcl_tokens.specs.Kinds.{is}
 use Rattle.hcl_tokens.specs.Scans.{State, Hidden, Leaves, IsLongest, gap_len, ahead, offsets_of, unclosed_opener, must_be_closed, has_gaps_in, HasNone}
 use Rattle.hcl_tokens.specs.Faults.{no_token, at_end, no_token_fault, fault_offset, unclosed_offset, end_fault}
 use Rattle.hcl_scan.specs.Inner.Found.{Finds}
-use Rattle.hcl_scan.specs.Inner.Openings.{opener_of, openers_of, offsets_in, hidden_of, quoted_in, template_top, option_and, innermost_unclosed, opened_by, opened_on, closed}
+use Rattle.hcl_scan.specs.Inner.Openings.{opener_of, openers_of, offsets_in, hidden_of, quoted_in, template_top, option_and, innermost_unclosed, opened_by, opened_on, without_closed}
 use Rattle.hcl_tokens.specs.Entries.{IsEntry}
 use Rattle.hcl_scan.specs.Inner.Scanners.{state_of, IsStack, IsSound, IsStart, IsNext, IsStopped, Moves}
 use Rattle.hcl_tokens.specs.declared.token.TokenEntry.{TokenEntry}
@@ -71,7 +71,7 @@ module _ (s : Scanner) (e : TokenEntry) (sound : IsSound s) (this : IsNext s e) 
   differ : true ≡ false → ⊥
   differ h = cc
 
-  pub reads_plain : (stack : List Opened) (dot : Bool) → dot ≡ is Dot e.kind → opened_by e.kind ≡ None → is HeredocOpen e.kind ≡ false → stack ≡ closed e.kind s.stack → Moves s e (record { text = s.text; at = e.end; end = s.end; after_dot = dot; stack = stack })
+  pub reads_plain : (stack : List Opened) (dot : Bool) → dot ≡ is Dot e.kind → opened_by e.kind ≡ None → is HeredocOpen e.kind ≡ false → stack ≡ without_closed e.kind s.stack → Moves s e (record { text = s.text; at = e.end; end = s.end; after_dot = dot; stack = stack })
   reads_plain stack dot dot_is plain no_heredoc stack_is =
       let kind_is : e.kind ≢ HeredocOpen = λ k. absurd (differ (sym (ap (is HeredocOpen) k) ∙ no_heredoc)) in
       let spelled = this.longest.spelled in
@@ -79,7 +79,7 @@ module _ (s : Scanner) (e : TokenEntry) (sound : IsSound s) (this : IsNext s e) 
       let d = closed_drops e.kind s.stack closes_none (closable (openers_of s.stack) s.after_dot (slice_range s.text.now e.start e.end) (slice_range s.text.now e.end s.end) e.kind spelled) in
       let opens_are = closed_is e.kind s.stack plain kind_is in
       subst (λ (z : List Opened). Moves s e (record { text = s.text; at = e.end; end = s.end; after_dot = dot; stack = z })) (sym stack_is)
-      (moves (closed e.kind s.stack) dot dot_is kind_is opens_are (drops_offsets e.start s.stack (closed e.kind s.stack) d) (d.hidden s.text.now s.end) (d.stack s.text.now s.end sound.stack) (omega (arith, d.less, sound.depth)))
+      (moves (without_closed e.kind s.stack) dot dot_is kind_is opens_are (drops_offsets e.start s.stack (without_closed e.kind s.stack) d) (d.hidden s.text.now s.end) (d.stack s.text.now s.end sound.stack) (omega (arith, d.less, sound.depth)))
 
   opener_no_dot : (kind : Kind) (opener : kept.Opener) → opened_by kind ≡ Some opener → (false ≡ is Dot kind) × (kind ≢ HeredocOpen)
   opener_no_dot Dot opener h = absurd (cc)

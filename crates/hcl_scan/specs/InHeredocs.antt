@@ -18,12 +18,12 @@ pub record SameInside (other : List ℕ) (s twin : State) : Type 0 where
   pub hidden : twin.hidden ≡ after_last other s.hidden
 
 -- the token at another offset
-abbrev pub starting : ℕ → Lexeme → Lexeme
-starting at t =
+abbrev pub at_offset : ℕ → Lexeme → Lexeme
+at_offset at t =
     record { kind = t.kind; text = t.text; start = at; inside_heredoc = t.inside_heredoc }
 
 -- the twin reads the token that led to `next`, and is where `next` is
 pub record ReadsToo (other : List ℕ) (twin : State) (t : Lexeme) (next : State) : Type 0 where
   pub state : State
-  pub read : Next twin (starting twin.at t) state
+  pub read : Next twin (at_offset twin.at t) state
   pub same : SameInside other next state

@@ -18,7 +18,7 @@ ghost use Rattle.hcl_tokens.specs.Scans.{skip_blanks, at_line_end, closer_len, I
 ghost use Rattle.hcl_scan.specs.Inner.Lanes.{MarksStanding, NoneStands, IsAfterOthers};
 ghost use Rattle.hcl_scan.specs.Inner.MarkerPlaces.{IsPlace, IsBlankFront, EndsLine, IsNextLine};
 
-use crate::lanes::{PLACES, likely_places, lowest, without};
+use crate::lanes::{PLACES, likely_places, lowest_bit, clear_bit};
 use crate::text::{count_blanks, is_blank, skip_blanks};
 use memchr::memchr;
 
@@ -173,11 +173,11 @@ fn from_first_in_doubt(text: &[u8], marker: &[u8], at: usize, likely: u64) -> u6
 {
     let mut left = likely;
     while left != 0 {
-        let lane = lowest(left);
+        let lane = lowest_bit(left);
         if !is_ruled_out(text, marker, at + lane + 1) {
             return left;
         }
-        left = without(left, lane);
+        left = clear_bit(left, lane);
     }
     left
 }
@@ -207,12 +207,12 @@ fn first_standing(text: &[u8], marker: &[u8], at: usize, marked: u64) -> Option<
 {
     let mut left = marked;
     while left != 0 {
-        let lane = lowest(left);
+        let lane = lowest_bit(left);
         let place = at + lane + 1;
         if stands_at(text, marker, place) {
             return Some(place);
         }
-        left = without(left, lane);
+        left = clear_bit(left, lane);
     }
     None
 }

@@ -66,7 +66,7 @@ pub(crate) fn ordinary_run(seen: &[u8]) -> usize
 
 /// The lowest bit that is set.
 #[inline(always)]
-pub(crate) fn lowest(mask: u64) -> usize
+pub(crate) fn lowest_bit(mask: u64) -> usize
     requires { mask ≢ 0 }
     ensures set { bit_at mask result ≡ 1 }
     ensures below { (k : ℕ) → k < result → bit_at mask k ≡ 0 }
@@ -77,7 +77,7 @@ pub(crate) fn lowest(mask: u64) -> usize
 
 /// The mask without one of its bits.
 #[inline(always)]
-pub(crate) fn without(mask: u64, bit: usize) -> u64
+pub(crate) fn clear_bit(mask: u64, bit: usize) -> u64
     requires bound { bit < 64 }
     requires set { bit_at mask bit ≡ 1 }
     ensures smaller { result < mask }

@@ -62,7 +62,7 @@ pub fn context_of_list()
 {}
 
 /// After each front of a text's list of tokens at most `max_open` constructs are open.
-pub fn bounded()
+pub fn open_constructs_are_bounded()
     ensures { (text : List ℕ) (front back : List Lexeme) → Scans text (front ++ back)
         → length (open_after_all [] front) ≤ max_open }
 {}

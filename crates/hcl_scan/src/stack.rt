@@ -4,7 +4,7 @@ ghost use Rattle.std.specs.Prelude.{◌≡◌, ◌==◌, ◌<◌, ◌≤◌, ◌
 ghost use Rattle.hcl_tokens.specs.Lexemes.{max_open, same_opener};
 ghost use Rattle.hcl_tokens.specs.Spelling.{context, context_in};
 ghost use Rattle.hcl_tokens.specs.Scans.{must_be_closed};
-ghost use Rattle.hcl_scan.specs.Inner.Openings.{opener_of, openers_of, is_group_by, popped_groups, popped_if, top_closes, opened_on, closed, quoted_in, template_top, innermost_unclosed};
+ghost use Rattle.hcl_scan.specs.Inner.Openings.{opener_of, openers_of, is_group_by, popped_groups, popped_if, top_closes, opened_on, without_closed, quoted_in, template_top, innermost_unclosed};
 ghost use Rattle.hcl_scan.specs.Inner.Readings.{closes_in, is_text, template_in, group_reading, reading_on, opener_in, opened_of};
 ghost use Rattle.hcl_scan.specs.declared.stack.Frame.{Frame};
 
@@ -355,7 +355,7 @@ impl<'k> Stack<'k> {
 
     /// Drops the constructs that a token of this kind closes.
     pub fn close(&mut self, kind: Kind)
-        ensures { self.new ≡ closed kind self.old }
+        ensures { self.new ≡ without_closed kind self.old }
     {
         match kind {
             Kind::ParenClose => self.pop_if(Opener::Paren),

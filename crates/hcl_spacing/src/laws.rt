@@ -18,7 +18,7 @@ pub fn stays_apart()
 {}
 
 /// Nothing is added before a newline, inside a heredoc, or where a template continues.
-pub fn kept()
+pub fn nothing_is_added()
     ensures newline { (before : Option Lexeme) (u t : Lexeme) → is Newline t.kind ≡ true
         → has_blank before u t ≡ false }
     ensures heredoc { (before : Option Lexeme) (u t : Lexeme) → t.inside_heredoc ≡ true

@@ -5,7 +5,7 @@
 //! each kind, and a pair is looked up without a branch.
 ghost use Rattle.std.specs.Prelude.{◌≡◌, Option};
 ghost use Rattle.hcl_tokens.specs.declared.token.Kind.{Kind};
-ghost use Rattle.hcl_spacing.specs.Inner.KindPairs.{has, pair_space, told};
+ghost use Rattle.hcl_spacing.specs.Inner.KindPairs.{has, pair_space, row_answer};
 
 use hcl_tokens::Kind;
 
@@ -72,7 +72,7 @@ fn decided_row(blank: u64) -> Row
 /// The row of a kind.
 #[inline(always)]
 fn row_of(left: Kind) -> Row
-    ensures { (right : Kind) → told result right ≡ pair_space left right }
+    ensures { (right : Kind) → row_answer result right ≡ pair_space left right }
 {
     match left {
         // "Not", "Minus": a sign hugs its operand. The token before shows a sign, and a `!` may not join a `=`

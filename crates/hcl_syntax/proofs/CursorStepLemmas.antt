@@ -9,7 +9,7 @@ use Rattle.hcl_grammar.specs.declared.refusal.Refusal.TheVariants.{UnexpectedTok
 use Rattle.hcl_grammar.specs.declared.expected.Newlines.{Newlines}
 use Rattle.hcl_grammar.specs.declared.expected.Newlines.TheVariants.{Seen, Dropped}
 use Rattle.hcl_grammar.specs.Classes.{drops}
-use Rattle.hcl_syntax.specs.Inner.Cursors.{shown, first, after_first, Looks}
+use Rattle.hcl_syntax.specs.Inner.Cursors.{past_newlines, first, after_first, Looks}
 use Rattle.hcl_syntax.proofs.LookaheadLemmas.{shown-shown}
 use Rattle.hcl_grammar.specs.declared.class.Word.{Word}
 use Rattle.hcl_grammar.specs.Grammar.{Symbol, Marked, ◌at◌, Action, ◌then◌, none, nothing, reads, opens, closes, row, ends, the, fits, expr, arg_next, tuple_next, tuple_if, object, object_item, object_next, object_if, group, separator, names, rest, eol, file, body, directive, inside, args, tuple, tuple_item, index, section_directive, labels, row_of}
@@ -26,26 +26,26 @@ use Rattle.hcl_grammar.specs.declared.expected.Terminal.{Terminal}
 pub run-row : (count : ℕ) (s : Symbol) (m : Newlines) (ss : List Marked) (t : Lookahead) (ts : List Lookahead) → drops m t.class ≡ false →
     run count (s at m ∷ ss) (t ∷ ts) ≡ next (row_effect count (row s m t) ss (effect count ss t) t) (λ o rest. run o rest ts)
 unfolding run
-run-row count s m ss t ts shown = ap (λ b. next (cond b (on count (s at m ∷ ss)) (row_effect count (row s m t) ss (effect count ss t) t)) (λ o rest. run o rest ts)) shown
+run-row count s m ss t ts past_newlines = ap (λ b. next (cond b (on count (s at m ∷ ss)) (row_effect count (row s m t) ss (effect count ss t) t)) (λ o rest. run o rest ts)) past_newlines
 
 -- a symbol that drops newlines skips them
-shown-by : (count : ℕ) (s : Symbol) (m : Newlines) (ss : List Marked) (t : Lookahead) (ts : List Lookahead) (b : Bool) → drops m t.class ≡ b →
-    run count (s at m ∷ ss) ts ≡ run count (s at m ∷ ss) (shown m ts) →
-    run count (s at m ∷ ss) (t ∷ ts) ≡ run count (s at m ∷ ss) (cond b (shown m ts) (t ∷ ts))
+past_newlines-by : (count : ℕ) (s : Symbol) (m : Newlines) (ss : List Marked) (t : Lookahead) (ts : List Lookahead) (b : Bool) → drops m t.class ≡ b →
+    run count (s at m ∷ ss) ts ≡ run count (s at m ∷ ss) (past_newlines m ts) →
+    run count (s at m ∷ ss) (t ∷ ts) ≡ run count (s at m ∷ ss) (cond b (past_newlines m ts) (t ∷ ts))
 unfolding run
-shown-by count s m ss t ts true e h = ap (λ b. next (cond b (on count (s at m ∷ ss)) (row_effect count (row s m t) ss (effect count ss t) t)) (λ o rest. run o rest ts)) e ∙ h
-shown-by count s m ss t ts false e h = refl
+past_newlines-by count s m ss t ts true e h = ap (λ b. next (cond b (on count (s at m ∷ ss)) (row_effect count (row s m t) ss (effect count ss t) t)) (λ o rest. run o rest ts)) e ∙ h
+past_newlines-by count s m ss t ts false e h = refl
 
-pub run-shown : (count : ℕ) (s : Symbol) (m : Newlines) (ss : List Marked) (ts : List Lookahead) → run count (s at m ∷ ss) ts ≡ run count (s at m ∷ ss) (shown m ts)
-run-shown count s m ss [] = refl
-run-shown count s m ss (t ∷ ts) = shown-by count s m ss t ts (drops m t.class) refl (run-shown count s m ss ts)
+pub run-past_newlines : (count : ℕ) (s : Symbol) (m : Newlines) (ss : List Marked) (ts : List Lookahead) → run count (s at m ∷ ss) ts ≡ run count (s at m ∷ ss) (past_newlines m ts)
+run-past_newlines count s m ss [] = refl
+run-past_newlines count s m ss (t ∷ ts) = past_newlines-by count s m ss t ts (drops m t.class) refl (run-past_newlines count s m ss ts)
 
 -- the first symbol isn't dropped
-kept-by : (m : Newlines) (u : Lookahead) (us : List Lookahead) (t : Lookahead) (b : Bool) → drops m u.class ≡ b → (Some t ≡ first (shown m us) → drops m t.class ≡ false) → Some t ≡ first (cond b (shown m us) (u ∷ us)) → drops m t.class ≡ false
+kept-by : (m : Newlines) (u : Lookahead) (us : List Lookahead) (t : Lookahead) (b : Bool) → drops m u.class ≡ b → (Some t ≡ first (past_newlines m us) → drops m t.class ≡ false) → Some t ≡ first (cond b (past_newlines m us) (u ∷ us)) → drops m t.class ≡ false
 kept-by m u us t true e h f = h f
 kept-by m u us t false e h f = let same : t ≡ u = cc in ap (λ x. drops m x.class) same ∙ e
 
-pub kept : (m : Newlines) (ts : List Lookahead) (t : Lookahead) → Some t ≡ first (shown m ts) → drops m t.class ≡ false
+pub kept : (m : Newlines) (ts : List Lookahead) (t : Lookahead) → Some t ≡ first (past_newlines m ts) → drops m t.class ≡ false
 kept m [] t e = cc
 kept m (u ∷ us) t e = kept-by m u us t (drops m u.class) refl (kept m us t) e
 
@@ -53,14 +53,14 @@ list-first : (ts : List Lookahead) (t : Lookahead) → Some t ≡ first ts → t
 list-first [] t e = cc
 list-first (u ∷ us) t e = cc
 
-pub looks : (m : Newlines) (old new left : List Lookahead) (t : Lookahead) → new ≡ shown m old → Some t ≡ first new → left ≡ after_first new → Looks m old t left
+pub looks : (m : Newlines) (old new left : List Lookahead) (t : Lookahead) → new ≡ past_newlines m old → Some t ≡ first new → left ≡ after_first new → Looks m old t left
 looks m old new left t shows found bumped =
-    let f : Some t ≡ first (shown m old) = cc in
-    record { is = list-first (shown m old) t f ∙ (cc); kept = kept m old t f }
+    let f : Some t ≡ first (past_newlines m old) = cc in
+    record { is = list-first (past_newlines m old) t f ∙ (cc); kept = kept m old t f }
 
 run-looks : (count : ℕ) (s : Symbol) (m : Newlines) (ss : List Marked) {old : List Lookahead} {t : Lookahead} {ts : List Lookahead} → Looks m old t ts →
     run count (s at m ∷ ss) old ≡ next (row_effect count (row s m t) ss (effect count ss t) t) (λ o rest. run o rest ts)
-run-looks count s m ss looks = run-shown count s m ss _ ∙ ap (λ l. run count (s at m ∷ ss) l) looks.is ∙ run-row count s m ss _ _ looks.kept
+run-looks count s m ss looks = run-past_newlines count s m ss _ ∙ ap (λ l. run count (s at m ∷ ss) l) looks.is ∙ run-row count s m ss _ _ looks.kept
 
 -- The row of the first symbol reads the token.
 pub reading : {A : Type 0} {count : ℕ} {s : Symbol} {m : Newlines} {xs ys : List Marked} {old left new : List Lookahead} {t : Lookahead} {r : Result A Refusal} →
@@ -73,7 +73,7 @@ unfolding run
 run-same count ss t ts = refl
 
 pub vanishing : {A : Type 0} {a : A} {count : ℕ} {s : Symbol} {m : Newlines} {old left new : List Lookahead} {t : Lookahead} →
-    Looks m old t left → row s m t ≡ nothing → new ≡ shown m old → Advances count (s at m ∷ []) old (Ok a) [] new
+    Looks m old t left → row s m t ≡ nothing → new ≡ past_newlines m old → Advances count (s at m ∷ []) old (Ok a) [] new
 vanishing {count = count} {s = s} {m = m} {left = left} {t = t} l e shows = record { same = λ after. run-looks count s m after l ∙ ap (λ r. next (row_effect count r after (effect count after t) t) (λ o rest. run o rest left)) e ∙ run-same count after t left ∙ ap (λ ts. run count after ts) (sym l.is ∙ sym shows) }
 
 -- There is no row.
@@ -91,12 +91,12 @@ nothing-left [] l e f = e
 nothing-left (t ∷ ts) l e f = cc
 
 pub refusing-end : {A : Type 0} {count : ℕ} {s : Symbol} {m : Newlines} {ys : List Marked} {old new : List Lookahead} →
-    new ≡ shown m old → None ≡ first new → ends s ≡ false → Advances {A = A} count (s at m ∷ []) old (Err UnexpectedEnd) ys new
-refusing-end {count = count} {s = s} {m = m} {old = old} {new = new} look found e = let shows : [] ≡ shown m old = nothing-left new _ look found in record { same = λ after. run-shown count s m after _ ∙ ap (λ l. run count (s at m ∷ after) l) (sym shows) ∙ run-end count (s at m ∷ after) ∙ ap (λ b. cond b (ending after) (Some UnexpectedEnd)) e }
+    new ≡ past_newlines m old → None ≡ first new → ends s ≡ false → Advances {A = A} count (s at m ∷ []) old (Err UnexpectedEnd) ys new
+refusing-end {count = count} {s = s} {m = m} {old = old} {new = new} look found e = let shows : [] ≡ past_newlines m old = nothing-left new _ look found in record { same = λ after. run-past_newlines count s m after _ ∙ ap (λ l. run count (s at m ∷ after) l) (sym shows) ∙ run-end count (s at m ∷ after) ∙ ap (λ b. cond b (ending after) (Some UnexpectedEnd)) e }
 
 pub vanishing-end : {A : Type 0} {a : A} {count : ℕ} {s : Symbol} {m : Newlines} {old new : List Lookahead} →
-    new ≡ shown m old → None ≡ first new → ends s ≡ true → Advances count (s at m ∷ []) old (Ok a) [] new
-vanishing-end {count = count} {s = s} {m = m} {old = old} {new = new} look found e = let shows : [] ≡ shown m old = nothing-left new _ look found in record { same = λ after. run-shown count s m after _ ∙ ap (λ l. run count (s at m ∷ after) l) (sym shows) ∙ run-end count (s at m ∷ after) ∙ ap (λ b. cond b (ending after) (Some UnexpectedEnd)) e ∙ sym (run-end count after) ∙ ap (λ l. run count after l) (shows ∙ sym look) }
+    new ≡ past_newlines m old → None ≡ first new → ends s ≡ true → Advances count (s at m ∷ []) old (Ok a) [] new
+vanishing-end {count = count} {s = s} {m = m} {old = old} {new = new} look found e = let shows : [] ≡ past_newlines m old = nothing-left new _ look found in record { same = λ after. run-past_newlines count s m after _ ∙ ap (λ l. run count (s at m ∷ after) l) (sym shows) ∙ run-end count (s at m ∷ after) ∙ ap (λ b. cond b (ending after) (Some UnexpectedEnd)) e ∙ sym (run-end count after) ∙ ap (λ l. run count after l) (shows ∙ sym look) }
 
 pub done : {A : Type 0} {a : A} {count : ℕ} {xs : List Marked} {old : List Lookahead} → Advances count xs old (Ok a) xs old
 done = record { same = λ after. refl }
@@ -112,8 +112,8 @@ pub beside : {A : Type 0} {count : ℕ} {xs ys : List Marked} {old new : List Lo
 beside {count = count} {xs = xs} {ys = ys} {old = old} {new = new} {r = r} zs h = record { same = λ after. ap (λ l. run count l old) (append_assoc xs zs after) ∙ h.same (zs ++ after) ∙ ap (λ l. outcome r (run count l new)) (sym (append_assoc ys zs after)) }
 
 -- Newlines are skipped.
-pub dropping : {A : Type 0} {a : A} {count : ℕ} {s : Symbol} {m : Newlines} {xs : List Marked} {old new : List Lookahead} → new ≡ shown m old → Advances count (s at m ∷ xs) old (Ok a) (s at m ∷ xs) new
-dropping {count = count} {s = s} {m = m} {xs = xs} shows = record { same = λ after. run-shown count s m (xs ++ after) _ ∙ ap (λ l. run count (s at m ∷ (xs ++ after)) l) (sym shows) }
+pub dropping : {A : Type 0} {a : A} {count : ℕ} {s : Symbol} {m : Newlines} {xs : List Marked} {old new : List Lookahead} → new ≡ past_newlines m old → Advances count (s at m ∷ xs) old (Ok a) (s at m ∷ xs) new
+dropping {count = count} {s = s} {m = m} {xs = xs} shows = record { same = λ after. run-past_newlines count s m (xs ++ after) _ ∙ ap (λ l. run count (s at m ∷ (xs ++ after)) l) (sym shows) }
 
 -- After a fault neither the remaining tokens nor the value that would have been returned matter.
 pub failed : {A B : Type 0} {count : ℕ} {xs ys zs : List Marked} {old mid new : List Lookahead} {f : Refusal} → Advances {A = A} count xs old (Err f) ys mid → Advances {A = B} count xs old (Err f) zs new
@@ -170,9 +170,9 @@ taken-then count (closes xs) ys after p q t h = ap (λ l. on (count - 1) l) (app
 
 -- A symbol that another one begins.
 begins-at : (count : ℕ) (s s' : Symbol) (m : Newlines) (ys after : List Marked) (old mid : List Lookahead) → ends s ≡ false → ends s' ≡ false → ((t : Lookahead) → vanishes (row s' m t) ≡ false) →
-    ((t : Lookahead) → Some t ≡ first mid → row s m t ≡ (row s' m t then ys)) → mid ≡ shown m old → run count (s at m ∷ after) old ≡ run count (s' at m ∷ (ys ++ after)) mid
+    ((t : Lookahead) → Some t ≡ first mid → row s m t ≡ (row s' m t then ys)) → mid ≡ past_newlines m old → run count (s at m ∷ after) old ≡ run count (s' at m ∷ (ys ++ after)) mid
 unfolding run
-begins-at count s s' m ys after old [] e e' v f shows = run-shown count s m after old ∙ ap (λ l. run count (s at m ∷ after) l) (sym shows) ∙ ap (λ b. cond b (ending after) (Some UnexpectedEnd)) e ∙ sym (ap (λ b. cond b (ending (ys ++ after)) (Some UnexpectedEnd)) e')
+begins-at count s s' m ys after old [] e e' v f shows = run-past_newlines count s m after old ∙ ap (λ l. run count (s at m ∷ after) l) (sym shows) ∙ ap (λ b. cond b (ending after) (Some UnexpectedEnd)) e ∙ sym (ap (λ b. cond b (ending (ys ++ after)) (Some UnexpectedEnd)) e')
 begins-at count s s' m ys after old (t ∷ ts) e e' v f shows =
     let l : Looks m old t ts = looks m old (t ∷ ts) ts t shows refl refl in
     run-looks count s m after l ∙ ap (λ r. next (row_effect count r after (effect count after t) t) (λ o rest. run o rest ts)) (f t refl)
@@ -180,21 +180,21 @@ begins-at count s s' m ys after old (t ∷ ts) e e' v f shows =
     ∙ sym (run-row count s' m (ys ++ after) t ts l.kept)
 
 pub begins : {A : Type 0} {count : ℕ} {s s' : Symbol} {m : Newlines} {ys zs : List Marked} {old mid new : List Lookahead} {r : Result A Refusal} → ends s ≡ false → ends s' ≡ false → ((t : Lookahead) → vanishes (row s' m t) ≡ false) →
-    ((t : Lookahead) → Some t ≡ first mid → row s m t ≡ (row s' m t then ys)) → mid ≡ shown m old → Advances count (s' at m ∷ ys) mid r zs new → Advances count (s at m ∷ []) old r zs new
+    ((t : Lookahead) → Some t ≡ first mid → row s m t ≡ (row s' m t then ys)) → mid ≡ past_newlines m old → Advances count (s' at m ∷ ys) mid r zs new → Advances count (s at m ∷ []) old r zs new
 begins {count = count} {s = s} {s' = s'} {m = m} {ys = ys} {old = old} {mid = mid} e e' v f shows h = record { same = λ after. begins-at count s s' m ys after old mid e e' v f shows ∙ h.same after }
 
 -- A symbol that is another name for one.
 alike-at : (count : ℕ) (s s' : Symbol) (m : Newlines) (after : List Marked) (old mid : List Lookahead) → ends s ≡ ends s' →
-    ((t : Lookahead) → Some t ≡ first mid → row s m t ≡ row s' m t) → mid ≡ shown m old → run count (s at m ∷ after) old ≡ run count (s' at m ∷ after) mid
+    ((t : Lookahead) → Some t ≡ first mid → row s m t ≡ row s' m t) → mid ≡ past_newlines m old → run count (s at m ∷ after) old ≡ run count (s' at m ∷ after) mid
 unfolding run
-alike-at count s s' m after old [] e f shows = run-shown count s m after old ∙ ap (λ l. run count (s at m ∷ after) l) (sym shows) ∙ ap (λ b. cond b (ending after) (Some UnexpectedEnd)) e
+alike-at count s s' m after old [] e f shows = run-past_newlines count s m after old ∙ ap (λ l. run count (s at m ∷ after) l) (sym shows) ∙ ap (λ b. cond b (ending after) (Some UnexpectedEnd)) e
 alike-at count s s' m after old (t ∷ ts) e f shows =
     let l : Looks m old t ts = looks m old (t ∷ ts) ts t shows refl refl in
     run-looks count s m after l ∙ ap (λ r. next (row_effect count r after (effect count after t) t) (λ o rest. run o rest ts)) (f t refl)
     ∙ sym (run-row count s' m after t ts l.kept)
 
 pub alike : {A : Type 0} {a : A} {count : ℕ} {s s' : Symbol} {m : Newlines} {old mid : List Lookahead} → ends s ≡ ends s' →
-    ((t : Lookahead) → Some t ≡ first mid → row s m t ≡ row s' m t) → mid ≡ shown m old → Advances count (s at m ∷ []) old (Ok a) (s' at m ∷ []) mid
+    ((t : Lookahead) → Some t ≡ first mid → row s m t ≡ row s' m t) → mid ≡ past_newlines m old → Advances count (s at m ∷ []) old (Ok a) (s' at m ∷ []) mid
 alike {count = count} {s = s} {s' = s'} {m = m} {old = old} {mid = mid} e f shows = record { same = λ after. alike-at count s s' m after old mid e f shows }
 
 -- A read terminal. Only rows of templates depend on the number of a token, so the others are named at 0.
@@ -325,17 +325,17 @@ bodies-close zero h l e = absurd (h refl)
 bodies-close {A = A} {a = a} (suc n) {old = old} {left = left} {t = t} h l e =
     let back : suc n - 1 ≡ n = omega arith in
     renamed (ap (λ k. eol at Seen ∷ bodies k) (sym back))
-    (onward (beside (the EndBrace at Seen ∷ eol at Seen ∷ bodies n) (vanishing {a = a} {new = shown Seen old} l (ap (row_of body Seen 0) e) refl))
+    (onward (beside (the EndBrace at Seen ∷ eol at Seen ∷ bodies n) (vanishing {a = a} {new = past_newlines Seen old} l (ap (row_of body Seen 0) e) refl))
     (beside (eol at Seen ∷ bodies n) (reading {xs = []} (again l) (ap (row_of (the EndBrace) Seen 0) e) done)))
   where
-    again : {old : List Lookahead} {t : Lookahead} {ts : List Lookahead} → Looks Seen old t ts → Looks Seen (shown Seen old) t ts
-    again {old = old} l = record { is = sym (shown-shown Seen old) ∙ l.is; kept = l.kept }
+    again : {old : List Lookahead} {t : Lookahead} {ts : List Lookahead} → Looks Seen old t ts → Looks Seen (past_newlines Seen old) t ts
+    again {old = old} l = record { is = sym (past_newlines-past_newlines Seen old) ∙ l.is; kept = l.kept }
 
-pub bodies-end : {A : Type 0} (n : ℕ) {ys : List Marked} {old new : List Lookahead} → n ≢ 0 → new ≡ shown Seen old → None ≡ first new → Advances {A = A} 0 (bodies n) old (Err UnexpectedEnd) ys new
+pub bodies-end : {A : Type 0} (n : ℕ) {ys : List Marked} {old new : List Lookahead} → n ≢ 0 → new ≡ past_newlines Seen old → None ≡ first new → Advances {A = A} 0 (bodies n) old (Err UnexpectedEnd) ys new
 bodies-end zero h s f = absurd (h refl)
 bodies-end {A = A} (suc n) {new = new} h s f = failed (beside (the EndBrace at Seen ∷ eol at Seen ∷ bodies n) (refusing-end {A = A} {s = body} {ys = []} {new = new} s f refl))
 
-pub bodies-done : {A : Type 0} {a : A} (n : ℕ) {old new : List Lookahead} → n ≡ 0 → new ≡ shown Seen old → None ≡ first new → Advances 0 (bodies n) old (Ok a) [] new
+pub bodies-done : {A : Type 0} {a : A} (n : ℕ) {old new : List Lookahead} → n ≡ 0 → new ≡ past_newlines Seen old → None ≡ first new → Advances 0 (bodies n) old (Ok a) [] new
 bodies-done zero h s f = vanishing-end s f refl
 bodies-done (suc n) h s f = cc
 
@@ -416,25 +416,25 @@ item-passes t e = item-passes-at t.class e
     item-passes-at _ h = cc
 
 passes-by : (count : ℕ) (s : Symbol) (ss : List Marked) (t : Lookahead) (ts : List Lookahead) (b : Bool) → drops Dropped t.class ≡ b → PassesNewlines s →
-    run count (s at Seen ∷ ss) ts ≡ run count (s at Seen ∷ ss) (shown Dropped ts) →
-    run count (s at Seen ∷ ss) (t ∷ ts) ≡ run count (s at Seen ∷ ss) (cond b (shown Dropped ts) (t ∷ ts))
+    run count (s at Seen ∷ ss) ts ≡ run count (s at Seen ∷ ss) (past_newlines Dropped ts) →
+    run count (s at Seen ∷ ss) (t ∷ ts) ≡ run count (s at Seen ∷ ss) (cond b (past_newlines Dropped ts) (t ∷ ts))
 passes-by count s ss t ts true e p h = run-row count s Seen ss t ts refl ∙ ap (λ r. next (row_effect count r ss (effect count ss t) t) (λ o rest. run o rest ts)) (p t e) ∙ h
 passes-by count s ss t ts false e p h = refl
 
-passes : (count : ℕ) (s : Symbol) (ss : List Marked) (ts : List Lookahead) → PassesNewlines s → run count (s at Seen ∷ ss) ts ≡ run count (s at Seen ∷ ss) (shown Dropped ts)
+passes : (count : ℕ) (s : Symbol) (ss : List Marked) (ts : List Lookahead) → PassesNewlines s → run count (s at Seen ∷ ss) ts ≡ run count (s at Seen ∷ ss) (past_newlines Dropped ts)
 passes count s ss [] p = refl
 passes count s ss (t ∷ ts) p = passes-by count s ss t ts (drops Dropped t.class) refl p (passes count s ss ts p)
 
-pub passing : {A : Type 0} {a : A} {count : ℕ} {s : Symbol} {xs : List Marked} (old : List Lookahead) → PassesNewlines s → Advances count (s at Seen ∷ xs) old (Ok a) (s at Seen ∷ xs) (shown Dropped old)
+pub passing : {A : Type 0} {a : A} {count : ℕ} {s : Symbol} {xs : List Marked} (old : List Lookahead) → PassesNewlines s → Advances count (s at Seen ∷ xs) old (Ok a) (s at Seen ∷ xs) (past_newlines Dropped old)
 passing {count = count} {s = s} {xs = xs} old p = record { same = λ after. passes count s (xs ++ after) old p }
 
 -- if everything is shown, the rest stays as it was
-seen-all : (l : List Lookahead) → shown Seen l ≡ l
+seen-all : (l : List Lookahead) → past_newlines Seen l ≡ l
 seen-all [] = refl
 seen-all (t ∷ ts) = refl
 
-looks-past : {old left : List Lookahead} {t : Lookahead} → Looks Dropped old t left → Looks Seen (shown Dropped old) t left
-looks-past {old = old} l = record { is = seen-all (shown Dropped old) ∙ l.is; kept = refl }
+looks-past : {old left : List Lookahead} {t : Lookahead} → Looks Dropped old t left → Looks Seen (past_newlines Dropped old) t left
+looks-past {old = old} l = record { is = seen-all (past_newlines Dropped old) ∙ l.is; kept = refl }
 
 pub object-for : (m : Newlines) (c : Class) → fits ForWord c ≡ true → row_of object m 0 c ≡ reads (the Name at Dropped ∷ names at Dropped ∷ expr at Dropped ∷ the Separator at Dropped ∷ expr at Dropped ∷ the FatArrow at Dropped ∷ expr at Dropped ∷ group at Dropped ∷ [])
 object-for m (Ident For) h = refl
@@ -459,16 +459,16 @@ pub past-reading : {A : Type 0} {count : ℕ} {s : Symbol} {xs ys : List Marked}
     PassesNewlines s → Looks Dropped old t left → row s Seen t ≡ reads xs → Advances count xs left r ys new → Advances count (s at Seen ∷ []) old r ys new
 past-reading {old = old} p l e h = onward (passing {a = tt {0}} old p) (reading (looks-past l) e h)
 
-seen-first : (old new : List Lookahead) → new ≡ shown Dropped old → new ≡ shown Seen (shown Dropped old)
-seen-first old new e = e ∙ sym (seen-all (shown Dropped old))
+seen-first : (old new : List Lookahead) → new ≡ past_newlines Dropped old → new ≡ past_newlines Seen (past_newlines Dropped old)
+seen-first old new e = e ∙ sym (seen-all (past_newlines Dropped old))
 
-not-newline : (old new : List Lookahead) (t : Lookahead) → new ≡ shown Dropped old → Some t ≡ first new → drops Dropped t.class ≡ false
+not-newline : (old new : List Lookahead) (t : Lookahead) → new ≡ past_newlines Dropped old → Some t ≡ first new → drops Dropped t.class ≡ false
 not-newline old new t e f = kept Dropped old t (f ∙ ap first e)
 
 pub past-alike : {A : Type 0} {a : A} {count : ℕ} {s s' : Symbol} {old mid : List Lookahead} → PassesNewlines s → ends s ≡ ends s' →
-    ((t : Lookahead) → Some t ≡ first mid → drops Dropped t.class ≡ false → row s Seen t ≡ row s' Seen t) → mid ≡ shown Dropped old → Advances count (s at Seen ∷ []) old (Ok a) (s' at Seen ∷ []) mid
+    ((t : Lookahead) → Some t ≡ first mid → drops Dropped t.class ≡ false → row s Seen t ≡ row s' Seen t) → mid ≡ past_newlines Dropped old → Advances count (s at Seen ∷ []) old (Ok a) (s' at Seen ∷ []) mid
 past-alike {old = old} {mid = mid} p e f shows = onward (passing {a = tt {0}} old p) (alike e (λ t g. f t g (not-newline old mid t shows g)) (seen-first old mid shows))
 
 pub past-begins : {A : Type 0} {count : ℕ} {s : Symbol} {ys zs : List Marked} {old mid new : List Lookahead} {r : Result A Refusal} → PassesNewlines s → ends s ≡ false →
-    ((t : Lookahead) → Some t ≡ first mid → drops Dropped t.class ≡ false → row s Seen t ≡ (row expr Seen t then ys)) → mid ≡ shown Dropped old → Advances count (expr at Seen ∷ ys) mid r zs new → Advances count (s at Seen ∷ []) old r zs new
+    ((t : Lookahead) → Some t ≡ first mid → drops Dropped t.class ≡ false → row s Seen t ≡ (row expr Seen t then ys)) → mid ≡ past_newlines Dropped old → Advances count (expr at Seen ∷ ys) mid r zs new → Advances count (s at Seen ∷ []) old r zs new
 past-begins {old = old} {mid = mid} p e f shows h = onward (passing {a = tt {0}} old p) (begins {s' = expr} e refl (expr-stays Seen) (λ t g. f t g (not-newline old mid t shows g)) (seen-first old mid shows) h)

@@ -8,7 +8,7 @@ use Rattle.hcl_grammar.specs.declared.class.Lookahead.{Lookahead}
 use Rattle.hcl_grammar.specs.declared.class.Class.{Class}
 use Rattle.hcl_grammar.specs.declared.expected.Newlines.{Newlines}
 use Rattle.hcl_grammar.specs.Classes.{is_trivia, drops}
-use Rattle.hcl_syntax.specs.Inner.Cursors.{shown, first, after_first}
+use Rattle.hcl_syntax.specs.Inner.Cursors.{past_newlines, first, after_first}
 
 pub length-lookaheads : (n : ℕ) (ts : List Lexeme) → length (lookaheads_from n ts) ≤ length ts
 length-lookaheads n [] = omega arith
@@ -25,20 +25,20 @@ at-number ts n t c e k =
     ap (λ l. lookaheads_from n l) front
     ∙ ap (λ x. cond (is_trivia x) (lookaheads_from (n + 1) (drop (n + 1) ts)) (record { class = x; number = n } ∷ lookaheads_from (n + 1) (drop (n + 1) ts))) (sym k)
 
-pub length-shown : (m : Newlines) (ts : List Lookahead) → length (shown m ts) ≤ length ts
-length-shown m [] = omega arith
-length-shown m (t ∷ ts) = elim (drops m t.class) as (λ b. length (cond b (shown m ts) (t ∷ ts)) ≤ length (t ∷ ts)) [ true ↦ omega (arith, length-shown m ts) | false ↦ omega arith ]
+pub length-past_newlines : (m : Newlines) (ts : List Lookahead) → length (past_newlines m ts) ≤ length ts
+length-past_newlines m [] = omega arith
+length-past_newlines m (t ∷ ts) = elim (drops m t.class) as (λ b. length (cond b (past_newlines m ts) (t ∷ ts)) ≤ length (t ∷ ts)) [ true ↦ omega (arith, length-past_newlines m ts) | false ↦ omega arith ]
 
-shown-by : (m : Newlines) (t : Lookahead) (ts : List Lookahead) (b : Bool) → drops m t.class ≡ b → shown m ts ≡ shown m (shown m ts) → cond b (shown m ts) (t ∷ ts) ≡ shown m (cond b (shown m ts) (t ∷ ts))
-shown-by m t ts true e h = h
-shown-by m t ts false e h = sym (ap (λ b. cond b (shown m ts) (t ∷ ts)) e)
+past_newlines-by : (m : Newlines) (t : Lookahead) (ts : List Lookahead) (b : Bool) → drops m t.class ≡ b → past_newlines m ts ≡ past_newlines m (past_newlines m ts) → cond b (past_newlines m ts) (t ∷ ts) ≡ past_newlines m (cond b (past_newlines m ts) (t ∷ ts))
+past_newlines-by m t ts true e h = h
+past_newlines-by m t ts false e h = sym (ap (λ b. cond b (past_newlines m ts) (t ∷ ts)) e)
 
-pub shown-shown : (m : Newlines) (ts : List Lookahead) → shown m ts ≡ shown m (shown m ts)
-shown-shown m [] = refl
-shown-shown m (t ∷ ts) = shown-by m t ts (drops m t.class) refl (shown-shown m ts)
+pub past_newlines-past_newlines : (m : Newlines) (ts : List Lookahead) → past_newlines m ts ≡ past_newlines m (past_newlines m ts)
+past_newlines-past_newlines m [] = refl
+past_newlines-past_newlines m (t ∷ ts) = past_newlines-by m t ts (drops m t.class) refl (past_newlines-past_newlines m ts)
 
-pub shown-again : (m : Newlines) (old new : List Lookahead) → new ≡ shown m old → new ≡ shown m new
-shown-again m old new e = e ∙ shown-shown m old ∙ ap (λ l. shown m l) (sym e)
+pub past_newlines-again : (m : Newlines) (old new : List Lookahead) → new ≡ past_newlines m old → new ≡ past_newlines m new
+past_newlines-again m old new e = e ∙ past_newlines-past_newlines m old ∙ ap (λ l. past_newlines m l) (sym e)
 
 -- ---- the tokens after the first that is shown
 

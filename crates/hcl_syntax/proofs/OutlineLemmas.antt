@@ -3,7 +3,7 @@ use Rattle.std.proofs.Common.{◌≡◌, ◌∙◌, ap, sym, refl, ℕ, suc, ◌
 use Rattle.std.specs.List.{flat_map}
 use Rattle.std.proofs.lemmas.List.{append-nil}
 use Rattle.hcl_tokens.specs.Lexemes.{Lexeme}
-use Rattle.hcl_grammar.specs.Numbered.{Numbered, numbered, numbered_from, without_comments, is_comment}
+use Rattle.hcl_grammar.specs.Numbered.{Numbered, number_tokens, numbered_from, without_comments, is_comment}
 use Rattle.hcl_grammar.specs.Items.{segments, item_of, outline}
 use Rattle.hcl_syntax.specs.Inner.Segments.{words, newline_from, items_at}
 use Rattle.hcl_syntax.specs.Inner.Bodies.{PushesSegment}
@@ -47,7 +47,7 @@ numbered_length : (n : ℕ) (xs : List Lexeme) → take (length xs) (numbered_fr
 numbered_length n [] = refl
 numbered_length n (x ∷ xs) = ap (λ r. number_of n x ∷ r) (numbered_length (n + 1) xs)
 
-pub words_all : (ts : List Lexeme) → words ts 0 (length ts) ≡ without_comments (numbered ts)
+pub words_all : (ts : List Lexeme) → words ts 0 (length ts) ≡ without_comments (number_tokens ts)
 words_all ts = let z : length ts - 0 ≡ length ts = omega arith in ap (λ k. without_comments (take k (numbered_from 0 ts))) z ∙ ap without_comments (numbered_length 0 ts)
 
 length_numbered : (n : ℕ) (xs : List Lexeme) → length (numbered_from n xs) ≡ length xs
@@ -57,4 +57,4 @@ length_numbered n (x ∷ xs) = ap suc (length_numbered (n + 1) xs)
 pub outline_is : (ts : List Lexeme) → items_at 0 (words ts 0 (length ts)) ≡ outline ts
 outline_is ts =
     ap (items_at 0) (words_all ts)
-    ∙ items_more (length (without_comments (numbered ts))) (length (numbered ts)) 0 (without_comments (numbered ts)) (omega arith) (filter_short (λ t. not (is_comment t.kind)) (numbered ts))
+    ∙ items_more (length (without_comments (number_tokens ts))) (length (number_tokens ts)) 0 (without_comments (number_tokens ts)) (omega arith) (filter_short (λ t. not (is_comment t.kind)) (number_tokens ts))

@@ -9,7 +9,7 @@ use Rattle.hcl_grammar.specs.declared.expected.Newlines.TheVariants.{Seen, Dropp
 use Rattle.hcl_grammar.specs.Classes.{is_trivia, drops}
 use Rattle.hcl_grammar.specs.declared.expected.Terminal.TheVariants.{EndQuote}
 use Rattle.hcl_grammar.specs.Grammar.{◌at◌, the, nothing, expr, after, after_ident, parts, step, row_of}
-use Rattle.hcl_syntax.specs.Inner.Cursors.{shown, Looks}
+use Rattle.hcl_syntax.specs.Inner.Cursors.{past_newlines, Looks}
 use Rattle.hcl_syntax.specs.Inner.ShortOperands.{ends_expression, is_short_operand, is_opening_quote, is_dot, is_identifier, is_quoted, ExpressionEnds, AreSteps, IsQuoted, IsOperand}
 use Rattle.hcl_syntax.proofs.CursorStepLemmas.{reading, vanishing, onward, beside, done}
 
@@ -50,7 +50,7 @@ seen_there l rest t b untold is = is ∙ ap (λ v. cond v rest (t ∷ rest)) unt
 
 -- a first token that isn't a dropped newline
 looked : (m : Newlines) (old left : List Lookahead) (t : Lookahead) → old ≡ t ∷ left → drops m t.class ≡ false → Looks m old t left
-looked m old left t is shows = record { is = ap (shown m) is ∙ ap (λ v. cond v (shown m left) (t ∷ left)) shows; kept = shows }
+looked m old left t is shows = record { is = ap (past_newlines m) is ∙ ap (λ v. cond v (past_newlines m left) (t ∷ left)) shows; kept = shows }
 
 -- ---- steps
 
@@ -58,7 +58,7 @@ module _ (m : Newlines) (left : List Lookahead) (e : ExpressionEnds m left) wher
   end_looks : Looks m left e.token e.more
   end_looks = looked m left e.more e.token e.is (ended m e.token.class e.ends).kept
 
-  stays : left ≡ shown m left
+  stays : left ≡ past_newlines m left
   stays = e.is ∙ sym end_looks.is
 
 pub no_steps : (l : List Lookahead) → AreSteps l l

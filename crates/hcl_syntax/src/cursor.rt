@@ -4,7 +4,7 @@ ghost use Rattle.std.specs.Prelude.{◌≡◌, ◌+◌, ◌<◌, ◌≤◌, ◌^
 ghost use Rattle.std.specs.Bool.{OnTrue, OnFalse};
 ghost use Rattle.hcl_grammar.specs.Classes.{lookaheads, lookaheads_from};
 ghost use Rattle.hcl_grammar.specs.Grammar.{fits, ◌at◌, the, expr};
-ghost use Rattle.hcl_syntax.specs.Inner.Cursors.{shown, first, after_first, is_shown};
+ghost use Rattle.hcl_syntax.specs.Inner.Cursors.{past_newlines, first, after_first, is_shown};
 ghost use Rattle.hcl_syntax.specs.Inner.Parsing.{Parses, with_refusal, TookTerminal, LacksTerminal};
 ghost use Rattle.hcl_syntax.specs.Inner.Standings.{Consumes};
 
@@ -92,7 +92,7 @@ fn find(
     requires count { count ≡ length tokens.now.tokens }
     ensures within { result.0 ≤ length tokens.now.tokens }
     ensures left { lookaheads_from result.0 (drop result.0 tokens.now.tokens)
-        ≡ shown newlines (lookaheads_from from (drop from tokens.now.tokens)) }
+        ≡ past_newlines newlines (lookaheads_from from (drop from tokens.now.tokens)) }
     ensures found { result.1 ≡ first (lookaheads_from result.0 (drop result.0 tokens.now.tokens)) }
 {
     let mut number = from;
@@ -146,7 +146,7 @@ impl<'t, 's> Cursor<'t, 's> {
     /// none.
     #[inline(always)]
     pub fn look(&mut self, newlines: Newlines) -> Option<Lookahead>
-        ensures left { self.new.left ≡ shown newlines self.old.left }
+        ensures left { self.new.left ≡ past_newlines newlines self.old.left }
         ensures found { result ≡ first self.new.left }
         ensures shorter { length self.new.left ≤ length self.old.left }
     {

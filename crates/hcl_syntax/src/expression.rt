@@ -3,7 +3,7 @@
 
 ghost use Rattle.std.specs.Prelude.{◌≡◌, ◌+◌, ◌<◌, ◌≤◌, ◌^◌, ℕ, List, [], ◌∷◌, ◌++◌, length, Some, None, Ok, OnOk, IfOk, IfSome, true, false};
 ghost use Rattle.std.specs.Bool.{OnTrue, OnFalse};
-ghost use Rattle.hcl_syntax.specs.Inner.Cursors.{shown, first};
+ghost use Rattle.hcl_syntax.specs.Inner.Cursors.{past_newlines, first};
 ghost use Rattle.hcl_grammar.specs.Grammar.{◌at◌, the, expr, after, after_ident, path, index, args, tuple, tuple_item, tuple_if, object, object_item, group, object_if, separator, names, step};
 ghost use Rattle.hcl_syntax.specs.Inner.Parsing.{Advances, Parses, with_refusal, after_follow, has_next_operand, is_prefix};
 ghost use Rattle.hcl_syntax.specs.Inner.Standings.{Consumes, NeverReturns};
@@ -19,7 +19,7 @@ impl<'t, 's> Cursor<'t, 's> {
     fn start(&mut self, newlines: Newlines) -> Option<Lookahead>
         ensures leads { (count : ℕ) → Advances count (expr at newlines ∷ []) self.old.left
             (Ok (tt {0})) (expr at newlines ∷ []) self.new.left }
-        ensures left { self.new.left ≡ shown newlines self.new.left }
+        ensures left { self.new.left ≡ past_newlines newlines self.new.left }
         ensures found { result ≡ first self.new.left }
         ensures plain { IfSome result (λ t. is_prefix t.class ≡ false) }
         ensures shorter { length self.new.left ≤ length self.old.left }

@@ -13,7 +13,7 @@ use Rattle.hcl_tokens.proofs.ExpressionKindLemmas.{in_expressions}
 use Rattle.hcl_tokens.specs.Balanced.{opener_count, closer_count, is_closer}
 use Rattle.hcl_grammar.specs.Classes.{class_at, class_of, is_trivia, lookaheads_from}
 use Rattle.hcl_grammar.specs.Items.{deepen, is_closed}
-use Rattle.hcl_grammar.specs.Numbered.{Numbered, is_comment, is_passed_over, numbered, numbered_from, without_comments}
+use Rattle.hcl_grammar.specs.Numbered.{Numbered, is_comment, is_passed_over, number_tokens, numbered_from, without_comments}
 use Rattle.hcl_grammar.specs.Verdict.{IsAccepted}
 use Rattle.hcl_grammar.specs.declared.class.Lookahead.{Lookahead}
 use Rattle.hcl_grammar.specs.declared.expected.Newlines.TheVariants.{Seen}
@@ -480,5 +480,5 @@ module _ (all : List Numbered) where
           (on_ p ss count (next_opens ∙ comment_same t.kind s.opens e ∙ same) a (skipped (comment_trivia t.kind t.text e)) (λ d. stepping (sym (ap (λ b. cond b dot (is kind.Dot t.kind)) (comment_passed t.kind e)) ∙ d)))
       by false e on_ = subst (λ b. Led p (cond (not b) (it ∷ W) W)) (sym e) (word e (is_trivia (class_of t)) refl on_)
 
-pub whole_file : (text : List ℕ) (tokens : List Lexeme) → Scans text tokens → IsAccepted tokens → Led (numbered tokens) (line 0) (without_comments (numbered tokens))
-whole_file text tokens scans accepted = lead (numbered tokens) (begin text) scans.0 tokens (line 0) (base 0) 0 0 scans.1 refl refl accepted refl false (λ e. absurd (true≢false (sym e))) refl
+pub whole_file : (text : List ℕ) (tokens : List Lexeme) → Scans text tokens → IsAccepted tokens → Led (number_tokens tokens) (line 0) (without_comments (number_tokens tokens))
+whole_file text tokens scans accepted = lead (number_tokens tokens) (begin text) scans.0 tokens (line 0) (base 0) 0 0 scans.1 refl refl accepted refl false (λ e. absurd (true≢false (sym e))) refl

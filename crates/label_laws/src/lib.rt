@@ -10,7 +10,7 @@ ghost use Rattle.hcl_tokens.specs.Scans.{Scans};
 ghost use Rattle.hcl_grammar.specs.Verdict.{IsAccepted};
 ghost use Rattle.hcl_grammar.specs.Items.{outline};
 ghost use Rattle.hcl_grammar.specs.Labels.{label_text};
-ghost use Rattle.hcl_grammar.specs.Numbered.{numbered};
+ghost use Rattle.hcl_grammar.specs.Numbered.{number_tokens};
 ghost use Rattle.hcl_grammar.specs.declared.item.Item.TheVariants as item;
 ghost use Rattle.hcl_grammar.specs.declared.item.Label.{Label};
 ghost use Rattle.label_laws.specs.AsWritten.{IsAsWritten, between_quotes};
@@ -19,6 +19,6 @@ ghost use Rattle.label_laws.specs.AsWritten.{IsAsWritten, between_quotes};
 pub fn one_literal()
     ensures { (text : List ℕ) (tokens : List Lexeme) → Scans text tokens → IsAccepted tokens
         → (i : ℕ) (l : Label) → slice_get (outline tokens) i ≡ Some (item.Label l)
-        → l.first < l.last → IsAsWritten (between_quotes (numbered tokens) l)
-        (label_text (numbered tokens) l) }
+        → l.first < l.last → IsAsWritten (between_quotes (number_tokens tokens) l)
+        (label_text (number_tokens tokens) l) }
 {}

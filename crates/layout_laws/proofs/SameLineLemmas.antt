@@ -11,7 +11,7 @@ use Rattle.hcl_scan.proofs.TokenLineLemmas.{line_is}
 use Rattle.hcl_tokens.proofs.OneReadingLemmas.{one_scan}
 use Rattle.hcl_scan.proofs.SpellingLemmas.{one_kind}
 use Rattle.hcl_tokens.proofs.NonemptyLemmas.{nonempty}
-use Rattle.hcl_grammar.specs.Numbered.{Numbered, numbered, numbered_from}
+use Rattle.hcl_grammar.specs.Numbered.{Numbered, number_tokens, numbered_from}
 use Rattle.hcl_grammar.specs.Verdict.{start_of}
 use Rattle.hcl_layout.specs.Print.{print}
 use Rattle.layout_laws.specs.Reprinted.{printed_tokens}
@@ -65,10 +65,10 @@ first_line [] = refl
 first_line (b ∷ text) = refl
 
 -- ---- THE LAWS
-pub numbered_again : (text : List ℕ) (ts us : List Lexeme) → Scans text ts → Scans (print ts) us → numbered us ≡ numbered ts
+pub numbered_again : (text : List ℕ) (ts us : List Lexeme) → Scans text ts → Scans (print ts) us → number_tokens us ≡ number_tokens ts
 numbered_again text ts us scans again =
-    ap numbered (one_scan one_kind nonempty (print ts) us (printed_tokens ts) again (scans_again text ts scans))
-    ∙ sym (numbered_forgot 0 (printed_tokens ts)) ∙ ap numbered (same_tokens ts) ∙ numbered_forgot 0 ts
+    ap number_tokens (one_scan one_kind nonempty (print ts) us (printed_tokens ts) again (scans_again text ts scans))
+    ∙ sym (numbered_forgot 0 (printed_tokens ts)) ∙ ap number_tokens (same_tokens ts) ∙ numbered_forgot 0 ts
 
 printed_lines : (text : List ℕ) (ts : List Lexeme) → Scans text ts → (n : ℕ) → line_of (print ts) (start_of (printed_tokens ts) n) ≡ line_of text (start_of ts n)
 printed_lines text ts scans n = ⊎_elim within beyond (cases_lt n (length ts))

@@ -13,7 +13,7 @@ ghost use Rattle.layout_laws.specs.Older.Tokens.{HasNoPath, WasScanned};
 ghost use Rattle.hcl_layout.specs.Print.{print};
 ghost use Rattle.layout_laws.specs.Reprinted.{printed_tokens};
 ghost use Rattle.hcl_grammar.specs.Classes.{lookaheads};
-ghost use Rattle.hcl_grammar.specs.Numbered.{numbered};
+ghost use Rattle.hcl_grammar.specs.Numbered.{number_tokens};
 ghost use Rattle.hcl_grammar.specs.Verdict.{IsAccepted, start_of};
 ghost use Rattle.hcl_source.specs.Load.{IsText, max_source};
 ghost use Rattle.hcl_source.specs.Places.{line_of};
@@ -32,7 +32,7 @@ pub fn print_kept()
 
 /// Printing twice changes nothing: a print that isn't too large is a source, its tokens are a file,
 /// and their print is the same.
-pub fn idempotent()
+pub fn print_is_idempotent()
     ensures { (text : List ℕ) (ts : List Lexeme) → IsText text → Scans text ts → IsAccepted ts
         → length (print ts) ≤ max_source
         → IsText (print ts) × Scans (print ts) (printed_tokens ts) × IsAccepted (printed_tokens ts)
@@ -42,7 +42,7 @@ pub fn idempotent()
 /// A print has the tokens of its text, by kind and text in the same order, and each on the same line.
 pub fn same_lines()
     ensures tokens { (text : List ℕ) (ts us : List Lexeme) → Scans text ts → Scans (print ts) us
-        → numbered us ≡ numbered ts }
+        → number_tokens us ≡ number_tokens ts }
     ensures lines { (text : List ℕ) (ts us : List Lexeme) → Scans text ts → Scans (print ts) us
         → (n : ℕ) → line_of (print ts) (start_of us n) ≡ line_of text (start_of ts n) }
 {}

@@ -3,7 +3,7 @@ use Rattle.std.proofs.Common.{◌≡◌, ◌∙◌, ◌<◌, ◌≤◌, ◌+◌,
 use Rattle.std.proofs.lemmas.List.{get_or_past}
 use Rattle.std.specs.Prelude.{not, if◌then◌else◌}
 use Rattle.std.specs.Str.{bytes_eq}
-use Rattle.line_diff.specs.Diffs.{Texts, begins, body_at, count, each, head, hunk_at, is_changed, is_shown, line_at, run_length}
+use Rattle.line_diff.specs.Diffs.{Texts, run_begins, body_at, count, each, head, hunk_at, is_changed, is_shown, line_at, run_length}
 
 one_less : (n end : ℕ) → n < end → end - n ≡ suc (end - (n + 1))
 one_less n end lt = omega (arith, lt)
@@ -63,7 +63,7 @@ change_put f g n run end items mid new e first second =
     let all : end - n ≡ run = the_run n run end e in
     second ∙ ap (λ l. l ++ each g n (end - n)) first ∙ append_assoc items (each f n (end - n)) (each g n (end - n)) ∙ ap (λ k. items ++ (each f n k ++ each g n k)) all
 
-pub hunk_put : (ts : Texts) (n end : ℕ) (items mid new : List ℕ) → begins (is_shown ts) n ≡ true → end ≡ n + run_length (is_shown ts) n (count ts - n) → mid ≡ items ++ head ts n end
+pub hunk_put : (ts : Texts) (n end : ℕ) (items mid new : List ℕ) → run_begins (is_shown ts) n ≡ true → end ≡ n + run_length (is_shown ts) n (count ts - n) → mid ≡ items ++ head ts n end
     → new ≡ mid ++ each (body_at ts) n (end - n) → new ≡ items ++ hunk_at ts n
 hunk_put ts n end items mid new here e first second =
     let run = run_length (is_shown ts) n (count ts - n) in

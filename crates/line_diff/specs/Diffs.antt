@@ -40,8 +40,8 @@ abbrev pub is_shown : Texts → ℕ → Bool
 is_shown ts n = is_near ts n 0 || is_near ts n 1 || is_near ts n 2 || is_near ts n 3
 
 -- a run of lines with this property begins here
-abbrev pub begins : (ℕ → Bool) → ℕ → Bool
-begins holds n = holds n && (n == 0 || not (holds (n - 1)))
+abbrev pub run_begins : (ℕ → Bool) → ℕ → Bool
+run_begins holds n = holds n && (n == 0 || not (holds (n - 1)))
 
 -- how many of the next lines, from this one on, are in the run
 abbrev pub run_length : (ℕ → Bool) → ℕ → ℕ → ℕ
@@ -73,7 +73,7 @@ change_at ts n =
 -- the text for a line of a hunk: at the beginning of a run of changed lines the whole run; otherwise the line
 abbrev pub body_at : Texts → ℕ → List ℕ
 body_at ts n =
-    if is_changed ts n then (if begins (is_changed ts) n then change_at ts n else [])
+    if is_changed ts n then (if run_begins (is_changed ts) n then change_at ts n else [])
     else signed_line (codes " ") (line_at ts.old n)
 
 -- the lines of a text in a hunk, from one number up to another
@@ -95,7 +95,7 @@ head ts start end =
 -- at the beginning of a run of shown lines, their hunk
 abbrev pub hunk_at : Texts → ℕ → List ℕ
 hunk_at ts n =
-    if begins (is_shown ts) n
+    if run_begins (is_shown ts) n
     then head ts n (n + run_length (is_shown ts) n (count ts - n))
     ++ each (body_at ts) n (run_length (is_shown ts) n (count ts - n))
     else []

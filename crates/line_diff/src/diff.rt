@@ -2,7 +2,7 @@
 //! compared.
 
 ghost use Rattle.std.specs.Prelude.{◌≡◌, ◌<◌, ◌≤◌, ◌+◌, ◌-◌, ◌++◌, OnOk, IfOk, codes, decimal};
-ghost use Rattle.line_diff.specs.Diffs.{begins, body_at, change_at, count, diff_of, each, ended_line, head, hunk_at, hunks, is_changed, is_shown, line_at, range, range_by, run_length, signed_line};
+ghost use Rattle.line_diff.specs.Diffs.{run_begins, body_at, change_at, count, diff_of, each, ended_line, head, hunk_at, hunks, is_changed, is_shown, line_at, range, range_by, run_length, signed_line};
 
 use crate::lines::{Lines, lines_of};
 use itoa::Buffer;
@@ -36,7 +36,7 @@ fn is_shown(lines: &Lines<'_>, number: usize) -> bool
 
 /// Whether a run of changed lines begins here.
 fn begins_change(lines: &Lines<'_>, number: usize) -> bool
-    ensures { result ≡ begins (is_changed lines.now) number }
+    ensures { result ≡ run_begins (is_changed lines.now) number }
 {
     lines.is_changed(number) && (number == 0 || !lines.is_changed(number - 1))
 }
@@ -44,7 +44,7 @@ fn begins_change(lines: &Lines<'_>, number: usize) -> bool
 /// Whether a run of shown lines begins here.
 fn begins_hunk(lines: &Lines<'_>, number: usize) -> bool
     requires { number < count lines.now }
-    ensures { result ≡ begins (is_shown lines.now) number }
+    ensures { result ≡ run_begins (is_shown lines.now) number }
 {
     is_shown(lines, number) && (number == 0 || !is_shown(lines, number - 1))
 }
@@ -113,7 +113,7 @@ fn push_old(to: &mut Vec<u8>, lines: &Lines<'_>, start: usize, end: usize) -> Re
         (end - start)) }
 {
     for number in start..end {
-        push_line(to, b"-", lines.old(number))?;
+        push_line(to, b"-", lines.old_line(number))?;
     }
     Ok(())
 }
@@ -127,7 +127,7 @@ fn push_new(to: &mut Vec<u8>, lines: &Lines<'_>, start: usize, end: usize) -> Re
         (end - start)) }
 {
     for number in start..end {
-        push_line(to, b"+", lines.new_at(number))?;
+        push_line(to, b"+", lines.new_line(number))?;
     }
     Ok(())
 }
@@ -148,7 +148,7 @@ fn push_at(to: &mut Vec<u8>, lines: &Lines<'_>, number: usize) -> Result<(), All
     ensures { OnOk result (to.new.items ≡ to.old.items ++ body_at lines.now number) }
 {
     if !lines.is_changed(number) {
-        return push_line(to, b" ", lines.old(number));
+        return push_line(to, b" ", lines.old_line(number));
     }
     if !begins_change(lines, number) {
         return Ok(());

@@ -70,14 +70,14 @@ impl<'a> Lines<'a> {
     }
 
     /// The old line of this number.
-    pub fn old(&self, number: usize) -> &'a [u8]
+    pub fn old_line(&self, number: usize) -> &'a [u8]
         ensures { result.now ≡ line_at self.now.old number }
     {
         line_at(self.old.as_slice(), number)
     }
 
     /// The new line of this number.
-    pub fn new_at(&self, number: usize) -> &'a [u8]
+    pub fn new_line(&self, number: usize) -> &'a [u8]
         ensures { result.now ≡ line_at self.now.new number }
     {
         line_at(self.new.as_slice(), number)
@@ -106,7 +106,7 @@ impl<'a> Lines<'a> {
     pub fn is_changed(&self, number: usize) -> bool
         ensures { result ≡ is_changed self.now number }
     {
-        self.old(number) != self.new_at(number)
+        self.old_line(number) != self.new_line(number)
     }
 
     /// Whether the line this far after this one is changed.

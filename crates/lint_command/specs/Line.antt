@@ -66,10 +66,10 @@ rules_taken (Some (Err list.UnknownRule)) = Err UnknownRule
 rules_taken (Some (Err list.NoneLeft)) = Err NoRuleLeft
 
 -- the value of an option's text, if the line has one, or the usage for a text with no meaning
-abbrev pub taken : {A : Type 0} → Usage → Option (Option A) → Result (Option A) Usage
-taken usage None = Ok None
-taken usage (Some None) = Err usage
-taken usage (Some (Some a)) = Ok (Some a)
+abbrev pub value_or_usage : {A : Type 0} → Usage → Option (Option A) → Result (Option A) Usage
+value_or_usage usage None = Ok None
+value_or_usage usage (Some None) = Err usage
+value_or_usage usage (Some (Some a)) = Ok (Some a)
 
 abbrev pub given_by : Result (Option (List Rule)) Usage → Result (Option Naming) Usage
     → Result (Option Severity) Usage → Bool → Bool → Bool → Result Given Usage
@@ -91,8 +91,8 @@ given_by (Ok rules) (Ok naming) (Ok minimum) force checks reads =
 abbrev pub given_of_rows : List Row → Result Given Usage
 given_of_rows rows =
     given_by (rules_taken (option_map rules_in (first_of (codes "rules") rows)))
-    (taken BadNaming (option_map naming_of_text (first_of (codes "naming") rows)))
-    (taken BadSeverity
+    (value_or_usage BadNaming (option_map naming_of_text (first_of (codes "naming") rows)))
+    (value_or_usage BadSeverity
     (option_map severity_of_text (first_of (codes "minimum-failure-severity") rows)))
     (is_given (codes "force") rows) (is_given (codes "check-comments") rows)
     (not (is_given (codes "no-config") rows))

@@ -5,7 +5,7 @@ ghost use Rattle.clap.specs.Words.{app_of, first_of, found_of, rows_of};
 ghost use Rattle.rule_lists.specs.Lists.{rules_in};
 ghost use Rattle.tfrules_command.specs.Line.{naming_of_text, severity_of_text};
 ghost use Rattle.lint_command.specs.Asked.{result_request, given_in, rules_view};
-ghost use Rattle.lint_command.specs.Line.{request_by, request_of_rows, request_of_texts, request_with, explain_request, form_of_text, form_given, given_of_rows, given_by, is_good, rules_taken, taken, text_requested, tfrules_all};
+ghost use Rattle.lint_command.specs.Line.{request_by, request_of_rows, request_of_texts, request_with, explain_request, form_of_text, form_given, given_of_rows, given_by, is_good, rules_taken, value_or_usage, text_requested, tfrules_all};
 ghost use Rattle.lint_command.specs.declared.usage.Usage.TheVariants.{BadNaming, BadSeverity, OutOfMemory};
 
 use crate::usage::Usage;
@@ -94,7 +94,7 @@ fn rules_taken(text: Option<&str>) -> Result<Option<RuleSet>, Usage>
 /// The naming that a text requests, if there is one.
 fn naming_taken(text: Option<&str>) -> Result<Option<Naming>, Usage>
     ensures { result
-        ≡ taken BadNaming (option_map naming_of_text (option_map (λ text. text.now) text.entry)) }
+        ≡ value_or_usage BadNaming (option_map naming_of_text (option_map (λ text. text.now) text.entry)) }
 {
     let Some(text) = text else {
         return Ok(None);
@@ -108,7 +108,7 @@ fn naming_taken(text: Option<&str>) -> Result<Option<Naming>, Usage>
 /// The severity that a text requests, if there is one.
 fn severity_taken(text: Option<&str>) -> Result<Option<Severity>, Usage>
     ensures { result
-        ≡ taken BadSeverity (option_map severity_of_text
+        ≡ value_or_usage BadSeverity (option_map severity_of_text
         (option_map (λ text. text.now) text.entry)) }
 {
     let Some(text) = text else {

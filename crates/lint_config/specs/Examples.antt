@@ -3,16 +3,16 @@ use Rattle.std.specs.Prelude.{◌≡◌, ℕ, refl, true, List, [], ◌∷◌, S
 use Rattle.std.specs.Str.{chars, trim_end, trim_start}
 use Rattle.std.specs.Str.Lossy.{utf8_lossy}
 use Rattle.tf_rules.specs.declared.naming.Naming.TheVariants.{MixedSnakeCase}
-use Rattle.lint_config.specs.Lines.{bare, nothing, parts, with_line}
+use Rattle.lint_config.specs.Lines.{without_comment, no_options, parts, with_line}
 use Rattle.lint_config.specs.Reads.{read_text}
 use Rattle.lint_config.specs.Texts.{fault_words}
 use Rattle.lint_config.specs.declared.fault.ConfigFault.TheVariants.{UnknownOption, GivenTwice, UnknownRule, NoRuleLeft, UnknownNaming, UnknownSeverity}
 
-no_comment : bare (codes "  --force # so\r") ≡ codes "--force"
+no_comment : without_comment (codes "  --force # so\r") ≡ codes "--force"
 unfolding chars trim_start trim_end lib.Utf8.encode
 no_comment = refl
 
-blank : with_line nothing (codes " \t# all\r") ≡ Ok nothing
+blank : with_line no_options (codes " \t# all\r") ≡ Ok no_options
 unfolding chars trim_start trim_end lib.Utf8.encode
 blank = refl
 
@@ -32,39 +32,39 @@ alone : parts (codes "--force") ≡ (codes "--force", [])
 unfolding chars trim_start trim_end lib.Utf8.encode
 alone = refl
 
-bogus : with_line nothing (codes "--null") ≡ Err UnknownOption
+bogus : with_line no_options (codes "--null") ≡ Err UnknownOption
 unfolding chars trim_start trim_end lib.Utf8.encode
 bogus = refl
 
-bare_word : with_line nothing (codes "force") ≡ Err UnknownOption
+bare_word : with_line no_options (codes "force") ≡ Err UnknownOption
 unfolding chars trim_start trim_end lib.Utf8.encode
 bare_word = refl
 
-valueless : with_line nothing (codes "--rules") ≡ Err UnknownRule
+valueless : with_line no_options (codes "--rules") ≡ Err UnknownRule
 unfolding chars trim_start trim_end lib.Utf8.encode
 valueless = refl
 
-none_left : with_line nothing (codes "--rules default,-all") ≡ Err NoRuleLeft
+none_left : with_line no_options (codes "--rules default,-all") ≡ Err NoRuleLeft
 unfolding chars trim_start trim_end lib.Utf8.encode
 none_left = refl
 
-two_on_a_line : with_line nothing (codes "--naming snake_case --force") ≡ Err UnknownNaming
+two_on_a_line : with_line no_options (codes "--naming snake_case --force") ≡ Err UnknownNaming
 unfolding chars trim_start trim_end lib.Utf8.encode
 two_on_a_line = refl
 
-not_severe : with_line nothing (codes "--minimum-failure-severity *") ≡ Err UnknownSeverity
+not_severe : with_line no_options (codes "--minimum-failure-severity *") ≡ Err UnknownSeverity
 unfolding chars trim_start trim_end lib.Utf8.encode
 not_severe = refl
 
-checked : with_line nothing (codes "--check-comments # so") ≡ Ok (record nothing { checks = true })
+checked : with_line no_options (codes "--check-comments # so") ≡ Ok (record no_options { checks = true })
 unfolding chars trim_start trim_end lib.Utf8.encode
 checked = refl
 
-checked_twice : with_line (record nothing { checks = true }) (codes "--check-comments") ≡ Err GivenTwice
+checked_twice : with_line (record no_options { checks = true }) (codes "--check-comments") ≡ Err GivenTwice
 unfolding chars trim_start trim_end lib.Utf8.encode
 checked_twice = refl
 
-forced_so : with_line nothing (codes "--force=yes") ≡ Err UnknownOption
+forced_so : with_line no_options (codes "--force=yes") ≡ Err UnknownOption
 unfolding chars trim_start trim_end lib.Utf8.encode
 forced_so = refl
 
@@ -72,7 +72,7 @@ forced_so = refl
 abbrev few : List ℕ
 few = codes "--x\n--force\n--naming=mixed_snake_case\n--force"
 
-all_bad_lines : read_text few ≡ record { said = record nothing { naming = Some MixedSnakeCase; force = true }; lines = 4; faults = (1, utf8_lossy (codes "no option of a project: \"--x\"")) ∷ (4, utf8_lossy (codes "given twice: \"--force\"")) ∷ [] }
+all_bad_lines : read_text few ≡ record { said = record no_options { naming = Some MixedSnakeCase; force = true }; lines = 4; faults = (1, utf8_lossy (codes "no option of a project: \"--x\"")) ∷ (4, utf8_lossy (codes "given twice: \"--force\"")) ∷ [] }
 unfolding chars trim_start trim_end lib.Utf8.encode
 all_bad_lines = refl
 

@@ -20,14 +20,14 @@ pub record Options : Type 0 where
   pub force : Bool
   pub checks : Bool
 
-abbrev pub nothing : Options
-nothing = record { rules = None; naming = None; minimum = None; force = false; checks = false }
+abbrev pub no_options : Options
+no_options = record { rules = None; naming = None; minimum = None; force = false; checks = false }
 
 -- ---- the parts of a line
 
 -- a line without its comment, and without surrounding white space
-abbrev pub bare : List ℕ → List ℕ
-bare line = trim (before_first (λ b. b == 35) line)
+abbrev pub without_comment : List ℕ → List ℕ
+without_comment line = trim (before_first (λ b. b == 35) line)
 
 -- cut at the first of a byte, or other parts without one
 abbrev pub cut_or : ℕ → List ℕ → List ℕ × List ℕ → List ℕ × List ℕ
@@ -74,5 +74,5 @@ with_option said name value =
 -- THE OPTIONS after another line: an empty one adds nothing
 abbrev pub with_line : Options → List ℕ → Result Options ConfigFault
 with_line said line =
-    if length (bare line) == 0 then Ok said
-    else with_option said (parts (bare line)).0 (parts (bare line)).1
+    if length (without_comment line) == 0 then Ok said
+    else with_option said (parts (without_comment line)).0 (parts (without_comment line)).1

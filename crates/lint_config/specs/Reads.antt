@@ -1,7 +1,7 @@
 -- The lines of a `.tfrules` together. Our own choice.
 use Rattle.std.specs.Prelude.{ℕ, ◌+◌, ◌==◌, List, [], ◌∷◌, ◌++◌, Result, Ok, Err, fold}
 use Rattle.std.specs.List.{slice_split}
-use Rattle.lint_config.specs.Lines.{Options, nothing, with_line}
+use Rattle.lint_config.specs.Lines.{Options, no_options, with_line}
 use Rattle.lint_config.specs.Texts.{fault_words}
 use Rattle.lint_config.specs.declared.fault.ConfigFault.{ConfigFault}
 
@@ -27,7 +27,7 @@ read_line r line = read_by r line (with_line r.said line)
 abbrev pub read_text : List ℕ → Read
 read_text text =
     fold read_line (record {
-      said = nothing;
+      said = no_options;
       lines = 0;
       faults = [];
     }) (slice_split (λ b. b == 10) text)

@@ -3,7 +3,7 @@ use Rattle.std.specs.Prelude.{ℕ, List, ◌++◌, codes}
 use Rattle.std.specs.Str.Lossy.{utf8_lossy}
 use Rattle.file_tree.specs.Quotes.{in_quotes}
 use Rattle.rule_lists.specs.Lists.{unknown_in}
-use Rattle.lint_config.specs.Lines.{bare, parts}
+use Rattle.lint_config.specs.Lines.{without_comment, parts}
 use Rattle.lint_config.specs.declared.fault.ConfigFault.{ConfigFault}
 use Rattle.lint_config.specs.declared.fault.ConfigFault.TheVariants.{UnknownOption, GivenTwice, UnknownRule, NoRuleLeft, UnknownNaming, UnknownSeverity}
 
@@ -24,7 +24,7 @@ word_in _ (name, value) = value
 
 -- the wrong word of a line
 abbrev pub wrong_word : ConfigFault → List ℕ → List ℕ
-wrong_word fault line = word_in fault (parts (bare line))
+wrong_word fault line = word_in fault (parts (without_comment line))
 
 -- THE MESSAGE, with that word between double quotes: all of a line is UTF-8, so nothing is replaced
 abbrev pub fault_words : ConfigFault → List ℕ → List ℕ

@@ -3,7 +3,7 @@
 ghost use Rattle.std.specs.Prelude.{◌≡◌, IfOk, string_bytes};
 ghost use Rattle.lint_config.specs.Texts.{fault_words, reason, wrong_word};
 
-use crate::parts::{bare, parts};
+use crate::parts::{without_comment, parts};
 use file_tree::quote::push_in_quotes;
 use rule_lists::unknown_in;
 use std::alloc::{AllocError, Global};
@@ -44,7 +44,7 @@ impl ConfigFault {
     fn word(self, line: &str) -> &str
         ensures { result.now ≡ wrong_word self line.now }
     {
-        let parts = parts(bare(line));
+        let parts = parts(without_comment(line));
         match self {
             ConfigFault::UnknownOption | ConfigFault::GivenTwice => parts.name,
             ConfigFault::UnknownRule => unknown_in(parts.value),

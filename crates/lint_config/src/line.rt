@@ -6,7 +6,7 @@ ghost use Rattle.lint_config.specs.Inner.Given.{with_checks, with_force, with_mi
 ghost use Rattle.lint_config.specs.Options.{options_of, said_by};
 
 use crate::fault::ConfigFault;
-use crate::parts::{bare, parts};
+use crate::parts::{without_comment, parts};
 use crate::said::Said;
 use rule_lists::{ListFault, rules_in};
 use tfrules_command::options::{naming_of_text, severity_of_text};
@@ -127,7 +127,7 @@ fn with_option(said: Said, name: &str, value: &str) -> Result<Said, ConfigFault>
 pub(crate) fn with_line(said: Said, line: &str) -> Result<Said, ConfigFault>
     ensures { said_by result ≡ with_line (options_of said) line.now }
 {
-    let text = bare(line);
+    let text = without_comment(line);
     if text.is_empty() {
         return Ok(said);
     }

@@ -1,12 +1,12 @@
 //! The parts of a line.
 
 ghost use Rattle.std.specs.Prelude.{◌≡◌, ◌<◌};
-ghost use Rattle.lint_config.specs.Lines.{bare, cut_or, parts};
+ghost use Rattle.lint_config.specs.Lines.{without_comment, cut_or, parts};
 ghost use Rattle.lint_config.specs.Inner.Cut.{cut_of};
 
 /// A line without its comment, and without surrounding white space.
-pub(crate) fn bare(line: &str) -> &str
-    ensures { result.now ≡ bare line.now }
+pub(crate) fn without_comment(line: &str) -> &str
+    ensures { result.now ≡ without_comment line.now }
 {
     match line.split_once('#') {
         Some((front, _)) => front.trim(),

@@ -11,7 +11,7 @@ use Rattle.json.specs.Token as token
 use Rattle.json.specs.Tree.{items_tokens, json_tokens}
 use Rattle.json.proofs.Printed.Tokens.{print_from-append}
 use Rattle.json.proofs.Printed.Trees.{document-print}
-use Rattle.lint_forms.specs.Forms.{form_foot, form_head, is_some, module_text, modules_text, tflint_foot, whole}
+use Rattle.lint_forms.specs.Forms.{form_foot, form_head, is_some, module_text, modules_text, tflint_foot, run_text}
 use Rattle.lint_forms.specs.Gitlab.{gitlab_json, quality_json}
 use Rattle.lint_forms.specs.Laws.{HasSmallNumbers}
 use Rattle.lint_forms.specs.Marks.{Entry, entries}
@@ -85,7 +85,7 @@ print-array before js later opened =
 -- a whole of three parts
 framed : (form : Form) (version : List ℕ) (status : ℕ) (ms : List (List Remark)) (rs : List Remark) (f : List Remark → List Json) (j : Json) → IsOfValues form f
     → print (json_tokens j) ≡ form_head form version ++ (array_text false (flat_map f ms) ++ form_foot form status (has_values (flat_map f ms)) rs)
-    → whole form version status ms rs ≡ print (json_tokens j)
+    → run_text form version status ms rs ≡ print (json_tokens j)
 framed form version status ms rs f j h parts =
     ap (λ l. form_head form version ++ (l ++ form_foot form status (list_any is_some ms) rs)) (modules-values form f h false ms)
     ∙ ap (λ b. form_head form version ++ (array_text false (flat_map f ms) ++ form_foot form status b rs)) (some-values form f h ms)
@@ -102,7 +102,7 @@ tflint_parts issues refusals =
     ∙ ap (λ l. print before ++ (array_text false (map issue_json issues) ++ l)) (print-array (end_array ∷ key (codes "errors") ∷ begin_array ∷ []) errors (end_object ∷ []) refl)
 
 pub tflint_back : (version : List ℕ) (status : ℕ) (ms : List (List Remark)) (rs : List Remark) → status < 2 ^ 64 → All (All HasSmallNumbers) ms → All HasSmallNumbers rs
-    → document (whole TflintForm version status ms rs) ≡ Some (tflint_json (flat_map (λ issues. issues) ms) rs)
+    → document (run_text TflintForm version status ms rs) ≡ Some (tflint_json (flat_map (λ issues. issues) ms) rs)
 tflint_back version status ms rs low small less =
     let issues = flat_map (λ issues. issues) ms in
     let parts = tflint_parts issues rs ∙ ap (λ js. print (begin_object ∷ key (codes "issues") ∷ begin_array ∷ []) ++ (array_text false js ++ tflint_foot rs)) (sym (mapped issue_json (λ issues. issues) ms)) in
@@ -127,7 +127,7 @@ gitlab_parts es =
     ap (λ l. print (begin_array ∷ l)) (sym (append-nil (items_tokens (json_items (map quality_json es))))) ∙ print-array (begin_array ∷ []) (map quality_json es) [] refl
 
 pub gitlab_back : (version : List ℕ) (status : ℕ) (ms : List (List Remark)) (rs : List Remark) → status < 2 ^ 64 → All (All HasSmallNumbers) ms → All HasSmallNumbers rs
-    → document (whole Gitlab version status ms rs) ≡ Some (gitlab_json (flat_map entries ms ++ entries rs))
+    → document (run_text Gitlab version status ms rs) ≡ Some (gitlab_json (flat_map entries ms ++ entries rs))
 gitlab_back version status ms rs low small less =
     let es = flat_map entries ms ++ entries rs in
     ap document (framed Gitlab version status ms rs (λ issues. map quality_json (entries issues)) (gitlab_json es) gitlab_values
@@ -166,7 +166,7 @@ sarif_parts version status es =
     ∙ print-array (sarif_head version) results (later_of status) (fold-append (λ _ t. ends t) false (json_tokens (tool_json version)) (middle []))
 
 pub sarif_back : (version : List ℕ) (status : ℕ) (ms : List (List Remark)) (rs : List Remark) → status < 2 ^ 64 → All (All HasSmallNumbers) ms → All HasSmallNumbers rs
-    → document (whole Sarif version status ms rs) ≡ Some (sarif_json version status (flat_map entries ms ++ entries rs))
+    → document (run_text Sarif version status ms rs) ≡ Some (sarif_json version status (flat_map entries ms ++ entries rs))
 sarif_back version status ms rs low small less =
     let es = flat_map entries ms ++ entries rs in
     ap document (framed Sarif version status ms rs (λ issues. map result_json (entries issues)) (sarif_json version status es) sarif_values

@@ -66,7 +66,7 @@ modules_text form is_after (rs ∷ ms) =
     module_text form is_after rs ++ modules_text form (is_after || is_some rs) ms
 
 -- THE TEXT of a run in which these are the issues of modules, and the refusals
-abbrev pub whole : Form → List ℕ → ℕ → List (List Remark) → List Remark → List ℕ
-whole form version status ms rs =
+abbrev pub run_text : Form → List ℕ → ℕ → List (List Remark) → List Remark → List ℕ
+run_text form version status ms rs =
     form_head form version
     ++ (modules_text form false ms ++ form_foot form status (list_any is_some ms) rs)

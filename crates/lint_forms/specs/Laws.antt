@@ -2,7 +2,7 @@
 use Rattle.std.specs.Prelude.{◌≡◌, ◌++◌, ℕ, ◌<◌, ◌^◌, All, List, Some}
 use Rattle.std.specs.List.{flat_map}
 use Rattle.json.specs.Json.{Json as JsonValue, document}
-use Rattle.lint_forms.specs.Forms.{whole}
+use Rattle.lint_forms.specs.Forms.{run_text}
 use Rattle.lint_forms.specs.Gitlab.{gitlab_json}
 use Rattle.lint_forms.specs.Marks.{entries}
 use Rattle.lint_forms.specs.Remarks.{Remark}
@@ -21,7 +21,7 @@ abbrev pub ReadsBack : Form → (List ℕ → ℕ → List (List Remark) → Lis
 ReadsBack form meant =
     (version : List ℕ) (status : ℕ) (ms : List (List Remark)) (rs : List Remark) → status < 2 ^ 64
     → All (All HasSmallNumbers) ms → All HasSmallNumbers rs
-    → document (whole form version status ms rs) ≡ Some (meant version status ms rs)
+    → document (run_text form version status ms rs) ≡ Some (meant version status ms rs)
 
 abbrev pub TflintReadsBack : Type 0
 TflintReadsBack =

@@ -53,17 +53,17 @@ rule_json rule =
     (reason rule) (page_of (rule_name rule)) (level_word (subject.Rule rule))
 
 -- the substitute for a rule, with less text: its name and its text
-abbrev pub briefly : List ℕ → List ℕ → Json
-briefly name short =
+abbrev pub brief_rule : List ℕ → List ℕ → Json
+brief_rule name short =
     object (member (codes "id") (string name) (member (codes "shortDescription") (text_json short)
     (member (codes "defaultConfiguration") (configuration_json (codes "error")) no_members)))
 
 abbrev pub refusal_json : Json
-refusal_json = briefly (rule_id subject.Refusal) (codes "files that can't be linted")
+refusal_json = brief_rule (rule_id subject.Refusal) (codes "files that can't be linted")
 
 abbrev pub comment_json : Json
 comment_json =
-    briefly (rule_id subject.Comment) (codes "comments that are meant to silence a rule and don't")
+    brief_rule (rule_id subject.Comment) (codes "comments that are meant to silence a rule and don't")
 
 -- ---- results
 

@@ -4,7 +4,7 @@ ghost use Rattle.std.specs.Prelude.{◌≡◌, ◌+◌, ◌++◌, ◌∷◌, [],
 ghost use Rattle.sha2.specs.Sha256.{sha256};
 ghost use Rattle.lint_forms.specs.Marks.{digits, entries, mark, mark_key};
 ghost use Rattle.lint_forms.specs.Remarks.{said_by};
-ghost use Rattle.lint_forms.specs.Inner.Numbering.{OnceMore, came};
+ghost use Rattle.lint_forms.specs.Inner.Numbering.{OnceMore, times_seen};
 ghost use Rattle.lint_forms.specs.Inner.Shapes.{entry_by};
 
 use crate::remark::Remark;
@@ -43,7 +43,7 @@ fn digits_of(alloc: Global, remark: Remark<'_>) -> Result<String, AllocError>
 
 /// How often these digits occurred, including this time.
 fn count(times: &mut Times, digits: String) -> Result<usize, AllocError>
-    ensures number { IfOk result (λ n. n ≡ came times.old (string_bytes digits) + 1) }
+    ensures number { IfOk result (λ n. n ≡ times_seen times.old (string_bytes digits) + 1) }
     ensures counted { OnOk result (OnceMore times.old times.new (string_bytes digits)) }
 {
     let before = times.get(digits.as_str()).copied().unwrap_or(0);
@@ -72,7 +72,7 @@ fn add<'a>(
         ++ record {
           said = said_by remark.entry;
           mark = mark (digits (said_by remark.entry))
-              (came times.old (digits (said_by remark.entry)) + 1);
+              (times_seen times.old (digits (said_by remark.entry)) + 1);
         } ∷ []) }
 {
     let digits = digits_of(alloc, remark)?;

@@ -8,7 +8,7 @@ ghost use Rattle.lint_forms.specs.Inner.AddsTokens.{AddsTokens};
 ghost use Rattle.lint_forms.specs.Inner.Shapes.{entry_by};
 ghost use Rattle.lint_forms.specs.Inner.SarifParts.{results_head, rules_tokens, sarif_start};
 ghost use Rattle.lint_forms.specs.Remarks.{said_by};
-ghost use Rattle.lint_forms.specs.Sarif.{briefly, described_rule, full_text, page_of, result_by, result_json, rule_index, rule_json, sarif_foot, sarif_head};
+ghost use Rattle.lint_forms.specs.Sarif.{brief_rule, described_rule, full_text, page_of, result_by, result_json, rule_index, rule_json, sarif_foot, sarif_head};
 ghost use Rattle.lint_forms.specs.Values.{json_text};
 ghost use Rattle.lint_forms.specs.Words.{level_word, rule_id};
 
@@ -202,7 +202,7 @@ fn write_rule(alloc: Global, writer: &mut Writer, rule: Rule) -> Result<(), Allo
 
 /// The document's description of a rule's substitute, by this name and text.
 fn write_briefly<'a>(writer: &mut Writer, name: &'a str, short: &'a str) -> Result<(), AllocError>
-    ensures { AddsTokens result writer.old writer.new (json_tokens (briefly name.now short.now)) }
+    ensures { AddsTokens result writer.old writer.new (json_tokens (brief_rule name.now short.now)) }
 {
     write_parts(
         writer,

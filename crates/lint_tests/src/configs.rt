@@ -374,7 +374,7 @@ static ROWS: [Row; 25] = [
 
 /// Whether a failed call was for finding or reading a `.tfrules`: these use full paths, or ask for them.
 fn fails_a_search(calls: &Calls) -> bool {
-    match calls.failed() {
+    match calls.failed_step() {
         Some(Step::FullPath) => true,
         Some(_) => calls.failed_name().starts_with(b"/"),
         None => false,

@@ -395,13 +395,13 @@ pub(crate) fn shows_on(
         &mut input,
         &mut streams,
     );
-    shown(rt, streams.out.bytes(), row.out, row);
-    shown(rt, streams.err.bytes(), row.err, row);
+    check_stream(rt, streams.out.bytes(), row.out, row);
+    check_stream(rt, streams.err.bytes(), row.err, row);
     assert_eq!(rt; status, row.status, "of {:?}", row.words);
 }
 
 /// Checks that a stream has these bytes.
-fn shown(rt: &impl Abort, found: &[u8], wanted: &[u8], row: &Row) {
+fn check_stream(rt: &impl Abort, found: &[u8], wanted: &[u8], row: &Row) {
     assert_eq!(rt; found, wanted, "of {:?}", row.words);
 }
 
@@ -483,7 +483,7 @@ static FAILING: [FailingRun; 2] = [
 const UNREAD: &[u8] = b"a\0";
 
 /// The output of a run with this call of the tree failing, and whether one failed. It leaves standard input alone.
-fn failing(rt: &impl Abort, alloc: Global, words: Words, call: usize) -> (u8, bool, bool) {
+fn run_failing(rt: &impl Abort, alloc: Global, words: Words, call: usize) -> (u8, bool, bool) {
     let failures = Failures {
         call: Some(call),
         ..STEADY
@@ -497,7 +497,7 @@ fn failing(rt: &impl Abort, alloc: Global, words: Words, call: usize) -> (u8, bo
     };
     let status = program(alloc, words, PIPES, &mut files, &mut input, &mut streams);
     assert_eq!(rt; input.rest(), UNREAD, "standard input of {:?}", words);
-    let has_failed = files.tree.calls().failed().is_some();
+    let has_failed = files.tree.calls().failed_step().is_some();
     (status, has_failed, !streams.err.bytes().is_empty())
 }
 
@@ -505,7 +505,7 @@ fn failing(rt: &impl Abort, alloc: Global, words: Words, call: usize) -> (u8, bo
 fn failed_calls(rt: &impl Abort, alloc: Global, words: Words) -> u64 {
     let mut count: u64 = 0;
     for call in 0..100 {
-        let (status, has_failed, is_told) = failing(rt, alloc, words, call);
+        let (status, has_failed, is_told) = run_failing(rt, alloc, words, call);
         let wanted = if has_failed { 1 } else { 2 };
         assert!(rt;
             status == wanted && is_told == has_failed,

@@ -110,7 +110,7 @@ struct Shown {
 }
 
 /// A run in which nothing fails.
-fn steady(modules: Modules) -> Given {
+fn steady_run(modules: Modules) -> Given {
     Given {
         modules,
         minimum: Severity::Notice,
@@ -199,16 +199,16 @@ fn shows(rt: &impl Abort, alloc: Global, given: Given, out: &str, err: &str, sta
 
 #[test]
 fn a_refused_module_stops_no_other(rt: HostRuntime) {
-    shows(&rt, rt.alloc(), steady(ALL), BOTH_REPORTS, B_REFUSAL, 1);
+    shows(&rt, rt.alloc(), steady_run(ALL), BOTH_REPORTS, B_REFUSAL, 1);
 }
 
 #[test]
 fn the_status_is_the_worst(rt: HostRuntime) {
-    shows(&rt, rt.alloc(), steady(C_ALONE), "", "", 0);
-    shows(&rt, rt.alloc(), steady(D_BETWEEN), D_REPORT, "", 2);
-    shows(&rt, rt.alloc(), steady(B_THEN_D), D_REPORT, B_REFUSAL, 1);
-    shows(&rt, rt.alloc(), steady(EMPTY_THEN_A), A_REPORT, "", 2);
-    shows(&rt, rt.alloc(), steady(NONE), "", "", 0);
+    shows(&rt, rt.alloc(), steady_run(C_ALONE), "", "", 0);
+    shows(&rt, rt.alloc(), steady_run(D_BETWEEN), D_REPORT, "", 2);
+    shows(&rt, rt.alloc(), steady_run(B_THEN_D), D_REPORT, B_REFUSAL, 1);
+    shows(&rt, rt.alloc(), steady_run(EMPTY_THEN_A), A_REPORT, "", 2);
+    shows(&rt, rt.alloc(), steady_run(NONE), "", "", 0);
 }
 
 #[test]
@@ -270,7 +270,7 @@ fn a_failed_write_ends_the_run(rt: HostRuntime) {
 
 /// This many modules without issues, and one with an issue after them.
 fn many(alloc: Global, count: usize) -> Result<Vec<Governed>, AllocError> {
-    let given = steady(NONE);
+    let given = steady_run(NONE);
     let mut modules = Vec::new(alloc);
     for _ in 0..count {
         modules.push(governed_of(alloc, &given, &["c/main.tf"])?)?;
@@ -280,8 +280,8 @@ fn many(alloc: Global, count: usize) -> Result<Vec<Governed>, AllocError> {
 }
 
 /// One module of this many files.
-fn large(alloc: Global, count: usize) -> Result<Vec<Governed>, AllocError> {
-    let given = steady(NONE);
+fn large_module(alloc: Global, count: usize) -> Result<Vec<Governed>, AllocError> {
+    let given = steady_run(NONE);
     let mut one = governed_of(alloc, &given, &["c/main.tf"])?;
     for _ in 1..count {
         one.module
@@ -297,15 +297,15 @@ fn large(alloc: Global, count: usize) -> Result<Vec<Governed>, AllocError> {
 #[test]
 fn many_modules_are_linted(rt: HostRuntime) {
     let modules = many(rt.alloc(), 1000).expect(&rt, "memory");
-    let shown = run(rt.alloc(), &steady(NONE), modules.as_slice()).expect(&rt, "memory");
+    let shown = run(rt.alloc(), &steady_run(NONE), modules.as_slice()).expect(&rt, "memory");
     same_bytes(&rt, shown.out.bytes(), A_REPORT.as_bytes(), A_ALONE);
     same_number(&rt, u64::from(shown.end.status), 2, A_ALONE);
 }
 
 #[test]
 fn too_many_files_are_told(rt: HostRuntime) {
-    let modules = large(rt.alloc(), 257).expect(&rt, "memory");
-    let shown = run(rt.alloc(), &steady(NONE), modules.as_slice()).expect(&rt, "memory");
+    let modules = large_module(rt.alloc(), 257).expect(&rt, "memory");
+    let shown = run(rt.alloc(), &steady_run(NONE), modules.as_slice()).expect(&rt, "memory");
     same_bytes(&rt, shown.out.bytes(), A_REPORT.as_bytes(), A_ALONE);
     same_bytes(
         &rt,
@@ -331,26 +331,26 @@ fn issues_and_modules_are_counted(rt: HostRuntime) {
         reported: 2,
         issues: 4,
     };
-    counts(&rt, rt.alloc(), steady(ALL), all);
+    counts(&rt, rt.alloc(), steady_run(ALL), all);
     let one = Counts {
         modules: 1,
         refused: 0,
         reported: 1,
         issues: 1,
     };
-    counts(&rt, rt.alloc(), steady(EMPTY_THEN_A), one);
+    counts(&rt, rt.alloc(), steady_run(EMPTY_THEN_A), one);
     let none = Counts {
         modules: 0,
         refused: 0,
         reported: 0,
         issues: 0,
     };
-    counts(&rt, rt.alloc(), steady(NONE), none);
+    counts(&rt, rt.alloc(), steady_run(NONE), none);
 }
 
 #[test]
 fn each_module_is_linted_by_its_own_policy(rt: HostRuntime) {
-    let given = steady(A_THEN_D);
+    let given = steady_run(A_THEN_D);
     let mut modules = modules_of(rt.alloc(), &given).expect(&rt, "memory");
     for one in modules.iter_mut().skip(1) {
         one.policy.settings.rules = RuleSet::none();

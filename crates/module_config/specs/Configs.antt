@@ -12,7 +12,7 @@ use Rattle.lint_config.specs.Reads.{read_text}
 use Rattle.module_find.specs.declared.module.Module.{Module}
 use Rattle.tree_lint.specs.Verdicts.{bytes_of_name}
 use Rattle.module_config.specs.Governors.{ArePlaced, IsStart, wants}
-use Rattle.module_config.specs.Settled.{governed_in, paired}
+use Rattle.module_config.specs.Settled.{governed_in, pair_of}
 use Rattle.module_config.specs.declared.config_file.ConfigFile.{ConfigFile}
 use Rattle.module_config.specs.declared.config_file.ConfigText.{ConfigText}
 use Rattle.module_config.specs.declared.config_file.ConfigText.TheVariants.{Says, Refused, Unread}
@@ -70,5 +70,5 @@ pub record Configures (files : Files) (line : Options) (reads : Bool) (modules :
   pub named : List Found
   pub names : AreInOrder (flat_map (λ p. file_in p.governor) placed) named
   pub read : AreRead files named c.files.items looked is
-  pub governed : map paired c.governed.items ≡ flat_map (governed_in line c.files.items) placed
+  pub governed : map pair_of c.governed.items ≡ flat_map (governed_in line c.files.items) placed
   pub unlinted : c.unlinted ≡ length modules - length c.governed.items

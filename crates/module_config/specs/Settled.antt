@@ -3,7 +3,7 @@
 use Rattle.std.specs.Prelude.{◌==◌, ◌||◌, Bool, List, [], ◌∷◌, Option, Some, None, filter, find, length, option_map, unwrap_or, if◌then◌else◌}
 use Rattle.std.specs.Str.{bytes_eq}
 use Rattle.file_tree.specs.Files.{Name}
-use Rattle.lint_config.specs.Lines.{Options, nothing}
+use Rattle.lint_config.specs.Lines.{Options, no_options}
 use Rattle.lint_config.specs.Options.{options_of}
 use Rattle.module_find.specs.declared.module.Module.{Module}
 use Rattle.rule_set.specs.Rules.{all_rules, is_recommended}
@@ -72,7 +72,7 @@ said_in files name = good_file (find (λ file. bytes_eq name file.name.items) fi
 
 -- THE OPTIONS by which a module is linted, unless its governor isn't known or is bad
 abbrev pub wanted_by : Options → List ConfigFile → Governor → Option Wanted
-wanted_by line files governor.Free = Some (policy_of line nothing)
+wanted_by line files governor.Free = Some (policy_of line no_options)
 wanted_by line files (governor.File name) = option_map (policy_of line) (said_in files name.items)
 wanted_by line files (governor.Unknown f) = None
 
@@ -83,5 +83,5 @@ with_wanted m (Some wanted) = (m, wanted) ∷ []
 abbrev pub governed_in : Options → List ConfigFile → Placed → List (Module × Wanted)
 governed_in line files p = with_wanted p.module (wanted_by line files p.governor)
 
-abbrev pub paired : Governed → Module × Wanted
-paired g = (g.module, wanted_of g.policy)
+abbrev pub pair_of : Governed → Module × Wanted
+pair_of g = (g.module, wanted_of g.policy)

@@ -3,7 +3,7 @@ use Rattle.std.specs.Prelude.{ℕ, ◌==◌, List, [], ◌++◌, Option, Some, N
 use Rattle.command_line.specs.Rows.{error, line}
 use Rattle.file_tree.specs.FaultTexts.{tree_fault_text}
 use Rattle.file_tree.specs.Files.{Name}
-use Rattle.file_tree.specs.Quotes.{quoted}
+use Rattle.file_tree.specs.Quotes.{shown_name}
 use Rattle.file_tree.specs.declared.fault.TreeFault.{TreeFault}
 use Rattle.file_tree.specs.declared.walk.Found.{Found}
 use Rattle.hcl_source.specs.FaultTexts.{fault_text}
@@ -21,7 +21,7 @@ abbrev pub line_words : BadLine → List ℕ
 line_words bad = codes ":" ++ (decimal bad.line ++ (codes ": " ++ line (string_bytes bad.text)))
 
 abbrev pub bad_line : Name → BadLine → List ℕ
-bad_line name bad = error tree_linter (quoted name ++ line_words bad)
+bad_line name bad = error tree_linter (shown_name name ++ line_words bad)
 
 -- what is wrong with a file
 abbrev pub text_lines : Name → ConfigText → List ℕ

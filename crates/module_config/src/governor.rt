@@ -197,7 +197,7 @@ fn file_over<T: Tree>(
 }
 
 /// The governor after a failed call.
-fn unknown(stuck: Stuck) -> Result<Governor, AllocError>
+fn unknown_governor(stuck: Stuck) -> Result<Governor, AllocError>
     ensures { IfOk result (IsUnknownBy stuck) }
 {
     match stuck {
@@ -219,12 +219,12 @@ fn governor_over<T: Tree>(
 {
     let path = match path_of(alloc, folder, tree) {
         Ok(path) => path,
-        Err(stuck) => return unknown(stuck),
+        Err(stuck) => return unknown_governor(stuck),
     };
     match file_over(alloc, current, path.as_slice(), tree) {
         Ok(Some(name)) => Ok(Governor::File(name)),
         Ok(None) => Ok(Governor::Free),
-        Err(stuck) => unknown(stuck),
+        Err(stuck) => unknown_governor(stuck),
     }
 }
 

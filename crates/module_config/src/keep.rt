@@ -56,7 +56,7 @@ fn keep_lines(alloc: Global, name: &[u8], all: &[BadLine], kept: &mut KeptRefusa
 fn keep_file(alloc: Global, start: &Start, file: &ConfigFile, kept: &mut KeptRefusals)
     ensures { KeepsAll kept.old kept.new (config_refusals start.now file.now) }
 {
-    let name = start.shown(file.name.as_slice());
+    let name = start.display_path(file.name.as_slice());
     match &file.text {
         ConfigText::Says(config) => keep_lines(alloc, name, config.faults.as_slice(), kept),
         ConfigText::Refused(fault) => kept.add(
@@ -97,7 +97,7 @@ fn keep_failure(alloc: Global, start: &Start, found: &Found, kept: &mut KeptRefu
         kept.add(
             alloc,
             Refusal {
-                name: start.shown(found.name.as_slice()),
+                name: start.display_path(found.name.as_slice()),
                 at: None,
                 text: fault.text(),
                 snippet: b"",

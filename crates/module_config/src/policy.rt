@@ -3,9 +3,9 @@
 ghost use Rattle.std.specs.Prelude.{◌≡◌, ◌++◌, IfOk, OnOk, find, flat_map, map, option_map, unwrap_or};
 ghost use Rattle.std.specs.Str.{bytes_eq};
 ghost use Rattle.rule_set.specs.RuleSets.{rules_of};
-ghost use Rattle.lint_config.specs.Lines.{nothing};
+ghost use Rattle.lint_config.specs.Lines.{no_options};
 ghost use Rattle.lint_config.specs.Options.{options_of};
-ghost use Rattle.module_config.specs.Settled.{default_rules, first_said, good_text, governed_in, paired, said_in, policy_of, wanted_by, wanted_of};
+ghost use Rattle.module_config.specs.Settled.{default_rules, first_said, good_text, governed_in, pair_of, said_in, policy_of, wanted_by, wanted_of};
 
 use crate::config_file::{ConfigFile, ConfigText};
 use crate::governor::{Governor, Placed};
@@ -110,8 +110,8 @@ fn add_governed(
     placed: Placed,
     governed: &mut Vec<Governed>,
 ) -> Result<(), AllocError>
-    ensures { OnOk result (map paired governed.new.items
-        ≡ map paired governed.old.items ++ governed_in (options_of line) files.now placed) }
+    ensures { OnOk result (map pair_of governed.new.items
+        ≡ map pair_of governed.old.items ++ governed_in (options_of line) files.now placed) }
 {
     let Some(policy) = policy_by(line, files, &placed.governor) else {
         return Ok(());
@@ -133,7 +133,7 @@ pub(crate) fn governed_of(
     files: &[ConfigFile],
     placed: Vec<Placed>,
 ) -> Result<Vec<Governed>, AllocError>
-    ensures { IfOk result (λ governed. map paired governed.items
+    ensures { IfOk result (λ governed. map pair_of governed.items
         ≡ flat_map (governed_in (options_of line) files.now) placed.items) }
 {
     let mut governed = Vec::new(alloc);

@@ -35,7 +35,7 @@ impl Start {
     }
 
     /// A full path as it is shown: from the current folder, if it is below it.
-    pub(crate) fn shown<'n>(&self, path: &'n [u8]) -> &'n [u8]
+    pub(crate) fn display_path<'n>(&self, path: &'n [u8]) -> &'n [u8]
         ensures { result.now ≡ shown_from self.now path.entry.now }
     {
         let Start::At(current) = self else {

@@ -2,7 +2,7 @@
 
 ghost use Rattle.std.specs.Prelude.{◌≡◌, ◌++◌, Some, false, flat_map, is_err};
 ghost use Rattle.command_line.specs.Rows.{Took, writer};
-ghost use Rattle.file_tree.specs.Quotes.{quoted};
+ghost use Rattle.file_tree.specs.Quotes.{shown_name};
 ghost use Rattle.module_config.specs.Words.{bad_line, config_lines, configured_words, failure_lines, line_words, unlinted_line};
 
 use crate::config_file::{ConfigFile, ConfigText};
@@ -32,7 +32,7 @@ fn tell_line_words<S: ByteSink>(sink: &mut S, bad: &BadLine) -> Result<(), Faile
 fn tell_named_line<S: ByteSink>(sink: &mut S, name: &[u8], bad: &BadLine) -> Result<(), Failed>
     requires { S.failed sink.old ≡ false }
     ensures took { Took (writer S.ByteSink sink.old sink.new)
-        (quoted name.now ++ line_words bad.now) }
+        (shown_name name.now ++ line_words bad.now) }
     ensures failed { S.failed sink.new ≡ is_err result }
 {
     if write_quoted(sink, name).is_err() {
@@ -72,7 +72,7 @@ fn tell_file<S: ByteSink>(sink: &mut S, start: &Start, file: &ConfigFile) -> Res
     ensures took { Took (writer S.ByteSink sink.old sink.new) (config_lines start.now file.now) }
     ensures failed { S.failed sink.new ≡ is_err result }
 {
-    let name = start.shown(file.name.as_slice());
+    let name = start.display_path(file.name.as_slice());
     match &file.text {
         ConfigText::Says(config) => tell_lines(sink, name, config.faults.as_slice()),
         ConfigText::Refused(fault) => tell_refusal(
@@ -119,7 +119,7 @@ fn tell_failure<S: ByteSink>(sink: &mut S, start: &Start, found: &Found) -> Resu
         Some(fault) => tell_refusal(
             sink,
             Refusal {
-                name: start.shown(found.name.as_slice()),
+                name: start.display_path(found.name.as_slice()),
                 at: None,
                 text: fault.text(),
                 snippet: b"",

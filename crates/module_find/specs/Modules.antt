@@ -108,8 +108,8 @@ fault_by None file name = name_fault file name
 fault_by (Some fault) file name = Some fault
 
 -- the found name, with the reason why it can't be linted
-abbrev pub judged : Found → Found
-judged f = record f { fault = fault_by f.fault f.file f.name.items }
+abbrev pub judge : Found → Found
+judge f = record f { fault = fault_by f.fault f.file f.name.items }
 
 -- it is a file of the module
 abbrev pub is_file_by : Option TreeFault → Name → Bool
@@ -120,7 +120,7 @@ abbrev pub file_of : Found → List Name
 file_of f = if is_file_by f.fault f.name.items then f.name.items ∷ [] else []
 
 abbrev pub file_in : Found → List Name
-file_in f = file_of (judged f)
+file_in f = file_of (judge f)
 
 -- the module isn't whole without it: it can't be linted, and is a file of the module, or a folder
 abbrev pub breaks_by : Option TreeFault → Name → Bool
@@ -128,10 +128,10 @@ breaks_by None name = false
 breaks_by (Some fault) name = is_of_module name
 
 abbrev pub is_sound : Found → Bool
-is_sound f = not (breaks_by (judged f).fault f.name.items)
+is_sound f = not (breaks_by (judge f).fault f.name.items)
 
 abbrev pub told_in : Found → List Found
-told_in f = lost_in (judged f)
+told_in f = lost_in (judge f)
 
 -- the module of a folder with these entries: its files, and whether it is whole; and the reports for the folder
 pub record IsModuleOf (name : Name) (found : List Found) (m : Module) (told : List Found) : Type 0

@@ -1,7 +1,7 @@
 //! The reports for small modules, worked out by hand.
 
 use crate::checks::holds;
-use crate::reports::{add, asking, has_issues};
+use crate::reports::{add, settings_for, has_issues};
 use std::alloc::{AllocError, Global};
 use std::process::Abort;
 use std::test::Fail;
@@ -56,7 +56,7 @@ fn reports(
     wanted: &str,
 ) -> Result<(), Fail> {
     let what = files.first().copied().unwrap_or("no file");
-    let settings = asking(rules_of(asked));
+    let settings = settings_for(rules_of(asked));
     let facts = facts_of(alloc, files)?;
     Ok(has_issues(rt, alloc, &facts, &settings, (wanted, what))?)
 }
@@ -280,7 +280,7 @@ fn fits_both(
 }
 
 /// The stored facts of a module with this name in a label.
-fn named(alloc: Global, name: &str) -> Result<Facts, Fail> {
+fn facts_with_name(alloc: Global, name: &str) -> Result<Facts, Fail> {
     let mut text = String::new(alloc);
     push_between(&mut text, ("variable \"", "\" {}\n"), name)?;
     facts_of(alloc, &[text.as_str()])
@@ -293,7 +293,7 @@ fn fits_in_a_label(
     name: &str,
     namings: (bool, bool),
 ) -> Result<(), Fail> {
-    let facts = named(alloc, name)?;
+    let facts = facts_with_name(alloc, name)?;
     Ok(fits_both(rt, &facts, name, namings)?)
 }
 

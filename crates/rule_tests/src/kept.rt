@@ -1,6 +1,6 @@
 //! The stored facts of small files, by their issues, worked out by hand.
 
-use crate::reports::{add, asking, has_issues};
+use crate::reports::{add, settings_for, has_issues};
 use std::alloc::{AllocError, Global};
 use std::process::Abort;
 use std::test::Fail;
@@ -48,7 +48,7 @@ fn reports(
     facts: &Facts,
     wanted: &[&str],
 ) -> Result<(), AllocError> {
-    let settings = asking(RuleSet::all());
+    let settings = settings_for(RuleSet::all());
     let mut all = String::new(alloc);
     push_all(&mut all, wanted)?;
     has_issues(rt, alloc, facts, &settings, (all.as_str(), "kept files"))

@@ -9,7 +9,7 @@ use std::test::Fail;
 use tf_rules::{Facts, Issue, Naming, RuleSet, Settings};
 
 /// These rules with names in snake case.
-pub(crate) fn asking(rules: RuleSet) -> Settings {
+pub(crate) fn settings_for(rules: RuleSet) -> Settings {
     Settings {
         rules,
         naming: Naming::SnakeCase,

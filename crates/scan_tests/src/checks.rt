@@ -12,7 +12,7 @@ pub(crate) fn holds(rt: &impl Abort, is_so: bool, what: &str) {
 }
 
 /// Checks that two values are the same.
-pub(crate) fn same<T: Debug + PartialEq>(rt: &impl Abort, found: &T, wanted: &T, what: &str) {
+pub(crate) fn check_same<T: Debug + PartialEq>(rt: &impl Abort, found: &T, wanted: &T, what: &str) {
     assert!(rt; *found == *wanted, "{found:?}, not {wanted:?}, at {what}");
 }
 
@@ -35,7 +35,7 @@ pub(crate) fn reads<S: ByteSource>(
 ) {
     assert!(rt; !source.has_failed());
     let answer = source.read(buffer);
-    same(rt, &answer, &wanted, "a read");
+    check_same(rt, &answer, &wanted, "a read");
     holds(rt, source.has_failed() == wanted.is_err(), "has_failed");
 }
 
@@ -48,7 +48,7 @@ pub(crate) fn writes<S: ByteSink>(
 ) {
     assert!(rt; !sink.has_failed());
     let answer = sink.write(bytes);
-    same(rt, &answer, &wanted, "a write");
+    check_same(rt, &answer, &wanted, "a write");
     holds(rt, sink.has_failed() == wanted.is_err(), "has_failed");
 }
 
@@ -61,7 +61,7 @@ pub(crate) fn writes_fully<S: ByteSink>(
 ) {
     assert!(rt; !sink.has_failed());
     let answer = write_fully(sink, bytes);
-    same(rt, &answer, &wanted, "write_fully");
+    check_same(rt, &answer, &wanted, "write_fully");
     holds(rt, sink.has_failed() == wanted.is_err(), "has_failed");
 }
 
@@ -69,6 +69,6 @@ pub(crate) fn writes_fully<S: ByteSink>(
 pub(crate) fn flushes<S: ByteSink>(rt: &impl Abort, sink: &mut S, wanted: Result<(), Failed>) {
     assert!(rt; !sink.has_failed());
     let answer = sink.flush();
-    same(rt, &answer, &wanted, "a flush");
+    check_same(rt, &answer, &wanted, "a flush");
     holds(rt, sink.has_failed() == wanted.is_err(), "has_failed");
 }

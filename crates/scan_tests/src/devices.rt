@@ -1,7 +1,7 @@
 //! Devices over readers and writers of std that fail once and then work. No contract sees how often a device calls the
 //! reader or writer below it.
 
-use crate::checks::{flushes, holds, reads, same, same_bytes, writes_fully};
+use crate::checks::{flushes, holds, reads, check_same, same_bytes, writes_fully};
 use hcl_source::{Failed, FromRead, LoadError, Source, ToWrite, WriteFault};
 use std::alloc::Global;
 use std::io;
@@ -99,8 +99,8 @@ fn choppy_writer(alloc: Global, bad_write: u32, bad_flush: u32, kind: Option<Err
 
 /// Checks how often the writer was called, and the bytes that it has taken.
 fn was_called(rt: &impl Abort, writer: &Choppy, writes: u32, flushes: u32, taken: &[u8]) {
-    same(rt, &writer.writes, &writes, "the count of writes");
-    same(rt, &writer.flushes, &flushes, "the count of flushes");
+    check_same(rt, &writer.writes, &writes, "the count of writes");
+    check_same(rt, &writer.flushes, &flushes, "the count of flushes");
     same_bytes(rt, writer.taken.as_slice(), taken, "the bytes taken");
 }
 
@@ -112,7 +112,7 @@ fn a_failed_read_is_not_tried_again(rt: HostRuntime) {
         let mut buffer = [0; 8];
         reads(&rt, &mut from, &mut buffer, Ok(1));
         reads(&rt, &mut from, &mut buffer, Err(Failed));
-        same(&rt, &reader.calls, &2, "the count of reads");
+        check_same(&rt, &reader.calls, &2, "the count of reads");
         same_bytes(&rt, reader.bytes, b"=1\n", "the bytes left");
     }
 }
@@ -124,7 +124,7 @@ fn no_source_after_a_failed_read(rt: HostRuntime) {
         let loaded = Source::read_from(rt.alloc(), &mut FromRead::new(&mut reader));
         let is_failed = matches!(loaded, Err(LoadError::ReadFailed));
         holds(&rt, is_failed, "a failed read");
-        same(&rt, &reader.calls, &3, "the count of reads");
+        check_same(&rt, &reader.calls, &3, "the count of reads");
     }
 }
 

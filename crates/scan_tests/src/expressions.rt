@@ -107,7 +107,7 @@ fn push_answer(
 }
 
 /// The token after the front.
-fn found(alloc: Global, front: &str, source: &Source) -> Result<String, Fail> {
+fn token_after(alloc: Global, front: &str, source: &Source) -> Result<String, Fail> {
     let mut line = String::new(alloc);
     push_answer(&mut line, &scan(alloc, source), front.len())?;
     Ok(line)
@@ -123,7 +123,7 @@ fn source_of(alloc: Global, front: &str, rest: &str) -> Result<Source, Fail> {
 fn finds(rt: &impl Abort, alloc: Global, rows: &[(&str, &str, &str)]) -> Result<(), Fail> {
     for (front, rest, wanted) in rows {
         let source = source_of(alloc, *front, *rest)?;
-        let given = found(alloc, *front, &source)?;
+        let given = token_after(alloc, *front, &source)?;
         same_text(rt, given.as_str(), *wanted, source.text());
     }
     Ok(())

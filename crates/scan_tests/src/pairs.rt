@@ -1,7 +1,7 @@
 //! Marks that join side by side, and texts that two pairs of marks make: their tokens. The answers were worked out from the
 //! table of marks by the longest match, apart from this code. That other marks stay apart is the law `neighbours`.
 
-use crate::checks::{same, same_text};
+use crate::checks::{check_same, same_text};
 use hcl_scan::{ScanError, Source, Tokens, scan};
 use std::alloc::{AllocError, Global};
 use std::process::Abort;
@@ -71,6 +71,6 @@ fn neighbours(rt: HostRuntime) -> Result<(), Fail> {
         has(&rt, rt.alloc(), text, wanted)?;
         count = count.wrapping_add(1);
     }
-    same(&rt, &count, &19, "the count of pairs");
+    check_same(&rt, &count, &19, "the count of pairs");
     Ok(())
 }

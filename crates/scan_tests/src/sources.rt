@@ -1,6 +1,6 @@
 //! Calls with ample memory, compared with answers worked out by hand.
 
-use crate::checks::{flushes, holds, same, same_text, writes_fully};
+use crate::checks::{flushes, holds, check_same, same_text, writes_fully};
 use hcl_source::{
     ByteSource, Fault, FaultKind, FromRead, LoadError, MAX_SOURCE, Position, Source, ToWrite,
 };
@@ -41,7 +41,7 @@ fn load_fault(alloc: Global, bytes: &[u8]) -> Option<Fault> {
 /// Checks why bytes are refused.
 fn check_load(rt: &impl Abort, alloc: Global, bytes: &[u8], kind: FaultKind, at: Position) {
     let fault = load_fault(alloc, bytes);
-    same(rt, &fault, &Some(Fault { kind, at }), "a load's fault");
+    check_same(rt, &fault, &Some(Fault { kind, at }), "a load's fault");
 }
 
 #[test]
@@ -60,18 +60,18 @@ fn refuses_what_is_no_source(rt: HostRuntime) -> Result<(), Fail> {
     check_load(&rt, alloc, &large, FaultKind::TooLarge, place(1, 1));
     let largest = vec![in alloc; b'\n'; MAX_SOURCE]?;
     let source = Source::from_bytes(alloc, &largest)?;
-    same(&rt, &source.text().len(), &MAX_SOURCE, "the largest source");
+    check_same(&rt, &source.text().len(), &MAX_SOURCE, "the largest source");
     Ok(())
 }
 
 #[test]
 fn counts_lines_and_clusters(rt: HostRuntime) -> Result<(), Fail> {
     let source = Source::from_bytes(rt.alloc(), b"ab\ne\xcc\x81\tx")?;
-    same(&rt, &source.position(0), &place(1, 1), "the front");
-    same(&rt, &source.position(2), &place(1, 3), "the end of a line");
-    same(&rt, &source.position(3), &place(2, 1), "the next line");
-    same(&rt, &source.position(6), &place(2, 2), "after a cluster");
-    same(&rt, &source.position(8), &place(2, 4), "the end");
+    check_same(&rt, &source.position(0), &place(1, 1), "the front");
+    check_same(&rt, &source.position(2), &place(1, 3), "the end of a line");
+    check_same(&rt, &source.position(3), &place(2, 1), "the next line");
+    check_same(&rt, &source.position(6), &place(2, 2), "after a cluster");
+    check_same(&rt, &source.position(8), &place(2, 4), "the end");
     Ok(())
 }
 

@@ -176,7 +176,7 @@ fn push_answer(
 }
 
 /// The tokens of a text by kind and place, those inside heredocs with a `!`, or its fault.
-fn shown(alloc: Global, text: &str) -> Result<String, Fail> {
+fn list_tokens(alloc: Global, text: &str) -> Result<String, Fail> {
     let source = Source::from_bytes(alloc, text.as_bytes())?;
     let mut line = String::new(alloc);
     push_answer(&mut line, &scan(alloc, &source))?;
@@ -191,7 +191,7 @@ fn push_times(text: &mut String, part: &str, count: usize) -> Result<(), AllocEr
 }
 
 /// `count` openers in turn, and then a text.
-fn nested(alloc: Global, opener: &str, count: usize, rest: &str) -> Result<String, AllocError> {
+fn nest(alloc: Global, opener: &str, count: usize, rest: &str) -> Result<String, AllocError> {
     let mut text = String::new(alloc);
     push_times(&mut text, opener, count)?;
     text.push_str(rest)?;
@@ -200,7 +200,7 @@ fn nested(alloc: Global, opener: &str, count: usize, rest: &str) -> Result<Strin
 
 /// Checks the tokens of a text, or its fault.
 fn has(rt: &impl Abort, alloc: Global, text: &str, wanted: &str) -> Result<(), Fail> {
-    let given = shown(alloc, text)?;
+    let given = list_tokens(alloc, text)?;
     same_text(rt, given.as_str(), wanted, text);
     Ok(())
 }
@@ -229,7 +229,7 @@ fn too_deep(rt: HostRuntime) -> Result<(), Fail> {
         ("\"${", 128, "${", "InvalidCharacter at 1:385"),
     ];
     for (opener, count, rest, fault) in rows {
-        let text = nested(rt.alloc(), opener, count, rest)?;
+        let text = nest(rt.alloc(), opener, count, rest)?;
         has(&rt, rt.alloc(), text.as_str(), fault)?;
     }
     Ok(())
@@ -247,8 +247,8 @@ fn as_deep_as_can_be(rt: HostRuntime) -> Result<(), Fail> {
         ),
     ];
     for (count, rest, last) in rows {
-        let text = nested(rt.alloc(), "(", count, rest)?;
-        let line = shown(rt.alloc(), text.as_str())?;
+        let text = nest(rt.alloc(), "(", count, rest)?;
+        let line = list_tokens(rt.alloc(), text.as_str())?;
         holds(&rt, line.as_str().ends_with(last), last);
     }
     Ok(())
@@ -282,7 +282,7 @@ Ident 131077-131078 InlineComment 131079-196615 Newline 196615-196616 \
 Ident 196616-196617 HeredocOpen 196618-196622 !Lit 196622-396622 !HeredocClose 396622-396623 Newline 396623-396624 \
 Ident 396624-396625 LineComment 396626-462161 Newline 462161-462162 Ident 462162-462163";
     let text = long_text(rt.alloc(), &parts)?;
-    let line = shown(rt.alloc(), text.as_str())?;
+    let line = list_tokens(rt.alloc(), text.as_str())?;
     same_text(&rt, line.as_str(), wanted, "long tokens");
     Ok(())
 }

@@ -30,8 +30,8 @@ abbrev pub shown_char : ℕ → ℕ
 shown_char c = if is_hidden c then 32 else c
 
 -- a part of a line as it is shown
-abbrev pub visible : List ℕ → List ℕ
-visible part = encode_utf8_all (map shown_char (chars part))
+abbrev pub visible_part : List ℕ → List ℕ
+visible_part part = encode_utf8_all (map shown_char (chars part))
 
 -- the part of a line before a column; columns count extended grapheme clusters, as in a place
 abbrev pub before_column : ℕ → List ℕ → List ℕ
@@ -39,13 +39,13 @@ before_column column line = concat (take (column - 1) (graphemes true line))
 
 -- blanks as wide as a part of a line is on a terminal
 abbrev pub blanks_below : List ℕ → List ℕ
-blanks_below part = replicate (str_width false (chars (visible part))) 32
+blanks_below part = replicate (str_width false (chars (visible_part part))) 32
 
 -- a line, and below it a caret at a column
 abbrev pub with_caret : ℕ → List ℕ → List ℕ
 with_caret column line =
     codes "  "
-    ++ (visible line ++ (codes "\n  " ++ (blanks_below (before_column column line) ++ codes "^\n")))
+    ++ (visible_part line ++ (codes "\n  " ++ (blanks_below (before_column column line) ++ codes "^\n")))
 
 -- that snippet for a line that is shown: it has a character or more, and not too many
 abbrev pub snippet_of_line : ℕ → List ℕ → List ℕ

@@ -3,7 +3,7 @@
 ghost use Rattle.std.specs.Prelude.{◌≡◌, ◌≤◌, ◌+◌, ◌++◌, drop, length, replicate, true};
 ghost use Rattle.std.specs.List.{concat};
 ghost use Rattle.unicode_segmentation.specs.Grapheme.{graphemes};
-ghost use Rattle.source_snippet.specs.Snippets.{before_column as before_column_of, is_hidden as is_hidden_of, shown_char, with_caret as with_caret_of, visible as visible_of};
+ghost use Rattle.source_snippet.specs.Snippets.{before_column as before_column_of, is_hidden as is_hidden_of, shown_char, with_caret as with_caret_of, visible_part as visible_of};
 
 use crate::line::MOST_BYTES;
 use arrayvec::{ArrayString, ArrayVec};
@@ -28,20 +28,20 @@ fn is_hidden(c: char) -> bool
 }
 
 /// The character that is shown for this one.
-fn shown(c: char) -> char
+fn visible_char(c: char) -> char
     ensures { result ≡ shown_char c }
 {
     if is_hidden(c) { ' ' } else { c }
 }
 
 /// A part of a line as it is shown. No character takes more bytes than the one that it replaces.
-fn visible(part: &str) -> ArrayString<MOST_BYTES>
+fn visible_part(part: &str) -> ArrayString<MOST_BYTES>
     requires { length part.now ≤ MOST_BYTES }
     ensures { result.bytes ≡ visible_of part.now }
 {
     let mut text = ArrayString::new();
     for c in part.chars() {
-        text.push(shown(c));
+        text.push(visible_char(c));
     }
     text
 }
@@ -92,8 +92,8 @@ pub fn with_caret(line: &str, column: u32) -> Snippet
     requires { length line.now ≤ MOST_BYTES }
     ensures { result.items ≡ with_caret_of column line.now }
 {
-    let shown = visible(line);
-    let before = visible(before_column(line, column));
+    let shown = visible_part(line);
+    let before = visible_part(before_column(line, column));
     let mut snippet = ArrayVec::new();
     push(&mut snippet, b"  ");
     push(&mut snippet, shown.as_str().as_bytes());

@@ -31,7 +31,7 @@ pub struct Folder {
 }
 
 /// The path of a folder without the `/` at its end, so that a link isn't followed.
-fn bare(path: &str) -> &str {
+fn without_slash(path: &str) -> &str {
     if path.is_empty() {
         return ".";
     }
@@ -42,20 +42,20 @@ fn bare(path: &str) -> &str {
 }
 
 /// The path of a folder with the `/` at its end, so that no pipe is opened in its place.
-fn whole(path: &str) -> &str {
+fn with_slash(path: &str) -> &str {
     if path.is_empty() { "./" } else { path }
 }
 
 /// The metadata that a path has by now, if it leads to a folder. Its last part may be a link only if the caller named
 /// the folder by that link.
 fn found_at(rt: &HostRuntime, path: &str, linked: &[Identity]) -> Result<Metadata, TreeFault> {
-    let Ok(metadata) = patient::symlink_metadata(rt, bare(path)) else {
+    let Ok(metadata) = patient::symlink_metadata(rt, without_slash(path)) else {
         return Err(TreeFault::Changed);
     };
     if !metadata.is_symlink() {
         return Ok(metadata);
     }
-    let Ok(metadata) = patient::metadata(rt, whole(path)) else {
+    let Ok(metadata) = patient::metadata(rt, with_slash(path)) else {
         return Err(TreeFault::Changed);
     };
     if linked.contains(&identity_of(&metadata)) {
@@ -133,7 +133,7 @@ impl Folder {
     /// Opens a folder, which must be the one to which its path leads.
     pub fn open(rt: &HostRuntime, path: &str, linked: &[Identity]) -> Result<Folder, TreeFault> {
         let metadata = found_at(rt, path, linked)?;
-        match File::open(rt, whole(path)) {
+        match File::open(rt, with_slash(path)) {
             Ok(handle) => match patient::open_metadata(&handle) {
                 Ok(held) if identity_of(&held) == identity_of(&metadata) => {
                     Folder::by_handle(rt, path, handle, metadata)

@@ -121,7 +121,7 @@ fn is_there(rt: &HostRuntime, old: &Old<'_>) -> bool {
 
 /// Fills a new file and renames it over the old one, if that is unchanged. The old name is checked last: changes that
 /// another program saves after that are lost.
-fn put(
+fn put_in_place(
     rt: &HostRuntime,
     beside: &Beside,
     folder: &Folder,
@@ -159,7 +159,7 @@ fn replace_by_new(
     began: Option<SystemTime>,
 ) -> Result<Replaced, TreeFault> {
     let beside = make(rt, folder, began)?;
-    match put(rt, &beside, folder, file, old, new) {
+    match put_in_place(rt, &beside, folder, file, old, new) {
         Ok(_) if new.sync && !folder.sync() => Err(TreeFault::NotSynced),
         Ok(replaced) => Ok(replaced),
         Err(fault) => {

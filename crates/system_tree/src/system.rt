@@ -2,7 +2,7 @@
 
 ghost use Rattle.std.specs.Prelude.{◌≡◌, false, None, IfOk};
 ghost use Rattle.std.specs.Io.{ReadsAtMost};
-ghost use Rattle.file_tree.specs.Files.{silent};
+ghost use Rattle.file_tree.specs.Files.{silent_files};
 
 use crate::folder::{Folder, identity_of};
 use crate::link::{real_path, split_path};
@@ -428,7 +428,7 @@ impl SystemTree {
 impl Tree for SystemTree {
     type Reader = FileReader;
 
-    ghost files = { λ s. silent };
+    ghost files = { λ s. silent_files };
 
     ghost faults = { λ s. None };
 

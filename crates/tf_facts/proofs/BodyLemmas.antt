@@ -14,7 +14,7 @@ use Rattle.hcl_grammar.specs.declared.item.Item.{Item}
 use Rattle.hcl_grammar.specs.declared.item.Item.TheVariants as item
 use Rattle.hcl_grammar.proofs.NumberedLemmas.{drop_at}
 use Rattle.hcl_grammar.proofs.ItemOrderLemmas.{climbs_wide, outline_climbs, spans_past}
-use Rattle.tf_facts.specs.Inner.Values.{body_of, both, value_of_attribute}
+use Rattle.tf_facts.specs.Inner.Values.{body_of, append_bodies, value_of_attribute}
 use Rattle.tf_facts.specs.declared.value.Body.{Body}
 use Rattle.tf_facts.specs.declared.value.Value.{Value}
 use Rattle.tf_facts.specs.Declarations.{Attribute, attribute, attributes_in, has, is_inside, labels_in, with_attribute}
@@ -63,12 +63,12 @@ saying described typed versioned source = record { is_described = described; is_
 same_body : (a b c d e f : Bool) (v w : Option Value) → a ≡ b → c ≡ d → e ≡ f → v ≡ w → saying a c e v ≡ saying b d f w
 same_body a b c d e f v w p q r s = ap (λ x. saying x c e v) p ∙ ap (λ x. saying b x e v) q ∙ ap (λ x. saying b d x v) r ∙ ap (λ x. saying b d f x) s
 
-pub both_assoc : (a b c : Body) → both (both a b) c ≡ both a (both b c)
+pub both_assoc : (a b c : Body) → append_bodies (append_bodies a b) c ≡ append_bodies a (append_bodies b c)
 both_assoc a b c =
     same_body _ _ _ _ _ _ _ _ (or_assoc a.is_described b.is_described c.is_described) (or_assoc a.is_typed b.is_typed c.is_typed) (or_assoc a.is_versioned b.is_versioned c.is_versioned)
     (first_assoc a.source b.source c.source)
 
-pub both_none : (a : Body) → both a (body_of []) ≡ a
+pub both_none : (a : Body) → append_bodies a (body_of []) ≡ a
 both_none a = same_body _ _ _ _ _ _ _ _ (or_false a.is_described) (or_false a.is_typed) (or_false a.is_versioned) (none a.source)
   where
     none : (v : Option Value) → option_or v None ≡ v
@@ -84,37 +84,37 @@ first_value a more false = refl
 has_both : (wanted : List ℕ) (a : Attribute) (more : List Attribute) → has wanted (a ∷ more) ≡ (has wanted (a ∷ []) || has wanted more)
 has_both wanted a more = ap (λ b. b || has wanted more) (sym (or_false (bytes_eq a.name wanted)))
 
-with_more : (o : Option Attribute) (more : List Attribute) → body_of (with_attribute o more) ≡ both (body_of (with_attribute o [])) (body_of more)
+with_more : (o : Option Attribute) (more : List Attribute) → body_of (with_attribute o more) ≡ append_bodies (body_of (with_attribute o [])) (body_of more)
 with_more None more = refl
 with_more (Some a) more =
     same_body _ _ _ _ _ _ _ _ (has_both (codes "description") a more) (has_both (codes "type") a more) (has_both (codes "version") a more) (first_value a more (bytes_eq a.name (codes "source")))
 
 -- the body so far, together with the remaining attributes, is the body of the block
 abbrev pub IsBody : List Numbered → List Item → ℕ → Body → ℕ → Type 0
-IsBody ts items from said n = both said (body_of (attributes_in ts (drop n items))) ≡ body_of (attributes_in ts (drop from items))
+IsBody ts items from said n = append_bodies said (body_of (attributes_in ts (drop n items))) ≡ body_of (attributes_in ts (drop from items))
 
 module _ (ts : List Numbered) (items : List Item) (from : ℕ) (said : Body) (n : ℕ) (h : IsBody ts items from said n) where
   pub body_end : length items ≤ n → said ≡ body_of (attributes_in ts (drop from items))
-  body_end past = sym (both_none said) ∙ ap (λ more. both said (body_of more)) (sym (attributes_none ts items n past)) ∙ h
+  body_end past = sym (both_none said) ∙ ap (λ more. append_bodies said (body_of more)) (sym (attributes_none ts items n past)) ∙ h
 
   module _ (i : Item) (e : slice_get items n ≡ Some i) where
     pub body_over : is_inside i ≡ false → said ≡ body_of (attributes_in ts (drop from items))
     body_over outside =
         sym (both_none said)
-        ∙ ap (λ more. both said (body_of more)) (sym (attributes_here ts items n i e ∙ ap (λ b. cond b (with_attribute (attribute ts i) (attributes_in ts (drop (n + 1) items))) []) outside))
+        ∙ ap (λ more. append_bodies said (body_of more)) (sym (attributes_here ts items n i e ∙ ap (λ b. cond b (with_attribute (attribute ts i) (attributes_in ts (drop (n + 1) items))) []) outside))
         ∙ h
 
-    pub body_more : is_inside i ≡ true → (next : Body) → next ≡ both said (body_of (with_attribute (attribute ts i) [])) → IsBody ts items from next (n + 1)
+    pub body_more : is_inside i ≡ true → (next : Body) → next ≡ append_bodies said (body_of (with_attribute (attribute ts i) [])) → IsBody ts items from next (n + 1)
     body_more within next is =
-        ap (λ b. both b (body_of (attributes_in ts (drop (n + 1) items)))) is
+        ap (λ b. append_bodies b (body_of (attributes_in ts (drop (n + 1) items)))) is
         ∙ both_assoc said (body_of (with_attribute (attribute ts i) [])) (body_of (attributes_in ts (drop (n + 1) items)))
-        ∙ ap (both said) (sym (with_more (attribute ts i) (attributes_in ts (drop (n + 1) items))))
-        ∙ ap (λ more. both said (body_of more)) (sym (attributes_here ts items n i e ∙ ap (λ b. cond b (with_attribute (attribute ts i) (attributes_in ts (drop (n + 1) items))) []) within))
+        ∙ ap (append_bodies said) (sym (with_more (attribute ts i) (attributes_in ts (drop (n + 1) items))))
+        ∙ ap (λ more. append_bodies said (body_of more)) (sym (attributes_here ts items n i e ∙ ap (λ b. cond b (with_attribute (attribute ts i) (attributes_in ts (drop (n + 1) items))) []) within))
         ∙ h
 
     -- an item that is no attribute of the block changes nothing
     pub body_silent : is_inside i ≡ true → attribute ts i ≡ None → IsBody ts items from said (n + 1)
-    body_silent within none = body_more within said (sym (both_none said) ∙ ap (λ (o : Option Attribute). both said (body_of (with_attribute o []))) (sym none))
+    body_silent within none = body_more within said (sym (both_none said) ∙ ap (λ (o : Option Attribute). append_bodies said (body_of (with_attribute o []))) (sym none))
 
 -- ---- one item
 

@@ -8,7 +8,7 @@ use Rattle.hcl_tokens.specs.Kinds.{is}
 use Rattle.hcl_tokens.specs.declared.token.Kind.{Kind}
 use Rattle.hcl_tokens.specs.declared.token.Kind.TheVariants.{LineComment}
 use Rattle.hcl_tokens.specs.Lexemes.{Lexeme}
-use Rattle.hcl_grammar.specs.Numbered.{Numbered, numbered}
+use Rattle.hcl_grammar.specs.Numbered.{Numbered, number_tokens}
 use Rattle.hcl_grammar.proofs.NumberedLemmas.{numbered_at, numbered_here, numbered_past}
 use Rattle.tf_facts.specs.Comments.{Comment, comment_of, comments, if_telling, is_any}
 use Rattle.rule_set.specs.Rules.{all_rules}
@@ -54,13 +54,13 @@ module _ (c : FoundComment) (text : List ℕ) (slashes : c.has_slashes ≡ has_s
 
 -- the comments that were found are those of the tokens from a number on
 abbrev pub AreCommentsFrom : List Lexeme → List FoundComment → ℕ → Type 0
-AreCommentsFrom ts found n = reverse (map comment found) ≡ comments (drop n (numbered ts))
+AreCommentsFrom ts found n = reverse (map comment found) ≡ comments (drop n (number_tokens ts))
 
 pub comments_begin : (ts : List Lexeme) (found : List FoundComment) (n : ℕ) → length ts ≤ n → found ≡ [] → AreCommentsFrom ts found n
 comments_begin ts found n past none = ap (λ f. reverse (map comment f)) none ∙ sym (ap comments (numbered_past ts n past))
 
-pub comments_end : (ts : List Lexeme) (found turned : List FoundComment) (n : ℕ) → n ≡ 0 → turned ≡ reverse found → AreCommentsFrom ts found n → map comment turned ≡ comments (numbered ts)
-comments_end ts found turned n at is h = ap (map comment) is ∙ map-reverse comment found ∙ h ∙ ap (λ k. comments (drop k (numbered ts))) at
+pub comments_end : (ts : List Lexeme) (found turned : List FoundComment) (n : ℕ) → n ≡ 0 → turned ≡ reverse found → AreCommentsFrom ts found n → map comment turned ≡ comments (number_tokens ts)
+comments_end ts found turned n at is h = ap (map comment) is ∙ map-reverse comment found ∙ h ∙ ap (λ k. comments (drop k (number_tokens ts))) at
 
 -- a token is one comment at most
 one_turned : (c : Comment ℕ) (a b : Bool) → reverse (cond a (cond b (c ∷ []) []) []) ≡ cond a (cond b (c ∷ []) []) []
@@ -80,13 +80,13 @@ module _ (ts : List Lexeme) (n m : ℕ) (at : m ≡ n + 1) (less : n < length ts
   there = there_is ts n less
 
   -- the comments of the token, and those of the tokens after it
-  split : comment_of (number_of n there.0) ++ comments (drop (n + 1) (numbered ts)) ≡ comments (drop n (numbered ts))
+  split : comment_of (number_of n there.0) ++ comments (drop (n + 1) (number_tokens ts)) ≡ comments (drop n (number_tokens ts))
   split = ap comments (ap (λ r. number_of n there.0 ∷ r) (numbered_at ts (n + 1)) ∙ sym (numbered_here ts n there.0 there.1))
 
   pub comments_over : (k : Kind) → ((t : Lexeme) → slice_get ts n ≡ Some t → k ≡ t.kind) → is LineComment k ≡ false → AreCommentsFrom ts found n
   comments_over k kind_is other =
       h
-      ∙ ap (λ b. cond b (if_telling (made n (has_slashes there.0.text) (silenced_rules there.0.text))) [] ++ comments (drop (n + 1) (numbered ts))) (sym (ap (is LineComment) (sym (kind_is there.0 there.1)) ∙ other))
+      ∙ ap (λ b. cond b (if_telling (made n (has_slashes there.0.text) (silenced_rules there.0.text))) [] ++ comments (drop (n + 1) (number_tokens ts))) (sym (ap (is LineComment) (sym (kind_is there.0 there.1)) ∙ other))
       ∙ split
 
   pub comments_noted : (new : List FoundComment) → ((t : Lexeme) → slice_get ts n ≡ Some t → map comment new ≡ map comment found ++ comment_of (number_of n t)) → AreCommentsFrom ts new n

@@ -5,7 +5,7 @@ use Rattle.std.specs.Option.{option_map}
 use Rattle.std.specs.Str.{bytes_eq}
 use Rattle.std.proofs.lemmas.List.{append-nil}
 use Rattle.hcl_tokens.specs.Lexemes.{Lexeme}
-use Rattle.hcl_grammar.specs.Numbered.{Numbered, numbered}
+use Rattle.hcl_grammar.specs.Numbered.{Numbered, number_tokens}
 use Rattle.hcl_grammar.specs.Items.{is_closed, outline}
 use Rattle.hcl_grammar.specs.ItemOrder.{Climbs, past}
 use Rattle.hcl_grammar.specs.Labels.{text_of}
@@ -72,14 +72,14 @@ value_ends to None v h e = absurd (cc)
 value_ends to (Some a) v h e = let same : value_of_attribute a ≡ v = cc in let ends : a.end ≡ v.end = ap (λ w. w.end) same in omega (arith, ends, h a refl)
 
 value_within : (tokens : List Lexeme) (n : ℕ) (wanted : List ℕ) (v : Value)
-    → option_map value_of_attribute (find (λ a. bytes_eq a.name wanted) (attributes_in (numbered tokens) (drop n (outline tokens)))) ≡ Some v → v.end ≤ length tokens
+    → option_map value_of_attribute (find (λ a. bytes_eq a.name wanted) (attributes_in (number_tokens tokens) (drop n (outline tokens)))) ≡ Some v → v.end ≤ length tokens
 value_within tokens n wanted v e =
     let c = climbs_drop 0 (length tokens) n (outline tokens) (outline_climbs tokens) in
-    value_ends (length tokens) (find (λ a. bytes_eq a.name wanted) (attributes_in (numbered tokens) (drop n (outline tokens)))) v
-    (λ a f. ends_within (numbered tokens) (λ x. bytes_eq x.name wanted) c.0 (length tokens) (drop n (outline tokens)) a c.1 f) e
+    value_ends (length tokens) (find (λ a. bytes_eq a.name wanted) (attributes_in (number_tokens tokens) (drop n (outline tokens)))) v
+    (λ a f. ends_within (number_tokens tokens) (λ x. bytes_eq x.name wanted) c.0 (length tokens) (drop n (outline tokens)) a c.1 f) e
 
 pub values_within : (tokens : List Lexeme) (n : ℕ) (wanted : List ℕ) (o : Option Value)
-    → o ≡ option_map value_of_attribute (find (λ a. bytes_eq a.name wanted) (attributes_in (numbered tokens) (drop n (outline tokens)))) → IfSome o (λ v. v.end ≤ length tokens)
+    → o ≡ option_map value_of_attribute (find (λ a. bytes_eq a.name wanted) (attributes_in (number_tokens tokens) (drop n (outline tokens)))) → IfSome o (λ v. v.end ≤ length tokens)
 values_within tokens n wanted None e = tt
 values_within tokens n wanted (Some v) e = value_within tokens n wanted v (sym e)
 
@@ -88,7 +88,7 @@ no_value ts None e = refl
 no_value ts (Some a) e = absurd (cc)
 
 pub value_source : (tokens : List Lexeme) (o : Option Attribute) (v : Value) (p : Option PlainText) → option_map value_of_attribute o ≡ Some v → p ≡ plain_text (values tokens v.first v.end)
-    → source_of_plain_text p ≡ source_of_attribute (numbered tokens) o
+    → source_of_plain_text p ≡ source_of_attribute (number_tokens tokens) o
 value_source tokens None v p e is = absurd (cc)
 value_source tokens (Some a) v p e is =
     let same : value_of_attribute a ≡ v = cc in
@@ -98,7 +98,7 @@ abbrev source_from : Source → ℕ → SourceAt ℕ
 source_from s n = record { source = s; at = n }
 
 pub source_found : (tokens : List Lexeme) (o : Option Attribute) (v : Value) (p : Plain) (s : FoundSource) → option_map value_of_attribute o ≡ Some v → Some (plain_text_of p) ≡ plain_text (values tokens v.first v.end)
-    → source s.source ≡ source_of p.text.now → s.at ≡ p.quote → Some (found.found_source s) ≡ source_of_attribute (numbered tokens) o
+    → source s.source ≡ source_of p.text.now → s.at ≡ p.quote → Some (found.found_source s) ≡ source_of_attribute (number_tokens tokens) o
 source_found tokens o v p s e is same at =
     ap (λ x. Some (source_from x s.at)) same
     ∙ ap (λ n. Some (source_from (source_of p.text.now) n)) at

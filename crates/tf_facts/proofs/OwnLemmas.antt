@@ -5,7 +5,7 @@ use Rattle.std.proofs.lemmas.Bool.{lt-ltb, le-ltb, lt-leb}
 use Rattle.std.specs.Str.{bytes_eq}
 use Rattle.tf_facts.specs.VariableBlocks.{block_view, Apart, ArePassed}
 use Rattle.hcl_tokens.specs.Lexemes.{Lexeme}
-use Rattle.hcl_grammar.specs.Numbered.{Numbered, numbered}
+use Rattle.hcl_grammar.specs.Numbered.{Numbered, number_tokens}
 use Rattle.hcl_grammar.specs.Items.{is_closed, outline}
 use Rattle.hcl_grammar.specs.Labels.{text_of}
 use Rattle.hcl_grammar.specs.ItemOrder.{TopsApart}
@@ -18,7 +18,7 @@ use Rattle.tf_facts.specs.References.{VariableSpan, is_self_reference, last_of, 
 use Rattle.tf_facts.specs.declared.variable_block.VariableBlock.{VariableBlock}
 use Rattle.tf_facts.specs.declared.reference.Reference.{Reference}
 use Rattle.tf_facts.specs.declared.reference.Reference.TheVariants.{Variable, Local, Data}
-use Rattle.tf_facts.specs.Inner.Spelled.{spelled}
+use Rattle.tf_facts.specs.Inner.Spelled.{spelling_of}
 use denote.Bor.{Bor}
 
 and_false : (b : Bool) → (b && false) ≡ false
@@ -123,7 +123,7 @@ none_left blocks next number text h p = sym (p.same number text (omega arith)) �
     all_gone (b ∷ bs) zero h = absurd (omega (arith, h))
     all_gone (b ∷ bs) (suc n) h = all_gone bs n (omega (arith, h))
 
-pub own_other : (own : List VariableSpan) (number : ℕ) (r : Reference) → ((x : Bor (List ℕ)) → r ≡ Variable x → ⊥) → is_self_reference own number (spelled r) ≡ false
+pub own_other : (own : List VariableSpan) (number : ℕ) (r : Reference) → ((x : Bor (List ℕ)) → r ≡ Variable x → ⊥) → is_self_reference own number (spelling_of r) ≡ false
 own_other own number (Variable n) h = absurd (h n refl)
 own_other own number (Local n) h = own_local own number n.now
 own_other own number (Data t n) h = own_data own number t.now n.now
@@ -193,5 +193,5 @@ items_own ts from to (item.Block level token end ∷ is) h = by (is_closed level
     by false more r = more from r
 
 -- THE LAW
-pub variable_blocks_apart : (tokens : List Lexeme) → Apart 0 (variable_blocks (numbered tokens))
-variable_blocks_apart tokens = items_own (numbered tokens) 0 (length tokens) (outline tokens) (tops_apart tokens)
+pub variable_blocks_apart : (tokens : List Lexeme) → Apart 0 (variable_blocks (number_tokens tokens))
+variable_blocks_apart tokens = items_own (number_tokens tokens) 0 (length tokens) (outline tokens) (tops_apart tokens)

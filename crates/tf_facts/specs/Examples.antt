@@ -3,7 +3,7 @@ use Rattle.std.specs.Prelude.{◌≡◌, ℕ, refl, List, [], ◌∷◌, ◌++�
 use Rattle.hcl_tokens.specs.Lexemes.{Lexeme}
 use Rattle.hcl_tokens.specs.declared.token.Kind.{Kind}
 use Rattle.hcl_tokens.specs.declared.token.Kind.TheVariants.{Newline, LineComment, Ident, QuoteOpen, BraceOpen, BraceClose, Dot, Assign, Lit, InterpOpen, SeqClose, QuoteClose, NotEqual}
-use Rattle.hcl_grammar.specs.Numbered.{numbered}
+use Rattle.hcl_grammar.specs.Numbered.{number_tokens}
 use Rattle.tf_facts.specs.Declarations.{declarations}
 use Rattle.tf_facts.specs.References.{references}
 use Rattle.tf_facts.specs.Patterns.{wrapped_interpolations}
@@ -36,16 +36,16 @@ use_of_n =
     token Ident (codes "x") ∷ token Assign (codes "=") ∷ token QuoteOpen (codes "\"") ∷ token InterpOpen (codes "${") ∷ token Newline (codes "\n") ∷ token Ident (codes "var") ∷ token Dot (codes ".")
     ∷ token Ident (codes "n") ∷ token LineComment (codes "# c") ∷ token Newline (codes "\n") ∷ token SeqClose (codes "}") ∷ token QuoteClose (codes "\"") ∷ token Newline (codes "\n") ∷ []
 
-own_left_out : references (numbered own) ≡ codes "var.m" ∷ []
+own_left_out : references (number_tokens own) ≡ codes "var.m" ∷ []
 own_left_out = refl
 
-others_count : references (numbered (own ++ use_of_n)) ≡ codes "var.m" ∷ codes "var.n" ∷ []
+others_count : references (number_tokens (own ++ use_of_n)) ≡ codes "var.m" ∷ codes "var.n" ∷ []
 others_count = refl
 
-wrapped : wrapped_interpolations (numbered use_of_n) ≡ 2 ∷ []
+wrapped : wrapped_interpolations (number_tokens use_of_n) ≡ 2 ∷ []
 wrapped = refl
 
-declared_n : declarations (numbered own) ≡
+declared_n : declarations (number_tokens own) ≡
     record { kind = declares.Variable; names = codes "n" ∷ []; at = 0; described = false; typed = false; versioned = false; source = None } ∷ []
 declared_n = refl
 
@@ -100,6 +100,6 @@ three_comments =
     token LineComment (codes "// old") ∷ token Newline (codes "\n") ∷ token LineComment (codes "# plain") ∷ token Newline (codes "\n")
     ∷ token LineComment (codes "# tflint-ignore: terraform_comment_syntax") ∷ token Newline (codes "\n") ∷ []
 
-telling_comments : comments (numbered three_comments) ≡
+telling_comments : comments (number_tokens three_comments) ≡
     record { at = 0; slashes = true; silences = [] } ∷ record { at = 4; slashes = false; silences = CommentSyntax ∷ [] } ∷ []
 telling_comments = refl

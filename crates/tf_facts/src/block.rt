@@ -3,10 +3,10 @@
 ghost use Rattle.std.specs.Prelude.{◌≡◌, ◌<◌, ◌≤◌, ◌+◌, ◌∷◌, ℕ, [], drop, length, slice_get, List, MatchOption, None, Some, false};
 ghost use Rattle.hcl_grammar.specs.Items.{outline};
 ghost use Rattle.hcl_grammar.specs.Labels.{text_of};
-ghost use Rattle.hcl_grammar.specs.Numbered.{Numbered, numbered};
+ghost use Rattle.hcl_grammar.specs.Numbered.{Numbered, number_tokens};
 ghost use Rattle.tf_facts.specs.Declarations.{attribute, attributes_in, is_inside, labels_in, with_attribute};
 ghost use Rattle.tf_facts.specs.Inner.Labelled.{AreNames};
-ghost use Rattle.tf_facts.specs.Inner.Values.{body_of, both};
+ghost use Rattle.tf_facts.specs.Inner.Values.{body_of, append_bodies};
 
 use crate::names::Names;
 use crate::value::{Body, Value};
@@ -22,10 +22,10 @@ struct LabelAt<'s> {
 /// The label of this number in the outline, if it is one.
 fn label_at<'s>(accepted: &Accepted<'_, 's>, items: &Outline, number: usize) -> Option<LabelAt<'s>>
     requires { items.now ≡ outline accepted.now.tokens }
-    ensures { MatchOption result (labels_in (numbered accepted.now.tokens) (drop number items.now)
+    ensures { MatchOption result (labels_in (number_tokens accepted.now.tokens) (drop number items.now)
         ≡ [])
-        (λ label. labels_in (numbered accepted.now.tokens) (drop number items.now)
-        ≡ label.text.now ∷ labels_in (numbered accepted.now.tokens) (drop label.next items.now)) }
+        (λ label. labels_in (number_tokens accepted.now.tokens) (drop number items.now)
+        ≡ label.text.now ∷ labels_in (number_tokens accepted.now.tokens) (drop label.next items.now)) }
 {
     if number >= items.len() {
         return None;
@@ -43,7 +43,7 @@ fn label_at<'s>(accepted: &Accepted<'_, 's>, items: &Outline, number: usize) -> 
 /// The labels of the block whose items begin at this one.
 pub fn names<'s>(accepted: &Accepted<'_, 's>, items: &Outline, from: usize) -> Names<'s>
     requires { items.now ≡ outline accepted.now.tokens }
-    ensures { AreNames result (labels_in (numbered accepted.now.tokens) (drop from items.now)) }
+    ensures { AreNames result (labels_in (number_tokens accepted.now.tokens) (drop from items.now)) }
 {
     let Some(first) = label_at(accepted, items, from) else {
         return Names::None;
@@ -71,7 +71,7 @@ pub fn is_inside(item: Item) -> bool
 /// The text of the token of this number.
 pub fn word_at<'s>(accepted: &Accepted<'_, 's>, number: usize) -> &'s str
     requires { number < length accepted.now.tokens }
-    ensures { result.now ≡ text_of (numbered accepted.now.tokens) number }
+    ensures { result.now ≡ text_of (number_tokens accepted.now.tokens) number }
 {
     let tokens = accepted.tokens();
     let token = tokens.get(number);
@@ -100,7 +100,7 @@ fn is_attribute(item: Item) -> bool
 /// The body with this item alone, if it is an attribute directly in the body of a top-level block.
 fn body_of_item(accepted: &Accepted<'_, '_>, item: Item) -> Body
     requires { (i : ℕ) × (slice_get (outline accepted.now.tokens) i ≡ Some item) }
-    ensures { result ≡ body_of (with_attribute (attribute (numbered accepted.now.tokens) item) []) }
+    ensures { result ≡ body_of (with_attribute (attribute (number_tokens accepted.now.tokens) item) []) }
 {
     let Item::Attribute {
         level,
@@ -125,7 +125,7 @@ fn body_of_item(accepted: &Accepted<'_, '_>, item: Item) -> Body
 
 /// The body of two bodies, one after the other.
 fn both(one: Body, other: Body) -> Body
-    ensures { result ≡ both one other }
+    ensures { result ≡ append_bodies one other }
 {
     Body {
         is_described: one.is_described || other.is_described,
@@ -138,7 +138,7 @@ fn both(one: Body, other: Body) -> Body
 /// The body of the block whose items begin at this one, from the attributes directly in it.
 pub fn body(accepted: &Accepted<'_, '_>, items: &Outline, from: usize) -> Body
     requires { items.now ≡ outline accepted.now.tokens }
-    ensures { result ≡ body_of (attributes_in (numbered accepted.now.tokens)
+    ensures { result ≡ body_of (attributes_in (number_tokens accepted.now.tokens)
         (drop from items.now)) }
 {
     let mut body = no_body();

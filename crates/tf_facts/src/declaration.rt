@@ -4,11 +4,11 @@ ghost use Rattle.std.specs.Prelude.{◌≡◌, ◌<◌, ◌≤◌, ◌+◌, ◌^
 ghost use Rattle.std.specs.Option.{option_map};
 ghost use Rattle.hcl_grammar.specs.Items.{outline};
 ghost use Rattle.hcl_grammar.specs.Labels.{text_of};
-ghost use Rattle.hcl_grammar.specs.Numbered.{numbered};
+ghost use Rattle.hcl_grammar.specs.Numbered.{number_tokens};
 ghost use Rattle.hcl_grammar.specs.declared.item.Item.{Item};
 ghost use Rattle.tf_facts.specs.Declarations.{Attribute, attribute, attributes_in, by_declarer, declarations, declarer, is_empty, is_kind, labels_in, of_block, of_item, of_local, source_of_attribute, with_attribute};
 ghost use Rattle.tf_facts.specs.Found.{declaration, found_source};
-ghost use Rattle.tf_facts.specs.Inner.FoundViews.{declarer_of, listed};
+ghost use Rattle.tf_facts.specs.Inner.FoundViews.{declarer_of, declared_list};
 ghost use Rattle.tf_facts.specs.Inner.Labelled.{AreNames};
 ghost use Rattle.tf_facts.specs.Inner.Values.{value_of_attribute};
 
@@ -84,7 +84,7 @@ fn is_module(kind: DeclarationKind) -> bool
 fn module_source(accepted: &Accepted<'_, '_>, value: Option<Value>) -> Option<FoundSource>
     requires { IfSome value (λ v. v.end ≤ length accepted.now.tokens) }
     ensures { (a : Option Attribute) → option_map value_of_attribute a ≡ value
-        → option_map found_source result ≡ source_of_attribute (numbered accepted.now.tokens) a }
+        → option_map found_source result ≡ source_of_attribute (number_tokens accepted.now.tokens) a }
 {
     let Some(value) = value else {
         return None;
@@ -109,7 +109,7 @@ fn source_in(
     ensures { (a : Option Attribute) → option_map value_of_attribute a ≡ value
         → option_map found_source result
         ≡ (if is_kind DeclarationKind.Module kind
-        then source_of_attribute (numbered accepted.now.tokens) a else None) }
+        then source_of_attribute (number_tokens accepted.now.tokens) a else None) }
 {
     if is_module(kind) {
         return module_source(accepted, value);
@@ -126,10 +126,10 @@ fn declared_by<'s>(
 ) -> Option<Declared<'s>>
     requires items { items.now ≡ outline accepted.now.tokens }
     requires token { token < length accepted.now.tokens }
-    ensures { listed result ≡ by_declarer (numbered accepted.now.tokens) token
-        (labels_in (numbered accepted.now.tokens) (drop from items.now))
-        (attributes_in (numbered accepted.now.tokens) (drop from items.now))
-        (declarer (text_of (numbered accepted.now.tokens) token)) }
+    ensures { listed result ≡ by_declarer (number_tokens accepted.now.tokens) token
+        (labels_in (number_tokens accepted.now.tokens) (drop from items.now))
+        (attributes_in (number_tokens accepted.now.tokens) (drop from items.now))
+        (declarer (text_of (number_tokens accepted.now.tokens) token)) }
 {
     let Some(declarer) = declarer(word_at(accepted, token)) else {
         return None;
@@ -152,9 +152,9 @@ fn declared_by<'s>(
 }
 
 /// Pushes the declaration, if there is one.
-fn put<'s>(declared: Option<Declared<'s>>, found: &mut Vec<Declared<'s>>) -> Result<(), AllocError>
+fn push_declaration<'s>(declared: Option<Declared<'s>>, found: &mut Vec<Declared<'s>>) -> Result<(), AllocError>
     ensures { OnOk result (map declaration found.new.items
-        ≡ map declaration found.old.items ++ listed declared.entry) }
+        ≡ map declaration found.old.items ++ declared_list declared.entry) }
 {
     let Some(declared) = declared else {
         return Ok(());
@@ -167,7 +167,7 @@ fn put<'s>(declared: Option<Declared<'s>>, found: &mut Vec<Declared<'s>>) -> Res
 fn local_of<'s>(accepted: &Accepted<'_, 's>, item: Item) -> Option<Declared<'s>>
     requires { (i : ℕ) × (slice_get (outline accepted.now.tokens) i ≡ Some item) }
     ensures { listed result ≡ map of_local
-        (with_attribute (attribute (numbered accepted.now.tokens) item) []) }
+        (with_attribute (attribute (number_tokens accepted.now.tokens) item) []) }
 {
     let Item::Attribute { level, name, .. } = item else {
         return None;
@@ -196,14 +196,14 @@ fn push_locals<'s>(
     requires { items.now ≡ outline accepted.now.tokens }
     ensures { OnOk result (map declaration found.new.items
         ≡ map declaration found.old.items
-        ++ map of_local (attributes_in (numbered accepted.now.tokens) (drop from items.now))) }
+        ++ map of_local (attributes_in (number_tokens accepted.now.tokens) (drop from items.now))) }
 {
     for number in from..items.len() {
         let item = items.get(number);
         if !is_inside(item) {
             return Ok(());
         }
-        put(local_of(accepted, item), found)?;
+        push_declaration(local_of(accepted, item), found)?;
     }
     Ok(())
 }
@@ -226,12 +226,12 @@ fn push_block<'s>(
     requires items { items.now ≡ outline accepted.now.tokens }
     requires token { token < length accepted.now.tokens }
     ensures { OnOk result (map declaration found.new.items ≡ map declaration found.old.items
-        ++ of_block (numbered accepted.now.tokens) token
-        (labels_in (numbered accepted.now.tokens) (drop from items.now))
-        (attributes_in (numbered accepted.now.tokens) (drop from items.now))) }
+        ++ of_block (number_tokens accepted.now.tokens) token
+        (labels_in (number_tokens accepted.now.tokens) (drop from items.now))
+        (attributes_in (number_tokens accepted.now.tokens) (drop from items.now))) }
 {
     if word_at(accepted, token) != "locals" {
-        return put(declared_by(accepted, items, token, from), found);
+        return push_declaration(declared_by(accepted, items, token, from), found);
     }
     if !is_unlabelled(names(accepted, items, from)) {
         return Ok(());
@@ -252,7 +252,7 @@ fn push_item<'s>(
     ensures { OnOk result ((item : Item) → slice_get items.now number ≡ Some item
         → map declaration found.new.items
         ≡ map declaration found.old.items
-        ++ of_item (numbered accepted.now.tokens) item (drop (number + 1) items.now)) }
+        ++ of_item (number_tokens accepted.now.tokens) item (drop (number + 1) items.now)) }
 {
     let Item::Block { level, kind, .. } = items.get(number) else {
         return Ok(());
@@ -279,7 +279,7 @@ pub fn declarations<'s>(
 ) -> Result<Vec<Declared<'s>>, AllocError>
     requires { items.now ≡ outline accepted.now.tokens }
     ensures { IfOk result (λ found. map declaration found.items
-        ≡ declarations (numbered accepted.now.tokens)) }
+        ≡ declarations (number_tokens accepted.now.tokens)) }
 {
     let room = (items.len() / ITEMS_A_DECLARATION / 4 * 4).min(MOST_ROOM);
     let mut found = Vec::with_capacity(alloc, room)?;

@@ -2,7 +2,7 @@
 
 ghost use Rattle.std.specs.Prelude.{◌≡◌, IfOk};
 ghost use Rattle.hcl_grammar.specs.Items.{outline};
-ghost use Rattle.hcl_grammar.specs.Numbered.{numbered};
+ghost use Rattle.hcl_grammar.specs.Numbered.{number_tokens};
 ghost use Rattle.tf_facts.specs.Facts.{facts_of};
 ghost use Rattle.tf_facts.specs.Found.{facts};
 
@@ -28,7 +28,7 @@ pub fn facts_of<'s>(
     items: &Outline,
 ) -> Result<FileFacts<'s>, AllocError>
     requires { items.now ≡ outline accepted.now.tokens }
-    ensures { IfOk result (λ found. facts found ≡ facts_of (numbered accepted.now.tokens)) }
+    ensures { IfOk result (λ found. facts found ≡ facts_of (number_tokens accepted.now.tokens)) }
 {
     let tokens = accepted.tokens();
     let patterns = found_patterns(alloc, tokens)?;

@@ -4,7 +4,7 @@ ghost use Rattle.std.specs.Prelude.{◌≡◌, ◌==◌, ◌<◌, ◌+◌, ◌^�
 ghost use Rattle.std.specs.Str.{bytes_eq};
 ghost use Rattle.indexmap.specs.IndexSet.{insert_all};
 ghost use Rattle.hcl_grammar.specs.Items.{outline};
-ghost use Rattle.hcl_grammar.specs.Numbered.{numbered};
+ghost use Rattle.hcl_grammar.specs.Numbered.{number_tokens};
 ghost use Rattle.hcl_grammar.specs.declared.item.Item.{Item};
 ghost use Rattle.tf_facts.specs.VariableBlocks.{block_view, Apart};
 ghost use Rattle.tf_facts.specs.References.{variable_blocks, variable_blocks_of_item, references};
@@ -42,7 +42,7 @@ fn variable_block_at<'s>(
     requires within { number < length items.now }
     requires small { number + 1 < 2 ^ 64 }
     ensures { (item : Item) → slice_get items.now number ≡ Some item
-        → blocks_listed result ≡ variable_blocks_of_item (numbered accepted.now.tokens) item
+        → blocks_listed result ≡ variable_blocks_of_item (number_tokens accepted.now.tokens) item
         (drop (number + 1) items.now) }
 {
     let Item::Block { level, kind, end } = items.get(number) else {
@@ -72,7 +72,7 @@ pub fn variable_blocks<'s>(
 ) -> Result<Vec<VariableBlock<'s>>, AllocError>
     requires { items.now ≡ outline accepted.now.tokens }
     ensures blocks { IfOk result (λ found. map block_view found.items
-        ≡ variable_blocks (numbered accepted.now.tokens)) }
+        ≡ variable_blocks (number_tokens accepted.now.tokens)) }
     ensures apart { IfOk result (λ found. Apart 0 (map block_view found.items)) }
 {
     let mut found = Vec::new(alloc);
@@ -94,7 +94,7 @@ pub fn add_references_of(
 ) -> Result<(), AllocError>
     requires { items.now ≡ outline accepted.now.tokens }
     ensures ok { OnOk result (into.new
-        ≡ insert_all bytes_eq into.old (references (numbered accepted.now.tokens))) }
+        ≡ insert_all bytes_eq into.old (references (number_tokens accepted.now.tokens))) }
     ensures err { OnErr result (into.new ≡ into.old) }
 {
     let blocks = variable_blocks(alloc, accepted, items)?;

@@ -10,7 +10,7 @@
 ghost use Rattle.std.specs.Prelude.{◌≡◌, ◌++◌, ◌∷◌, [], ℕ, Bool, suc, false, get_or, map, reverse, IfOk, OnOk, if◌then◌else◌};
 ghost use Rattle.hcl_tokens.specs.Kinds.{is};
 ghost use Rattle.hcl_tokens.specs.declared.token.Kind.TheVariants.{InterpOpen, Number, QuoteClose};
-ghost use Rattle.hcl_grammar.specs.Numbered.{numbered};
+ghost use Rattle.hcl_grammar.specs.Numbered.{number_tokens};
 ghost use Rattle.tf_facts.specs.Comments.{comments};
 ghost use Rattle.tf_facts.specs.Found.{comment};
 ghost use Rattle.tf_facts.specs.Patterns.{legacy_indexes, wrapped_interpolations};
@@ -117,12 +117,12 @@ fn in_order(
 /// The patterns of a file and the line comments that rules need, in order.
 pub fn found_patterns(alloc: Global, tokens: &Tokens<'_>) -> Result<Patterns, AllocError>
     ensures comments { IfOk result (λ found. map comment found.comments.items
-        ≡ comments (numbered tokens.now.tokens)) }
+        ≡ comments (number_tokens tokens.now.tokens)) }
     ensures indexes { IfOk result (λ found. found.indexes.items
-        ≡ legacy_indexes (numbered tokens.now.tokens)) }
+        ≡ legacy_indexes (number_tokens tokens.now.tokens)) }
     ensures interpolations { IfOk result
         (λ found. found.interpolations.items
-        ≡ wrapped_interpolations (numbered tokens.now.tokens)) }
+        ≡ wrapped_interpolations (number_tokens tokens.now.tokens)) }
 {
     let mut comments = Vec::new(alloc);
     let mut indexes = Vec::new(alloc);

@@ -7,7 +7,7 @@ ghost use Rattle.hcl_tokens.specs.Kinds.{is};
 ghost use Rattle.hcl_tokens.specs.declared.token.Kind.TheVariants.{Ident};
 ghost use Rattle.tf_facts.specs.References.{name_after, reference_at, reference_of};
 ghost use Rattle.tf_facts.specs.Inner.Seen.{seen_from, numbered_of};
-ghost use Rattle.tf_facts.specs.Inner.Spelled.{IsAfter, spelled};
+ghost use Rattle.tf_facts.specs.Inner.Spelled.{IsAfter, spelling_of};
 
 use crate::seen::{Seen, is_dot, is_passed_over, next_seen};
 use hcl_tokens::{Kind, Tokens};
@@ -75,7 +75,7 @@ fn is_leading(word: &str) -> bool
 pub fn reference_at<'s>(tokens: &Tokens<'s>, word: Seen<'s>) -> Option<Reference<'s>>
     requires within { word.number < length tokens.now.tokens }
     requires small { word.number + 1 < 2 ^ 64 }
-    ensures { option_map spelled result
+    ensures { option_map spelling_of result
         ≡ reference_at (numbered_of word.entry ∷ seen_from tokens.now.tokens
         (word.entry.number + 1)) }
 {

@@ -7,7 +7,7 @@ ghost use Rattle.std.specs.Str.{bytes_eq};
 ghost use Rattle.indexmap.specs.IndexSet.{insert_all};
 ghost use Rattle.tf_facts.specs.References.{is_self_reference, reference_at, references_from, unless_self_reference};
 ghost use Rattle.tf_facts.specs.Inner.Seen.{AreNoIdents, IsIdentAt, seen_from, numbered_of};
-ghost use Rattle.tf_facts.specs.Inner.Spelled.{spelled};
+ghost use Rattle.tf_facts.specs.Inner.Spelled.{spelling_of};
 ghost use Rattle.tf_facts.specs.VariableBlocks.{block_view, Apart, ArePassed, Extends, IsAhead};
 
 use crate::reference::{Reference, is_ident, may_be_named, reference_at};
@@ -19,7 +19,7 @@ use std::alloc::{AllocError, Global};
 
 /// Writes the text that identifies a reference over another text, whose room it reuses.
 fn spell(reference: Reference<'_>, text: &mut String) -> Result<(), AllocError>
-    ensures { OnOk result (string_bytes text.new ≡ spelled reference.entry) }
+    ensures { OnOk result (string_bytes text.new ≡ spelling_of reference.entry) }
 {
     text.clear();
     match reference {
@@ -59,7 +59,7 @@ fn begins_before(block: VariableBlock<'_>, number: usize, name: &str) -> bool
 }
 
 /// How many blocks end at or before a token, if `from` of them are known to.
-fn passed(blocks: &[VariableBlock<'_>], from: usize, number: usize) -> usize
+fn count_passed(blocks: &[VariableBlock<'_>], from: usize, number: usize) -> usize
     requires passed { ArePassed (map block_view blocks.now) from number }
     requires within { from ≤ length blocks.now }
     ensures passed { ArePassed (map block_view blocks.now) result number }
@@ -91,7 +91,7 @@ fn is_self_reference(
     requires within { next ≤ length blocks.now }
     requires ahead { IsAhead blocks.now next number }
     ensures { result ≡ is_self_reference (map block_view blocks.now) number
-        (spelled reference.entry) }
+        (spelling_of reference.entry) }
 {
     let Reference::Variable(name) = reference else {
         return false;
@@ -113,7 +113,7 @@ struct Blocks<'b, 's> {
 
 /// Inserts the reference that begins with a token into the set, unless it is a self-reference. Its text is written into
 /// the room of another's.
-fn put(
+fn insert_reference(
     alloc: Global,
     tokens: &Tokens<'_>,
     blocks: Blocks<'_, '_>,
@@ -192,7 +192,7 @@ pub fn collect(
         if is_after_dot(tokens, number) {
             continue;
         }
-        passed_blocks = passed(blocks, passed_blocks, number);
+        passed_blocks = count_passed(blocks, passed_blocks, number);
         let token = tokens.get(number);
         let word = Seen {
             number,
@@ -203,7 +203,7 @@ pub fn collect(
             all: blocks,
             passed: passed_blocks,
         };
-        put(alloc, tokens, blocks, word, &mut text, into)?;
+        insert_reference(alloc, tokens, blocks, word, &mut text, into)?;
     }
     Ok(())
 }

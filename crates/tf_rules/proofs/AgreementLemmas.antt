@@ -9,7 +9,7 @@ use Rattle.tf_facts.specs.Comments.{Comment, comments}
 use Rattle.tf_rules.specs.Findings.{Finding, findings}
 use Rattle.tf_facts.specs.Facts.{facts_of}
 use Rattle.tf_rules.specs.Issues.{Asked, File, Place, tokens_of, place_in, all_references, all_comments, comment_at, covers, is_beside, issue_in, issues_in, reported_issues, issues}
-use Rattle.tf_rules.specs.Agreement.{SameTokens, Told, told, line_in}
+use Rattle.tf_rules.specs.Agreement.{SameTokens, Told, told_of, line_in}
 use Rattle.rule_set.specs.declared.rule.Rule.{Rule}
 use Rattle.tf_rules.proofs.FindingLemmas.{map-map, map_same, map-flat_map, flat_map_same}
 
@@ -22,35 +22,35 @@ same_references [] (g ∷ others) h = absurd h
 same_references (f ∷ files) [] h = absurd h
 same_references (f ∷ files) (g ∷ others) h = ap₂ (λ x y. x ++ y) (ap references h.0.tokens) (same_references files others h.1)
 
-same_told_in : (asked : Asked) (used : List (List ℕ)) (rule : Rule) (f g : File) → SameTokens f g → map told (issues_in asked used rule f) ≡ map told (issues_in asked used rule g)
+same_told_in : (asked : Asked) (used : List (List ℕ)) (rule : Rule) (f g : File) → SameTokens f g → map told_of (issues_in asked used rule f) ≡ map told_of (issues_in asked used rule g)
 same_told_in asked used rule f g h =
-    map-map told (issue_in f rule) (findings asked.naming used (facts_of (tokens_of f)) rule)
+    map-map told_of (issue_in f rule) (findings asked.naming used (facts_of (tokens_of f)) rule)
     ∙ ap (λ ts. map (told_in f rule) (findings asked.naming used (facts_of ts) rule)) h.tokens
     ∙ map_same (told_in f rule) (told_in g rule) (λ x. ap₂ (λ number line. record { file = number; token = x.at; line = line; rule = rule; message = x.message }) h.number (h.lines x.at))
     (findings asked.naming used (facts_of (tokens_of g)) rule)
-    ∙ sym (map-map told (issue_in g rule) (findings asked.naming used (facts_of (tokens_of g)) rule))
+    ∙ sym (map-map told_of (issue_in g rule) (findings asked.naming used (facts_of (tokens_of g)) rule))
 
 same_in_all : (asked : Asked) (used : List (List ℕ)) (rule : Rule) (files others : List File) → AllZip SameTokens files others
-    → flat_map (λ f. map told (issues_in asked used rule f)) files ≡ flat_map (λ f. map told (issues_in asked used rule f)) others
+    → flat_map (λ f. map told_of (issues_in asked used rule f)) files ≡ flat_map (λ f. map told_of (issues_in asked used rule f)) others
 same_in_all asked used rule [] [] h = refl
 same_in_all asked used rule [] (g ∷ others) h = absurd h
 same_in_all asked used rule (f ∷ files) [] h = absurd h
 same_in_all asked used rule (f ∷ files) (g ∷ others) h = ap₂ (λ x y. x ++ y) (same_told_in asked used rule f g h.0) (same_in_all asked used rule files others h.1)
 
 by_rule : (asked : Asked) (files others : List File) → AllZip SameTokens files others → (rule : Rule)
-    → map told (flat_map (issues_in asked (all_references files) rule) files) ≡ map told (flat_map (issues_in asked (all_references others) rule) others)
+    → map told_of (flat_map (issues_in asked (all_references files) rule) files) ≡ map told_of (flat_map (issues_in asked (all_references others) rule) others)
 by_rule asked files others h rule =
-    ap (λ used. map told (flat_map (issues_in asked used rule) files)) (same_references files others h)
-    ∙ map-flat_map told (issues_in asked (all_references others) rule) files
+    ap (λ used. map told_of (flat_map (issues_in asked used rule) files)) (same_references files others h)
+    ∙ map-flat_map told_of (issues_in asked (all_references others) rule) files
     ∙ same_in_all asked (all_references others) rule files others h
-    ∙ sym (map-flat_map told (issues_in asked (all_references others) rule) others)
+    ∙ sym (map-flat_map told_of (issues_in asked (all_references others) rule) others)
 
-reported_agree : (asked : Asked) (files others : List File) → AllZip SameTokens files others → map told (reported_issues asked files) ≡ map told (reported_issues asked others)
+reported_agree : (asked : Asked) (files others : List File) → AllZip SameTokens files others → map told_of (reported_issues asked files) ≡ map told_of (reported_issues asked others)
 reported_agree asked files others h =
-    map-flat_map told (λ rule. flat_map (issues_in asked (all_references files) rule) files) asked.rules
-    ∙ flat_map_same (λ rule. map told (flat_map (issues_in asked (all_references files) rule) files)) (λ rule. map told (flat_map (issues_in asked (all_references others) rule) others))
+    map-flat_map told_of (λ rule. flat_map (issues_in asked (all_references files) rule) files) asked.rules
+    ∙ flat_map_same (λ rule. map told_of (flat_map (issues_in asked (all_references files) rule) files)) (λ rule. map told_of (flat_map (issues_in asked (all_references others) rule) others))
     (by_rule asked files others h) asked.rules
-    ∙ sym (map-flat_map told (λ rule. flat_map (issues_in asked (all_references others) rule) others) asked.rules)
+    ∙ sym (map-flat_map told_of (λ rule. flat_map (issues_in asked (all_references others) rule) others) asked.rules)
 
 -- ---- silencing
 
@@ -94,9 +94,9 @@ same_mutes (f ∷ files) (g ∷ others) h t =
     ∙ sym (list_any-map (covers t.file t.line t.rule) (comment_at (place_in g)) (comments (tokens_of g)))) (same_mutes files others h.1 t)
     ∙ sym (list_any-append (covers t.file t.line t.rule) (map (comment_at (place_in g)) (comments (tokens_of g))) (all_comments others))
 
-pub agree : (asked : Asked) (files others : List File) → AllZip SameTokens files others → map told (issues asked files) ≡ map told (issues asked others)
+pub agree : (asked : Asked) (files others : List File) → AllZip SameTokens files others → map told_of (issues asked files) ≡ map told_of (issues asked others)
 agree asked files others h =
-    map-filter (λ t. not (mutes (all_comments files) t)) told (reported_issues asked files)
+    map-filter (λ t. not (mutes (all_comments files) t)) told_of (reported_issues asked files)
     ∙ ap (filter (λ t. not (mutes (all_comments files) t))) (reported_agree asked files others h)
-    ∙ filter_same (λ t. not (mutes (all_comments files) t)) (λ t. not (mutes (all_comments others) t)) (λ t. ap not (same_mutes files others h t)) (map told (reported_issues asked others))
-    ∙ sym (map-filter (λ t. not (mutes (all_comments others) t)) told (reported_issues asked others))
+    ∙ filter_same (λ t. not (mutes (all_comments files) t)) (λ t. not (mutes (all_comments others) t)) (λ t. ap not (same_mutes files others h t)) (map told_of (reported_issues asked others))
+    ∙ sym (map-filter (λ t. not (mutes (all_comments others) t)) told_of (reported_issues asked others))

@@ -4,7 +4,7 @@ use Rattle.std.specs.Prelude.{◌⊎◌, ◌==◌, ◌&&◌, Option, Some, None,
 use Rattle.std.specs.List.{flat_map}
 use Rattle.std.proofs.lemmas.Bool.{and_left, and_right, ne_eqb}
 use Rattle.hcl_tokens.specs.Lexemes.{Lexeme}
-use Rattle.hcl_grammar.specs.Numbered.{numbered}
+use Rattle.hcl_grammar.specs.Numbered.{number_tokens}
 use Rattle.tf_rules.specs.Answers.{IsBelow, Rising}
 use Rattle.tf_facts.specs.Comments.{Comment, comments}
 use Rattle.tf_facts.specs.Declarations.{Declaration, SourceAt, declarations}
@@ -84,19 +84,19 @@ module _ (naming : Naming) (used : List (List ℕ)) where
       by_source (Some s) r rest = by_kind s s.source (omega (arith, h.0, r.0)) (rest (s.at + 1) r.1)
 
 module _ (naming : Naming) (used : List (List ℕ)) (tokens : List Lexeme) where
-  over_declarations : (rule : Rule) → ((d : Declaration ℕ) → Up found_at d.at (finding naming used rule d) (d.at + 1)) → Up found_at 0 (flat_map (finding naming used rule) (declarations (numbered tokens))) (length tokens)
+  over_declarations : (rule : Rule) → ((d : Declaration ℕ) → Up found_at d.at (finding naming used rule d) (d.at + 1)) → Up found_at 0 (flat_map (finding naming used rule) (declarations (number_tokens tokens))) (length tokens)
   over_declarations rule each =
-      up_flat declared_at found_at (finding naming used rule) each 0 (length tokens) (declarations (numbered tokens)) (declared_up 0 (length tokens) (declarations (numbered tokens)) (declarations_in_order tokens))
+      up_flat declared_at found_at (finding naming used rule) each 0 (length tokens) (declarations (number_tokens tokens)) (declared_up 0 (length tokens) (declarations (number_tokens tokens)) (declarations_in_order tokens))
 
-  findings_up : (rule : Rule) → Up found_at 0 (findings naming used (facts_of (numbered tokens)) rule) (length tokens)
+  findings_up : (rule : Rule) → Up found_at 0 (findings naming used (facts_of (number_tokens tokens)) rule) (length tokens)
   findings_up CommentSyntax =
-      up_flat comment_number found_at slash_findings (λ c. says_up c.slashes c.at (codes "line comments should begin with #")) 0 (length tokens) (comments (numbered tokens))
-      (rise_up comment_number 0 (length tokens) (comments (numbered tokens)) (comments_in_order tokens))
-  findings_up DeprecatedIndex = up_map found_at (says_of (codes "list items should be accessed using square brackets")) 0 (length tokens) (legacy_indexes (numbered tokens)) (rise_is 0 (length tokens) (legacy_indexes (numbered tokens)) (indexes_in_order tokens))
-  findings_up DeprecatedInterpolation = up_map found_at (says_of (codes "interpolation-only expressions are deprecated")) 0 (length tokens) (wrapped_interpolations (numbered tokens)) (rise_is 0 (length tokens) (wrapped_interpolations (numbered tokens)) (interpolations_in_order tokens))
+      up_flat comment_number found_at slash_findings (λ c. says_up c.slashes c.at (codes "line comments should begin with #")) 0 (length tokens) (comments (number_tokens tokens))
+      (rise_up comment_number 0 (length tokens) (comments (number_tokens tokens)) (comments_in_order tokens))
+  findings_up DeprecatedIndex = up_map found_at (says_of (codes "list items should be accessed using square brackets")) 0 (length tokens) (legacy_indexes (number_tokens tokens)) (rise_is 0 (length tokens) (legacy_indexes (number_tokens tokens)) (indexes_in_order tokens))
+  findings_up DeprecatedInterpolation = up_map found_at (says_of (codes "interpolation-only expressions are deprecated")) 0 (length tokens) (wrapped_interpolations (number_tokens tokens)) (rise_is 0 (length tokens) (wrapped_interpolations (number_tokens tokens)) (interpolations_in_order tokens))
   findings_up DocumentedOutputs = over_declarations DocumentedOutputs (λ d. says_up _ d.at _)
   findings_up DocumentedVariables = over_declarations DocumentedVariables (λ d. says_up _ d.at _)
-  findings_up ModulePinnedSource = pinned_up naming used 0 (length tokens) (declarations (numbered tokens)) (declarations_in_order tokens)
+  findings_up ModulePinnedSource = pinned_up naming used 0 (length tokens) (declarations (number_tokens tokens)) (declarations_in_order tokens)
   findings_up ModuleVersion = over_declarations ModuleVersion (λ d. says_up _ d.at _)
   findings_up NamingConvention = over_declarations NamingConvention (λ d. says_up _ d.at _)
   findings_up TypedVariables = over_declarations TypedVariables (λ d. says_up _ d.at _)

@@ -12,7 +12,7 @@ use Rattle.tf_facts.specs.Facts.{Facts}
 use Rattle.tf_rules.specs.Findings.{Finding, findings, finding, says_if, says_of, slash_findings, about, unpinned_findings, unpinned_findings_by, from_registry, is_unused, uses_of, kind_text, both_quoted}
 use Rattle.tf_facts.specs.Comments.{Comment}
 use Rattle.tf_rules.specs.Issues.{comment_at}
-use Rattle.tf_rules.specs.Stored.{source_at, declaration_at, facts_at, both}
+use Rattle.tf_rules.specs.Stored.{source_at, declaration_at, facts_at, append_facts}
 use Rattle.rule_set.specs.declared.rule.Rule.{Rule}
 use Rattle.rule_set.specs.declared.rule.Rule.TheVariants.{CommentSyntax, DeprecatedIndex, DeprecatedInterpolation, DocumentedOutputs, DocumentedVariables, ModulePinnedSource, ModuleVersion, NamingConvention, TypedVariables, UnusedDeclarations}
 use Rattle.tf_rules.specs.declared.naming.Naming.{Naming}
@@ -105,17 +105,17 @@ module _ {P Q : Type 0} (f : P → Q) where
 -- ---- the facts of two files
 
 module _ {P : Type 0} (naming : Naming) (used : List (List ℕ)) (a b : Facts P) where
-  pub findings-both : (rule : Rule) → findings naming used (both a b) rule ≡ findings naming used a rule ++ findings naming used b rule
-  findings-both CommentSyntax = flat_map-append _ a.comments b.comments
-  findings-both DeprecatedIndex = map-append _ a.indexes b.indexes
-  findings-both DeprecatedInterpolation = map-append _ a.interpolations b.interpolations
-  findings-both DocumentedOutputs = flat_map-append _ a.declarations b.declarations
-  findings-both DocumentedVariables = flat_map-append _ a.declarations b.declarations
-  findings-both ModulePinnedSource = flat_map-append _ a.declarations b.declarations
-  findings-both ModuleVersion = flat_map-append _ a.declarations b.declarations
-  findings-both NamingConvention = flat_map-append _ a.declarations b.declarations
-  findings-both TypedVariables = flat_map-append _ a.declarations b.declarations
-  findings-both UnusedDeclarations = flat_map-append _ a.declarations b.declarations
+  pub findings-append_facts : (rule : Rule) → findings naming used (append_facts a b) rule ≡ findings naming used a rule ++ findings naming used b rule
+  findings-append_facts CommentSyntax = flat_map-append _ a.comments b.comments
+  findings-append_facts DeprecatedIndex = map-append _ a.indexes b.indexes
+  findings-append_facts DeprecatedInterpolation = map-append _ a.interpolations b.interpolations
+  findings-append_facts DocumentedOutputs = flat_map-append _ a.declarations b.declarations
+  findings-append_facts DocumentedVariables = flat_map-append _ a.declarations b.declarations
+  findings-append_facts ModulePinnedSource = flat_map-append _ a.declarations b.declarations
+  findings-append_facts ModuleVersion = flat_map-append _ a.declarations b.declarations
+  findings-append_facts NamingConvention = flat_map-append _ a.declarations b.declarations
+  findings-append_facts TypedVariables = flat_map-append _ a.declarations b.declarations
+  findings-append_facts UnusedDeclarations = flat_map-append _ a.declarations b.declarations
 
 -- ---- the references as a set
 

@@ -8,7 +8,7 @@ use Rattle.hcl_tokens.specs.Kinds.{is}
 use Rattle.hcl_tokens.specs.declared.token.Kind.TheVariants.{LineComment, Lit, Newline, QuoteClose, QuoteOpen}
 use Rattle.hcl_tokens.specs.Lexemes.{Lexeme}
 use Rattle.hcl_tokens.specs.Scans.{Scans}
-use Rattle.hcl_grammar.specs.Numbered.{Numbered, numbered, numbered_from, significant, is_comment, is_passed_over}
+use Rattle.hcl_grammar.specs.Numbered.{Numbered, number_tokens, numbered_from, significant, is_comment, is_passed_over}
 use Rattle.hcl_grammar.specs.Items.{is_closed, outline}
 use Rattle.hcl_grammar.specs.ItemOrder.{Climbs}
 use Rattle.hcl_grammar.specs.Labels.{text_of}
@@ -74,10 +74,10 @@ rises_taken n zero xs = omega arith
 rises_taken n (suc k) [] = omega arith
 rises_taken n (suc k) (x ∷ xs) = (omega arith, let e : n + 1 + k ≡ n + suc k = omega arith in subst (λ (to : ℕ). Rises (n + 1) (take k (numbered_from (n + 1) xs)) to) e (rises_taken (n + 1) k xs))
 
-value_rises : (tokens : List Lexeme) (a : Attribute) → a.first ≤ a.end → Rises a.first (value_of (numbered tokens) a) a.end
+value_rises : (tokens : List Lexeme) (a : Attribute) → a.first ≤ a.end → Rises a.first (value_of (number_tokens tokens) a) a.end
 value_rises tokens a h =
     let e : a.first + (a.end - a.first) ≡ a.end = omega (arith, h) in
-    rises_filter (λ t. not (is_comment t.kind) && not (is Newline t.kind)) a.first a.end (take (a.end - a.first) (drop a.first (numbered tokens)))
+    rises_filter (λ t. not (is_comment t.kind) && not (is Newline t.kind)) a.first a.end (take (a.end - a.first) (drop a.first (number_tokens tokens)))
     (subst (λ (ts : List Numbered). Rises a.first (take (a.end - a.first) ts) a.end) (sym (numbered_at tokens a.first))
     (subst (λ (to : ℕ). Rises a.first (take (a.end - a.first) (numbered_from a.first (drop a.first tokens))) to) e (rises_taken a.first (a.end - a.first) (drop a.first tokens))))
 
@@ -104,13 +104,13 @@ named ds = flat_map numbers_of ds
 -- the numbers in the declarations of the items; in the attributes at the front as locals, and then in the declarations;
 -- in the source at the front, and then in the declarations: each rise
 record IsRising (tokens : List Lexeme) (from : ℕ) (is : List Item) (to : ℕ) : Type 0 where
-  items : Rise from (named (of_items (numbered tokens) is)) to
-  locals : Rise from (named (map of_local (attributes_in (numbered tokens) is)) ++ named (of_items (numbered tokens) is)) to
-  source : Rise from (quotes (module_source (numbered tokens) (attributes_in (numbered tokens) is)) ++ named (of_items (numbered tokens) is)) to
+  items : Rise from (named (of_items (number_tokens tokens) is)) to
+  locals : Rise from (named (map of_local (attributes_in (number_tokens tokens) is)) ++ named (of_items (number_tokens tokens) is)) to
+  source : Rise from (quotes (module_source (number_tokens tokens) (attributes_in (number_tokens tokens) is)) ++ named (of_items (number_tokens tokens) is)) to
 
 module _ (tokens : List Lexeme) where
   abbrev ts : List Numbered
-  ts = numbered tokens
+  ts = number_tokens tokens
 
   later : (from mid to : ℕ) (is : List Item) → from ≤ mid → IsRising tokens mid is to → IsRising tokens from is to
   later from mid to is h r = record {

@@ -7,7 +7,7 @@ use Rattle.hcl_tokens.specs.Lexemes.{Lexeme}
 use Rattle.hcl_grammar.proofs.NumberedLemmas.{drop_at}
 use Rattle.hcl_grammar.specs.Verdict.{start_of}
 use Rattle.tf_rules.specs.Issues.{File}
-use Rattle.tf_rules.specs.Inner.Locating.{Locating, CanAdvance, Forward, IsKeeping, reached_after, advanced}
+use Rattle.tf_rules.specs.Inner.Locating.{Locating, CanAdvance, Forward, IsKeeping, reached_after, advance}
 
 forward_first : (ts : List Lexeme) (r : ℕ) (ns ms : List ℕ) → Forward ts r (ns ++ ms) → Forward ts r ns
 forward_first ts r [] ms h = tt
@@ -43,7 +43,7 @@ module _ {X K V : Type 0} (view : K → V) (whole : File → X → V) (numbers :
       pub can_go : CanAdvance p (numbers x)
       can_go = subst (λ (f : File). Forward f.source.tokens p.reached (numbers x)) (sym h.same) (forward_first file.source.tokens p.reached (numbers x) (flat_map numbers (drop (n + 1) all)) split)
 
-      pub keeps : (next : List K) (k : K) (q : Locating) → next ≡ kept ++ k ∷ [] → view k ≡ whole p.file x → q ≡ advanced p (numbers x) → IsKeeping view (whole file) numbers file all next (n + 1) q
+      pub keeps : (next : List K) (k : K) (q : Locating) → next ≡ kept ++ k ∷ [] → view k ≡ whole p.file x → q ≡ advance p (numbers x) → IsKeeping view (whole file) numbers file all next (n + 1) q
       keeps next k q pushed is went = record {
         so_far = ap (λ ks. map view ks ++ map (whole file) (drop (n + 1) all)) pushed
             ∙ ap (λ vs. vs ++ map (whole file) (drop (n + 1) all)) (map-append view kept (k ∷ []))

@@ -13,7 +13,7 @@ use Rattle.tf_facts.specs.Comments.{Comment, comments}
 use Rattle.tf_rules.specs.Findings.{Finding, findings}
 use Rattle.tf_facts.specs.Facts.{facts_of}
 use Rattle.tf_rules.specs.Issues.{Asked, File, Place, tokens_of, place_in, all_references, all_comments, comment_at, is_silenced, issues_in, reported_issues, issues}
-use Rattle.tf_rules.specs.Stored.{Stored, nothing, with_file, stored_of, facts_at, issue_at}
+use Rattle.tf_rules.specs.Stored.{Stored, no_facts, with_file, stored_of, facts_at, issue_at}
 use Rattle.tf_rules.specs.StoredIssues.{reported_of_stored, issues_of_stored}
 use Rattle.tf_rules.proofs.FindingLemmas.{map-map, map-flat_map, flat_map_same, finding_at, findings-at, findings-both, SameTexts, findings_same}
 use Rattle.rule_set.specs.declared.rule.Rule.{Rule}
@@ -21,7 +21,7 @@ use Rattle.rule_set.specs.declared.rule.Rule.TheVariants.{CommentSyntax, Depreca
 use Rattle.tf_rules.specs.declared.naming.Naming.{Naming}
 
 pub stored_of_more : (files : List File) (file : File) → stored_of (files ++ file ∷ []) ≡ with_file (stored_of files) file
-stored_of_more files file = fold-append with_file nothing files (file ∷ [])
+stored_of_more files file = fold-append with_file no_facts files (file ∷ [])
 
 -- ---- references
 
@@ -72,7 +72,7 @@ stored_any p kept (file ∷ files) =
     ∙ ap (λ b. list_any p kept.references || b) (sym (list_any-append p (references (tokens_of file)) (all_references files)))
 
 pub same_references : (files : List File) → SameTexts (all_references files) (stored_of files).references
-same_references files text = sym (stored_any (bytes_eq text) nothing files)
+same_references files text = sym (stored_any (bytes_eq text) no_facts files)
 
 -- ---- findings, file by file
 
@@ -87,7 +87,7 @@ found_kept naming used rule kept (file ∷ files) =
     ∙ ap (λ r. r ++ flat_map (found_in naming used rule) files) (findings-both naming used kept.facts (facts_at (place_in file) (facts_of (tokens_of file))) rule)
     ∙ append_assoc (findings naming used kept.facts rule) (found_in naming used rule file) (flat_map (found_in naming used rule) files)
 
-none_found : (naming : Naming) (used : List (List ℕ)) (rule : Rule) → findings naming used nothing.facts rule ≡ []
+none_found : (naming : Naming) (used : List (List ℕ)) (rule : Rule) → findings naming used no_facts.facts rule ≡ []
 none_found naming used CommentSyntax = refl
 none_found naming used DeprecatedIndex = refl
 none_found naming used DeprecatedInterpolation = refl
@@ -111,7 +111,7 @@ by_rule asked files rule =
     sym (
     ap (map (issue_at rule)) (
     sym (findings_same asked.naming used (stored_of files).references (same_references files) (stored_of files).facts rule)
-    ∙ found_kept asked.naming used rule nothing files
+    ∙ found_kept asked.naming used rule no_facts files
     ∙ ap (λ r. r ++ flat_map (found_in asked.naming used rule) files) (none_found asked.naming used rule))
     ∙ map-flat_map (issue_at rule) (found_in asked.naming used rule) files
     ∙ flat_map_same (λ file. map (issue_at rule) (found_in asked.naming used rule file)) (issues_in asked used rule) (issues_found asked used rule) files)
@@ -131,4 +131,4 @@ stored_comments kept (file ∷ files) =
 
 pub issues_of_kept_is : (asked : Asked) (files : List File) → issues asked files ≡ issues_of_stored asked (stored_of files)
 issues_of_kept_is asked files =
-    ap₂ (λ (cs : List (Comment Place)) is. filter (λ i. not (is_silenced cs i)) is) (sym (stored_comments nothing files)) (reported_is asked files)
+    ap₂ (λ (cs : List (Comment Place)) is. filter (λ i. not (is_silenced cs i)) is) (sym (stored_comments no_facts files)) (reported_is asked files)

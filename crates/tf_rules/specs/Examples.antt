@@ -3,7 +3,7 @@ use Rattle.std.specs.Prelude.{◌≡◌, ℕ, refl, List, [], ◌∷◌, codes, 
 use Rattle.hcl_tokens.specs.Lexemes.{Lexeme}
 use Rattle.hcl_tokens.specs.declared.token.Kind.{Kind}
 use Rattle.hcl_tokens.specs.declared.token.Kind.TheVariants.{Newline, Ident, Number, QuoteOpen, BraceOpen, BraceClose, Dot, Assign, Lit, InterpOpen, SeqClose, QuoteClose}
-use Rattle.hcl_grammar.specs.Numbered.{numbered}
+use Rattle.hcl_grammar.specs.Numbered.{number_tokens}
 use Rattle.tf_facts.specs.Facts.{facts_of}
 use Rattle.tf_facts.specs.References.{references}
 use Rattle.rule_set.specs.declared.rule.Rule.TheVariants.{NamingConvention, ModulePinnedSource, UnusedDeclarations, DeprecatedIndex as OldIndex}
@@ -48,10 +48,10 @@ module_m =
     ∷ token Ident (codes "source") ∷ token Assign (codes "=") ∷ token QuoteOpen (codes "\"") ∷ token Lit (codes "github.com/a/b?ref=main") ∷ token QuoteClose (codes "\"") ∷ token Newline (codes "\n")
     ∷ token BraceClose (codes "}") ∷ token Newline (codes "\n") ∷ []
 
-misnamed : findings SnakeCase [] (facts_of (numbered module_m)) NamingConvention ≡ record { at = 0; message = codes "module name \"M\" must match snake_case" } ∷ []
+misnamed : findings SnakeCase [] (facts_of (number_tokens module_m)) NamingConvention ≡ record { at = 0; message = codes "module name \"M\" must match snake_case" } ∷ []
 misnamed = refl
 
-on_a_branch : findings SnakeCase [] (facts_of (numbered module_m)) ModulePinnedSource ≡
+on_a_branch : findings SnakeCase [] (facts_of (number_tokens module_m)) ModulePinnedSource ≡
     record { at = 8; message = codes "module \"M\" source uses a default branch: main" } ∷ []
 on_a_branch = refl
 
@@ -61,7 +61,7 @@ data_k =
     token Ident (codes "data") ∷ token QuoteOpen (codes "\"") ∷ token Lit (codes "t") ∷ token QuoteClose (codes "\"") ∷ token QuoteOpen (codes "\"") ∷ token Lit (codes "k") ∷ token QuoteClose (codes "\"")
     ∷ token BraceOpen (codes "{") ∷ token BraceClose (codes "}") ∷ token Newline (codes "\n") ∷ []
 
-unused_data : findings SnakeCase (codes "data.t.n" ∷ []) (facts_of (numbered data_k)) UnusedDeclarations ≡
+unused_data : findings SnakeCase (codes "data.t.n" ∷ []) (facts_of (number_tokens data_k)) UnusedDeclarations ≡
     record { at = 0; message = codes "data \"t\" \"k\" is declared but not used" } ∷ []
 unused_data = refl
 
@@ -77,9 +77,9 @@ two_locals =
     ∷ token Ident (codes "u") ∷ token Assign (codes "=") ∷ token Ident (codes "aws") ∷ token Dot (codes ".") ∷ token Ident (codes "x") ∷ token Dot (codes ".") ∷ token Number (codes "0") ∷ token Newline (codes "\n")
     ∷ token BraceClose (codes "}") ∷ token Newline (codes "\n") ∷ []
 
-unused_locals : findings SnakeCase (references (numbered two_locals)) (facts_of (numbered two_locals)) UnusedDeclarations ≡
+unused_locals : findings SnakeCase (references (number_tokens two_locals)) (facts_of (number_tokens two_locals)) UnusedDeclarations ≡
     record { at = 3; message = codes "local \"Bad\" is declared but not used" } ∷ record { at = 13; message = codes "local \"u\" is declared but not used" } ∷ []
 unused_locals = refl
 
-old_index : findings SnakeCase [] (facts_of (numbered two_locals)) OldIndex ≡ record { at = 18; message = codes "list items should be accessed using square brackets" } ∷ []
+old_index : findings SnakeCase [] (facts_of (number_tokens two_locals)) OldIndex ≡ record { at = 18; message = codes "list items should be accessed using square brackets" } ∷ []
 old_index = refl

@@ -31,16 +31,16 @@ kind_text declares.Data = codes "data"
 kind_text declares.Local = codes "local"
 
 -- a blank, a name in double quotes, and the text after it
-abbrev pub quoting : List ℕ → List ℕ → List ℕ
-quoting name rest = codes " \"" ++ (name ++ (codes "\"" ++ rest))
+abbrev pub quote_name : List ℕ → List ℕ → List ℕ
+quote_name name rest = codes " \"" ++ (name ++ (codes "\"" ++ rest))
 
 abbrev pub both_quoted : List (List ℕ) → List ℕ → List ℕ
 both_quoted [] rest = rest
-both_quoted (n ∷ ns) rest = quoting n (both_quoted ns rest)
+both_quoted (n ∷ ns) rest = quote_name n (both_quoted ns rest)
 
 -- `KIND "NAME"` and the text after it
 abbrev pub about : {P : Type 0} → Declaration P → List ℕ → List ℕ
-about d rest = kind_text d.kind ++ quoting (last_of d.names) rest
+about d rest = kind_text d.kind ++ quote_name (last_of d.names) rest
 
 -- ---- tests
 
@@ -100,7 +100,7 @@ finding naming used ModuleVersion d =
     says_if (from_registry d.source && not d.versioned) d.at (about d (codes " has no version"))
 finding naming used NamingConvention d =
     says_if (not (matches_naming naming (last_of d.names))) d.at (kind_text d.kind
-    ++ (codes " name" ++ quoting (last_of d.names) (codes " must match " ++ naming_text naming)))
+    ++ (codes " name" ++ quote_name (last_of d.names) (codes " must match " ++ naming_text naming)))
 finding naming used TypedVariables d =
     says_if (is_kind declares.Variable d.kind && not d.typed) d.at (about d (codes " has no type"))
 finding naming used UnusedDeclarations d =

@@ -8,7 +8,7 @@ use Rattle.hcl_tokens.specs.Scanned.{Scanned}
 use Rattle.hcl_source.specs.Places.{place}
 use Rattle.hcl_source.specs.declared.fault.Position.{Position}
 use Rattle.hcl_grammar.specs.Verdict.{start_of}
-use Rattle.hcl_grammar.specs.Numbered.{Numbered, numbered}
+use Rattle.hcl_grammar.specs.Numbered.{Numbered, number_tokens}
 use Rattle.rule_set.specs.Rules.{is_rule, rank}
 use Rattle.rule_set.specs.RuleSets.{rules_of}
 use Rattle.tf_facts.specs.Comments.{Comment, comments}
@@ -44,7 +44,7 @@ abbrev pub asked_of : Settings → Asked
 asked_of settings = record { rules = rules_of settings.rules; naming = settings.naming }
 
 abbrev pub tokens_of : File → List Numbered
-tokens_of file = numbered file.source.tokens
+tokens_of file = number_tokens file.source.tokens
 
 -- the place of the token of this number
 abbrev pub place_in : File → ℕ → Place

@@ -40,15 +40,15 @@ facts_at f k =
 
 -- ---- one file, and several
 
-abbrev pub nothing : Stored
-nothing =
+abbrev pub no_facts : Stored
+no_facts =
     record {
       facts = record { comments = []; indexes = []; interpolations = []; declarations = [] };
       references = [];
     }
 
-abbrev pub both : {P : Type 0} → Facts P → Facts P → Facts P
-both a b =
+abbrev pub append_facts : {P : Type 0} → Facts P → Facts P → Facts P
+append_facts a b =
     record {
       comments = a.comments ++ b.comments;
       indexes = a.indexes ++ b.indexes;
@@ -60,13 +60,13 @@ both a b =
 -- the stored facts with those of one more file
 abbrev pub with_file : Stored → File → Stored
 with_file kept file = record {
-  facts = both kept.facts (facts_at (place_in file) (facts_of (tokens_of file)));
+  facts = append_facts kept.facts (facts_at (place_in file) (facts_of (tokens_of file)));
   references = insert_all bytes_eq kept.references (references (tokens_of file));
 }
 
 -- THE STORED FACTS of these files
 abbrev pub stored_of : List File → Stored
-stored_of files = fold with_file nothing files
+stored_of files = fold with_file no_facts files
 
 -- ---- issues
 

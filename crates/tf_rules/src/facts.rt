@@ -4,11 +4,11 @@ ghost use Rattle.std.specs.Prelude.{◌≡◌, ◌≤◌, ◌<◌, ◌+◌, ◌+
 ghost use Rattle.std.specs.List.{flat_map, list_any};
 ghost use Rattle.std.specs.Vec.{vec_capacity, vec_len};
 ghost use Rattle.hcl_grammar.specs.Items.{outline};
-ghost use Rattle.hcl_grammar.specs.Numbered.{numbered};
+ghost use Rattle.hcl_grammar.specs.Numbered.{number_tokens};
 ghost use Rattle.tf_rules.specs.Answers.{AreIssues, Rising};
 ghost use Rattle.tf_rules.specs.Findings.{findings};
 ghost use Rattle.tf_rules.specs.Issues.{File, asked_of};
-ghost use Rattle.tf_rules.specs.Stored.{issue_at, stored_of, nothing, with_file};
+ghost use Rattle.tf_rules.specs.Stored.{issue_at, stored_of, no_facts, with_file};
 ghost use Rattle.tf_facts.specs.References.{references};
 ghost use Rattle.rule_set.specs.RuleSets.{holds, rules_of};
 ghost use Rattle.tf_rules.specs.Inner.Entries.{declared_rules, issues_by, issues_declared, issues_of};
@@ -103,14 +103,14 @@ fn asks_of_declarations(rules: RuleSet) -> bool
 impl Facts {
     /// The facts of no file. References are hashed by a seed that all runs share.
     pub fn new(alloc: Global) -> Result<Facts, AllocError>
-        ensures { IfOk result (λ facts. facts ≡ nothing) }
+        ensures { IfOk result (λ facts. facts ≡ no_facts) }
     {
         Facts::with_hashing(alloc, Hashing::with_shared_seed())
     }
 
     /// The facts of no file.
     pub fn with_hashing(alloc: Global, hashing: Hashing) -> Result<Facts, AllocError>
-        ensures { IfOk result (λ facts. facts ≡ nothing) }
+        ensures { IfOk result (λ facts. facts ≡ no_facts) }
     {
         Ok(Facts {
             alloc,
@@ -132,7 +132,7 @@ impl Facts {
         requires { items.now ≡ outline accepted.now.tokens }
         ensures ok { OnOk result (self.new
             ≡ with_found self.old (stored_facts kept.old)
-            (references (numbered accepted.now.tokens))) }
+            (references (number_tokens accepted.now.tokens))) }
         ensures err { OnErr result (self.new ≡ self.old) }
     {
         make_room(&mut self.comments, kept.comments.len())?;

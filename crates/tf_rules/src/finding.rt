@@ -6,7 +6,7 @@ ghost use Rattle.std.specs.Str.{bytes_eq};
 ghost use Rattle.tf_facts.specs.References.{data_reference, last_of};
 ghost use Rattle.tf_rules.specs.Findings.{finding, from_registry, is_unused, kind_text, says_if, unpinned_findings, unpinned_findings_by, uses_of};
 ghost use Rattle.tf_rules.specs.Stored.{issue_at};
-ghost use Rattle.tf_rules.specs.Inner.Entries.{issues_of, issues_declared, issues_if_asked, opened, text_of};
+ghost use Rattle.tf_rules.specs.Inner.Entries.{issues_of, issues_declared, issues_if_asked, open_quote, text_of};
 ghost use Rattle.tf_rules.specs.Inner.StoredViews.{stored_declaration, stored_names, stored_source, place_of};
 ghost use Rattle.tf_facts.specs.Declarations.{is_kind};
 ghost use Rattle.tf_facts.specs.Found.{source};
@@ -15,7 +15,7 @@ ghost use Rattle.std.specs.Option.{option_map};
 use crate::entry::{Entry, Statement};
 use crate::naming::{Naming, matches_naming};
 use crate::settings::Settings;
-use crate::statement::last;
+use crate::statement::last_label;
 use crate::stored::{StoredDeclaration, StoredNames, StoredSource, TokenPlace};
 use rule_set::Rule;
 use std::alloc::AllocError;
@@ -35,7 +35,7 @@ fn is_variable(kind: DeclarationKind) -> bool
 
 /// Pushes a message about a place.
 #[inline(always)]
-fn put<'f>(
+fn push_message<'f>(
     entries: &mut Vec<Entry<'f>>,
     rule: Rule,
     at: TokenPlace,
@@ -66,12 +66,12 @@ fn push_lacking<'f>(
         ≡ issues_of entries.old.items ++ map (issue_at rule)
         (says_if is_lacking (place_of declaration.now.at)
         (kind_text declaration.now.kind
-        ++ opened (last_of (stored_names declaration.now.names)) rest.now))) }
+        ++ open_quote (last_of (stored_names declaration.now.names)) rest.now))) }
 {
     if !is_lacking {
         return Ok(());
     }
-    put(
+    push_message(
         entries,
         rule,
         declaration.at,
@@ -94,13 +94,13 @@ fn push_unpinned_by<'f>(
     match found.source {
         ModuleSource::Other => Ok(()),
         ModuleSource::Registry => Ok(()),
-        ModuleSource::NotPinned => put(
+        ModuleSource::NotPinned => push_message(
             entries,
             rule,
             found.at,
             Statement::About(declaration, "\" source is not pinned"),
         ),
-        ModuleSource::DefaultBranch(branch) => put(
+        ModuleSource::DefaultBranch(branch) => push_message(
             entries,
             rule,
             found.at,
@@ -148,11 +148,11 @@ fn push_misnamed<'f>(
         ≡ issues_of entries.old.items ++ map (issue_at rule)
         (finding naming [] Rule.NamingConvention (stored_declaration declaration.now))) }
 {
-    let name = last(&declaration.names);
+    let name = last_label(&declaration.names);
     if matches_naming(naming, name) {
         return Ok(());
     }
-    put(
+    push_message(
         entries,
         rule,
         declaration.at,
@@ -221,8 +221,8 @@ fn is_unused(
         ≡ is_unused used.now (uses_of declaration.now.kind (stored_names declaration.now.names))) }
 {
     match declaration.kind {
-        DeclarationKind::Variable => is_unknown(used, "var.", last(&declaration.names), text),
-        DeclarationKind::Local => is_unknown(used, "local.", last(&declaration.names), text),
+        DeclarationKind::Variable => is_unknown(used, "var.", last_label(&declaration.names), text),
+        DeclarationKind::Local => is_unknown(used, "local.", last_label(&declaration.names), text),
         DeclarationKind::Data => is_unused_data(used, &declaration.names, text),
         DeclarationKind::Output => Ok(false),
         DeclarationKind::Module => Ok(false),
@@ -247,7 +247,7 @@ fn push_unused<'f>(
     if !is_unused(used, declaration, text)? {
         return Ok(());
     }
-    put(
+    push_message(
         entries,
         rule,
         declaration.at,

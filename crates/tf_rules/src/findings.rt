@@ -16,7 +16,7 @@ use std::alloc::{AllocError, Global};
 use tf_facts::TextSet;
 
 /// Pushes a finding, if there is one.
-fn put<'f>(
+fn push_found<'f>(
     entries: &mut Vec<Entry<'f>>,
     rule: Rule,
     found: Option<Finding<'f>>,
@@ -59,7 +59,7 @@ pub fn push_comments(
 {
     for comment in comments {
         let found = slash_comment_finding(*comment);
-        put(entries, Rule::CommentSyntax, found)?;
+        push_found(entries, Rule::CommentSyntax, found)?;
     }
     Ok(())
 }
@@ -80,7 +80,7 @@ pub fn push_places(
             at: *at,
             statement: Statement::Fixed(text),
         };
-        put(entries, rule, Some(found))?;
+        push_found(entries, rule, Some(found))?;
     }
     Ok(())
 }

@@ -8,7 +8,7 @@ ghost use Rattle.tf_rules.specs.Stored.{declaration_at, source_at};
 ghost use Rattle.tf_facts.specs.Found.{declaration, texts_of};
 ghost use Rattle.tf_facts.specs.Found as found;
 ghost use Rattle.tf_rules.specs.Inner.StoredViews.{stored_comment, stored_declaration, stored_names, stored_source, place_of};
-ghost use Rattle.tf_rules.specs.Inner.Locating.{CanAdvance, advanced, numbers_of, quotes};
+ghost use Rattle.tf_rules.specs.Inner.Locating.{CanAdvance, advance, numbers_of, quotes};
 
 use crate::locator::Locator;
 use crate::stored::{
@@ -38,7 +38,7 @@ fn stored_comment(comment: FoundComment, locator: &mut Locator<'_, '_>) -> Store
     requires { CanAdvance locator.old (comment.at ∷ []) }
     ensures kept { stored_comment result
         ≡ comment_at (place_in locator.old.file) (found.comment comment) }
-    ensures moved { locator.new ≡ advanced locator.old (comment.at ∷ []) }
+    ensures moved { locator.new ≡ advance locator.old (comment.at ∷ []) }
 {
     StoredComment {
         at: locator.place(comment.at),
@@ -85,7 +85,7 @@ fn stored_source(source: Option<FoundSource>, locator: &mut Locator<'_, '_>) -> 
     ensures kept { option_map stored_source result
         ≡ source_at (place_in locator.old.file) (option_map found.found_source source) }
     ensures moved { locator.new
-        ≡ advanced locator.old (quotes (option_map found.found_source source)) }
+        ≡ advance locator.old (quotes (option_map found.found_source source)) }
 {
     let Some(source) = source else {
         return None;
@@ -105,7 +105,7 @@ fn stored_declaration(
     ensures kept { IfOk result (λ kept. stored_declaration kept
         ≡ declaration_at (place_in locator.old.file) (declaration declared.entry)) }
     ensures moved { OnOk result (locator.new
-        ≡ advanced locator.old (numbers_of (declaration declared.entry))) }
+        ≡ advance locator.old (numbers_of (declaration declared.entry))) }
 {
     let names = stored_names(alloc, declared.names)?;
     let at = locator.place(declared.at);

@@ -4,7 +4,7 @@ ghost use Rattle.std.specs.Prelude.{◌≡◌, [], ◌∷◌};
 ghost use Rattle.hcl_tokens.specs.Scans.{Scans};
 ghost use Rattle.tf_rules.specs.Issues.{place_in};
 ghost use Rattle.tf_rules.specs.Inner.StoredViews.{place_of};
-ghost use Rattle.tf_rules.specs.Inner.Locating.{CanAdvance, advanced};
+ghost use Rattle.tf_rules.specs.Inner.Locating.{CanAdvance, advance};
 
 use crate::cursor::PositionCursor;
 use crate::stored::TokenPlace;
@@ -52,7 +52,7 @@ impl<'t, 's> Locator<'t, 's> {
     pub fn place(&mut self, number: usize) -> TokenPlace
         requires { CanAdvance self.old (number ∷ []) }
         ensures place { place_of result ≡ place_in self.old.file number }
-        ensures moved { self.new ≡ advanced self.old (number ∷ []) }
+        ensures moved { self.new ≡ advance self.old (number ∷ []) }
     {
         TokenPlace {
             file: self.file,

@@ -18,7 +18,7 @@ fn room_for(texts: &[&str]) -> usize {
 }
 
 /// The texts one after another, in no more room than they take.
-fn joined(alloc: Global, texts: &[&str]) -> Result<String, AllocError>
+fn join_texts(alloc: Global, texts: &[&str]) -> Result<String, AllocError>
     ensures { IfOk result (λ joined. string_bytes joined
         ≡ concat (map (λ text. text.now) texts.now)) }
 {
@@ -40,5 +40,5 @@ pub fn message_text(alloc: Global, parts: MessageParts<'_>) -> Result<String, Al
         other,
         rest,
     } = parts;
-    joined(alloc, &[front, name, between, other, rest])
+    join_texts(alloc, &[front, name, between, other, rest])
 }

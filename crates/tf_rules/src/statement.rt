@@ -3,9 +3,9 @@
 ghost use Rattle.std.specs.Prelude.{◌≡◌, ◌++◌, codes};
 ghost use Rattle.tf_facts.specs.References.{last_of};
 ghost use Rattle.tf_rules.specs.Answers.{text_of_parts};
-ghost use Rattle.tf_rules.specs.Findings.{about, both_quoted, kind_text, quoting};
+ghost use Rattle.tf_rules.specs.Findings.{about, both_quoted, kind_text, quote_name};
 ghost use Rattle.tf_rules.specs.Naming.{naming_text};
-ghost use Rattle.tf_rules.specs.Inner.Entries.{opened, text_of};
+ghost use Rattle.tf_rules.specs.Inner.Entries.{open_quote, text_of};
 ghost use Rattle.tf_rules.specs.Inner.StoredViews.{stored_declaration, stored_names};
 
 use crate::entry::Statement;
@@ -67,7 +67,7 @@ fn after_misnamed(naming: Naming) -> &'static str
 }
 
 /// The last of at most two labels.
-pub fn last(names: &StoredNames) -> &str
+pub fn last_label(names: &StoredNames) -> &str
     ensures { result.now ≡ last_of (stored_names names.now) }
 {
     match names {
@@ -82,10 +82,10 @@ pub fn last(names: &StoredNames) -> &str
 fn about<'f>(declaration: &'f StoredDeclaration, rest: &'static str) -> MessageParts<'f>
     ensures { text_of_parts result
         ≡ kind_text declaration.now.kind
-        ++ opened (last_of (stored_names declaration.now.names)) rest.now }
+        ++ open_quote (last_of (stored_names declaration.now.names)) rest.now }
 {
     let front = before_name(declaration.kind);
-    let name = last(&declaration.names);
+    let name = last_label(&declaration.names);
     MessageParts {
         front,
         name,
@@ -102,7 +102,7 @@ fn about_branch<'f>(declaration: &'f StoredDeclaration, branch: &'static str) ->
         (codes " source uses a default branch: " ++ branch.now) }
 {
     let front = before_name(declaration.kind);
-    let name = last(&declaration.names);
+    let name = last_label(&declaration.names);
     MessageParts {
         front,
         name,
@@ -116,11 +116,11 @@ fn about_branch<'f>(declaration: &'f StoredDeclaration, branch: &'static str) ->
 fn about_naming<'f>(declaration: &'f StoredDeclaration, naming: Naming) -> MessageParts<'f>
     ensures { text_of_parts result
         ≡ kind_text declaration.now.kind
-        ++ (codes " name" ++ quoting (last_of (stored_names declaration.now.names))
+        ++ (codes " name" ++ quote_name (last_of (stored_names declaration.now.names))
         (codes " must match " ++ naming_text naming)) }
 {
     let front = before_misnamed(declaration.kind);
-    let name = last(&declaration.names);
+    let name = last_label(&declaration.names);
     let rest = after_misnamed(naming);
     MessageParts {
         front,
@@ -134,7 +134,7 @@ fn about_naming<'f>(declaration: &'f StoredDeclaration, naming: Naming) -> Messa
 /// The message that nothing refers to a declaration with this name.
 fn unused_by_name<'f>(kind: DeclarationKind, name: &'f str) -> MessageParts<'f>
     ensures { text_of_parts result
-        ≡ kind_text kind ++ quoting name.now (codes " is declared but not used") }
+        ≡ kind_text kind ++ quote_name name.now (codes " is declared but not used") }
 {
     let front = before_name(kind);
     MessageParts {
@@ -149,8 +149,8 @@ fn unused_by_name<'f>(kind: DeclarationKind, name: &'f str) -> MessageParts<'f>
 /// The message that nothing refers to a declaration with these two labels.
 fn unused_by_both<'f>(kind: DeclarationKind, first: &'f str, second: &'f str) -> MessageParts<'f>
     ensures { text_of_parts result
-        ≡ kind_text kind ++ quoting first.now
-        (quoting second.now (codes " is declared but not used")) }
+        ≡ kind_text kind ++ quote_name first.now
+        (quote_name second.now (codes " is declared but not used")) }
 {
     let front = before_name(kind);
     MessageParts {

@@ -78,7 +78,7 @@ impl Progress for ProgressLine {
         self.is_terminal
     }
 
-    fn looked(&mut self, outcome: &Outcome) {
+    fn after_look(&mut self, outcome: &Outcome) {
         self.looked = self.looked.saturating_add(1);
         match outcome {
             Outcome::Formatted => {}
@@ -90,7 +90,7 @@ impl Progress for ProgressLine {
         }
     }
 
-    fn reported(&mut self) {
+    fn after_report(&mut self) {
         if self.is_due() {
             self.show();
         }

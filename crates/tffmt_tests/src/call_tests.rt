@@ -3,7 +3,7 @@
 
 use crate::compared::{Shown, same_number, same_shown};
 use crate::devices::{Reader, Writer, run};
-use crate::row_tests::{CHECK, PRINT, repeated};
+use crate::row_tests::{CHECK, PRINT, repeat_parts};
 use std::alloc::Global;
 use std::process::Abort;
 
@@ -91,8 +91,8 @@ fn flushes_at_the_end(
 #[test]
 fn long_output_is_flushed_once(rt: HostRuntime) {
     let alloc = rt.alloc();
-    let input = repeated(&rt, alloc, &[(b"a=1\n", 4000)]);
-    let print = repeated(&rt, alloc, &[(b"a = 1\n", 4000)]);
+    let input = repeat_parts(&rt, alloc, &[(b"a=1\n", 4000)]);
+    let print = repeat_parts(&rt, alloc, &[(b"a = 1\n", 4000)]);
     flushes_at_the_end(&rt, alloc, &PRINT, &input, (&print, b"", 0));
     flushes_at_the_end(&rt, alloc, &PRINT, &print, (&print, b"", 0));
     flushes_at_the_end(&rt, alloc, &CHECK, &input, (b"", b"", 3));

@@ -4,7 +4,7 @@
 ghost use Rattle.std.specs.Prelude.{◌≡◌, false};
 
 use crate::compared::{Shown, holds, same_number, same_shown};
-use crate::row_tests::{PRINT, repeated};
+use crate::row_tests::{PRINT, repeat_parts};
 use hcl_scan::{ByteSink, ByteSource, MemorySink, MemorySource, SINK_ROOM};
 use std::alloc::Global;
 use std::process::Abort;
@@ -39,7 +39,7 @@ struct Devices {
 }
 
 // Devices that don't fail.
-fn steady(most: usize) -> Devices {
+fn steady_devices(most: usize) -> Devices {
     Devices {
         most_read: most,
         most_written: most,
@@ -156,8 +156,8 @@ enum Kind {
 }
 
 // Devices whose call of this kind fails after this many good ones. A flush fails at once.
-fn failing(kind: Kind, good: usize, most: usize) -> Devices {
-    let others = steady(most);
+fn failing_devices(kind: Kind, good: usize, most: usize) -> Devices {
+    let others = steady_devices(most);
     match kind {
         Kind::Read => Devices {
             read: Some(good),
@@ -200,7 +200,7 @@ fn fails(rt: &impl Abort, alloc: Global, row: &Row<'_>, devices: &Devices, kind:
 fn fail_kind(rt: &impl Abort, alloc: Global, row: &Row<'_>, most: usize, kind: Kind) -> (u64, u64) {
     let mut failures = 0_u64;
     for good in 0..CALLS {
-        let devices = failing(kind, good, most);
+        let devices = failing_devices(kind, good, most);
         if !fails(rt, alloc, row, &devices, kind) {
             return (good as u64, failures);
         }
@@ -217,7 +217,7 @@ type Counts = (u64, u64, u64, u64, u64);
 // Lets each call of a run fail in turn, with at most this many bytes per call, and compares the numbers of calls and
 // failures.
 fn fail_each(rt: &impl Abort, alloc: Global, row: &Row<'_>, most: usize, wanted: Counts) {
-    let messages = fail_messages(rt, alloc, row, steady(most), row.shown) as u64;
+    let messages = fail_messages(rt, alloc, row, steady_devices(most), row.shown) as u64;
     let (reads, by_reads) = fail_kind(rt, alloc, row, most, Kind::Read);
     let (writes, by_writes) = fail_kind(rt, alloc, row, most, Kind::Write);
     let (flushes, by_flushes) = fail_kind(rt, alloc, row, most, Kind::Flush);
@@ -345,7 +345,7 @@ fn shows(rt: &impl Abort, alloc: Global, devices: &Devices, shown: Shown<'_>) {
 
 #[test]
 fn a_device_fails(rt: HostRuntime) {
-    let steady = steady(100);
+    let steady = steady_devices(100);
     let read = Devices {
         most_read: 2,
         read: Some(1),
@@ -371,20 +371,20 @@ fn a_device_fails(rt: HostRuntime) {
 }
 
 // The text with this many bytes after it.
-fn longer(rt: &impl Abort, alloc: Global, text: &[u8]) -> Vec<u8> {
+fn lengthen(rt: &impl Abort, alloc: Global, text: &[u8]) -> Vec<u8> {
     let parts = [(text, 1), (b"x", 5_000)];
-    repeated(rt, alloc, &parts)
+    repeat_parts(rt, alloc, &parts)
 }
 
 #[test]
 fn a_full_writer_fails(rt: HostRuntime) {
     let alloc = rt.alloc();
-    let print = longer(&rt, alloc, b"a = 1\n#");
+    let print = lengthen(&rt, alloc, b"a = 1\n#");
     let shown = (front(&print, 1, SINK_ROOM), WRITE_FAILED, 4);
     for start in [b"a = 1\n#".as_slice(), b"a=1\n#"] {
-        let input = longer(&rt, alloc, start);
+        let input = lengthen(&rt, alloc, start);
         let row = row_of(&PRINT, &input, shown);
-        run(alloc, &row, &steady(10_000)).check(&rt, row.shown, row.input);
+        run(alloc, &row, &steady_devices(10_000)).check(&rt, row.shown, row.input);
     }
 }
 

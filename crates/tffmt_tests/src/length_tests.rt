@@ -1,7 +1,7 @@
 //! The lengths of the prints of files, worked out by hand.
 
 use crate::compared::{holds, same_number};
-use crate::row_tests::repeated;
+use crate::row_tests::repeat_parts;
 use hcl_layout::{fits, printed_len, prints_nothing};
 use hcl_scan::{Source, Tokens, scan};
 use hcl_syntax::{Accepted, accepts};
@@ -48,7 +48,7 @@ fn lengths_of_prints(rt: HostRuntime) {
 // A file of nearly 4 MiB is scanned and accepted whole.
 #[test]
 fn lengths_of_large_files(rt: HostRuntime) {
-    let text = repeated(&rt, rt.alloc(), &[(b"a = 1\n", 699_050)]);
+    let text = repeat_parts(&rt, rt.alloc(), &[(b"a = 1\n", 699_050)]);
     prints(&rt, rt.alloc(), &text, 4_194_300);
 }
 
@@ -58,7 +58,7 @@ fn lengths_of_large_files(rt: HostRuntime) {
 fn lengths_beside_a_long_name(rt: HostRuntime) {
     for (count, len) in [(4172, 4_193_865), (4173, 4_194_870)] {
         let parts = [(b"b".as_slice(), 1000), (b"=1\n", 1), (b"a=1\n", count)];
-        let text = repeated(&rt, rt.alloc(), &parts);
+        let text = repeat_parts(&rt, rt.alloc(), &parts);
         prints(&rt, rt.alloc(), &text, len);
     }
 }

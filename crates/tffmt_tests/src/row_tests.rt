@@ -70,7 +70,7 @@ fn all_refused(rt: &impl Abort, alloc: Global, rows: &[Pair]) {
 }
 
 /// Each part this many times, in turn.
-pub fn repeated(rt: &impl Abort, alloc: Global, parts: &[(&[u8], usize)]) -> Vec<u8> {
+pub fn repeat_parts(rt: &impl Abort, alloc: Global, parts: &[(&[u8], usize)]) -> Vec<u8> {
     let mut bytes = Vec::new(alloc);
     for (part, count) in parts {
         for _ in 0..*count {
@@ -330,8 +330,8 @@ type Parts = &'static [(&'static [u8], usize)];
 // Checks that these parts are formatted to those.
 fn all_parts_give(rt: &impl Abort, alloc: Global, rows: &[(Parts, Parts)]) {
     for (parts, printed) in rows {
-        let input = repeated(rt, alloc, parts);
-        let print = repeated(rt, alloc, printed);
+        let input = repeat_parts(rt, alloc, parts);
+        let print = repeat_parts(rt, alloc, printed);
         gives(rt, alloc, &input, &print);
     }
 }
@@ -339,7 +339,7 @@ fn all_parts_give(rt: &impl Abort, alloc: Global, rows: &[(Parts, Parts)]) {
 // Checks that these parts are refused with this line.
 fn all_parts_refused(rt: &impl Abort, alloc: Global, rows: &[(Parts, &[u8])]) {
     for (parts, line) in rows {
-        let input = repeated(rt, alloc, parts);
+        let input = repeat_parts(rt, alloc, parts);
         gives_fault(rt, alloc, &input, line);
     }
 }
@@ -428,9 +428,9 @@ fn sizes(rt: HostRuntime) {
 
 // Checks that this many short lines beside a name of 1,000 bytes are aligned to it.
 fn aligns_to_a_long_name(rt: &impl Abort, alloc: Global, count: usize) {
-    let aligned = repeated(rt, alloc, &[(b"a", 1), (b" ", 1000), (b"= 1\n", 1)]);
-    let input = repeated(rt, alloc, &[(b"b", 1000), (b"=1\n", 1), (b"a=1\n", count)]);
-    let print = repeated(
+    let aligned = repeat_parts(rt, alloc, &[(b"a", 1), (b" ", 1000), (b"= 1\n", 1)]);
+    let input = repeat_parts(rt, alloc, &[(b"b", 1000), (b"=1\n", 1), (b"a=1\n", count)]);
+    let print = repeat_parts(
         rt,
         alloc,
         &[(b"b", 1000), (b" = 1\n", 1), (&aligned, count)],

@@ -3,7 +3,7 @@
 ghost use Rattle.std.specs.Prelude.{◌≡◌, ◌≤◌, ◌<◌, false, ℕ, List};
 ghost use Rattle.tfrules_command.specs.Inner.Steps.{Adds, Gathers, ReadsFile, stop_by, stop_of_scan};
 ghost use Rattle.tfrules_command.specs.Keeping.{Keeps, KeepsTokens, ScansFile};
-ghost use Rattle.tf_rules.specs.Stored.{nothing};
+ghost use Rattle.tf_rules.specs.Stored.{no_facts};
 ghost use Rattle.tfrules_command.specs.Files.{max_module};
 
 use crate::file_names::FileNames;
@@ -153,7 +153,7 @@ pub(crate) fn gather<'a, M: ModuleFiles>(
     requires opened { M.open_failed files.old ≡ false }
     requires read { M.read_failed files.old ≡ false }
     requires back { M.is_out files.old ≡ false }
-    requires none { facts.old ≡ nothing }
+    requires none { facts.old ≡ no_facts }
     ensures gathers { Gathers (M.told files.old) names.now (M.open_failed files.new)
         (M.read_failed files.new) facts.new result }
     ensures told { (other : List ℕ) → M.told files.new other ≡ M.told files.old other }

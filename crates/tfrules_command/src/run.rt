@@ -8,7 +8,7 @@ ghost use Rattle.tfrules_command.specs.Line.{options_of};
 ghost use Rattle.tfrules_command.specs.Report.{report_row, status};
 ghost use Rattle.tfrules_command.specs.Rows.{IsRow};
 ghost use Rattle.tfrules_command.specs.Asked.{request_of};
-ghost use Rattle.tf_rules.specs.Stored.{nothing};
+ghost use Rattle.tf_rules.specs.Stored.{no_facts};
 ghost use Rattle.tfrules_command.specs.Inner.Steps.{stop_row, usage_row, usage_text};
 
 use crate::gather::gather;
@@ -119,7 +119,7 @@ fn run_over<M: ModuleFiles, O: ByteSink, E: ByteSink>(
     out: &mut O,
     err: &mut E,
 ) -> u8
-    requires empty { facts.old ≡ nothing }
+    requires empty { facts.old ≡ no_facts }
     requires opened { M.open_failed files.old ≡ false }
     requires read { M.read_failed files.old ≡ false }
     requires back { M.is_out files.old ≡ false }

@@ -41,7 +41,7 @@ pub fn first_text<'a>(files: Files<'a>) -> &'a [u8] {
 }
 
 /// The parts in turn.
-pub fn joined(rt: &impl Abort, alloc: Global, parts: &[&str]) -> Vec<u8> {
+pub fn join(rt: &impl Abort, alloc: Global, parts: &[&str]) -> Vec<u8> {
     let mut bytes = Vec::new(alloc);
     for part in parts {
         bytes

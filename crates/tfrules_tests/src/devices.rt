@@ -23,7 +23,7 @@ pub struct Devices {
 }
 
 /// Devices that don't fail.
-pub fn steady(most: usize) -> Devices {
+pub fn steady_devices(most: usize) -> Devices {
     Devices {
         most,
         file: FileFailure::None,
@@ -45,13 +45,13 @@ pub struct Outcome {
 }
 
 impl Outcome {
-    pub fn shown(&self) -> Shown<'_> {
+    pub fn outputs(&self) -> Shown<'_> {
         (self.out.bytes(), self.err.bytes(), self.status)
     }
 
     /// Checks the result of the run over these files.
     pub fn check(&self, rt: &impl Abort, wanted: Shown<'_>, files: Files<'_>) {
-        same_shown(rt, self.shown(), wanted, first_text(files));
+        same_shown(rt, self.outputs(), wanted, first_text(files));
     }
 }
 
@@ -72,7 +72,7 @@ pub fn run(alloc: Global, words: &[&str], files: Files<'_>, devices: &Devices) -
     let mut err = sink(devices.most, devices.message, false);
     let status = program(alloc, words, &mut module, &mut out, &mut err);
     Outcome {
-        opened: module.opened() as u64,
+        opened: module.open_count() as u64,
         given_back: module.given_back() as u64,
         has_file_failed: module.has_failed(),
         out,

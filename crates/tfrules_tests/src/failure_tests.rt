@@ -1,8 +1,8 @@
 //! Runs in which every call of a device fails in turn: each open, each read, each write and the flush that a run
 //! reaches, and then each write of the message too, with one byte per call and with many.
 
-use crate::compared::{Files, Shown, first_text, holds, joined, same_bytes, same_number};
-use crate::devices::{Devices, flushes_at_the_end, run, steady};
+use crate::compared::{Files, Shown, first_text, holds, join, same_bytes, same_number};
+use crate::devices::{Devices, flushes_at_the_end, run, steady_devices};
 use crate::memory_files::FileFailure;
 use crate::tests::{USAGE, Words};
 use hcl_scan::{ByteSink, SINK_ROOM};
@@ -103,8 +103,8 @@ enum Kind {
 }
 
 // Devices whose call of this kind fails after this many good ones. A flush fails at once.
-fn failing(kind: Kind, good: usize, most: usize) -> Devices {
-    let others = steady(most);
+fn failing_devices(kind: Kind, good: usize, most: usize) -> Devices {
+    let others = steady_devices(most);
     match kind {
         Kind::Opening => Devices {
             file: FileFailure::Opening(good),
@@ -137,7 +137,7 @@ fn line_about(
         Some((name, _)) => name,
         None => "",
     };
-    joined(rt, alloc, &["tfrules: error: ", name, ": ", text, "\n"])
+    join(rt, alloc, &["tfrules: error: ", name, ": ", text, "\n"])
 }
 
 // The message of a run whose call of this kind fails after this many good ones.
@@ -151,7 +151,7 @@ fn message_after(
     match kind {
         Kind::Opening => line_about(rt, alloc, row.files, good, "cannot be opened"),
         Kind::Read(number) => line_about(rt, alloc, row.files, number, "read failed"),
-        Kind::Write | Kind::Flush => joined(rt, alloc, &["tfrules: error: write failed\n"]),
+        Kind::Write | Kind::Flush => join(rt, alloc, &["tfrules: error: write failed\n"]),
     }
 }
 
@@ -167,7 +167,7 @@ fn report_after(
     match kind {
         Kind::Opening | Kind::Read(_) => Vec::new(alloc),
         Kind::Write => report_front(rt, alloc, row.pieces, good, most),
-        Kind::Flush => joined(rt, alloc, row.pieces),
+        Kind::Flush => join(rt, alloc, row.pieces),
     }
 }
 
@@ -191,7 +191,7 @@ type Count = (u64, u64);
 fn fail_kind(rt: &impl Abort, alloc: Global, row: &Row<'_>, most: usize, kind: Kind) -> Count {
     let mut failures = 0_u64;
     for good in 0..CALLS {
-        let devices = failing(kind, good, most);
+        let devices = failing_devices(kind, good, most);
         if !fails(rt, alloc, row, &devices, kind) {
             return (good as u64, failures);
         }
@@ -221,7 +221,7 @@ type Counts = (u64, u64, u64, u64, u64, u64);
 // Lets each call of a run fail in turn, with at most this many bytes per call, and compares the numbers of calls and
 // failures.
 fn fail_each(rt: &impl Abort, alloc: Global, row: &Row<'_>, most: usize, wanted: Counts) {
-    let messages = fail_messages(rt, alloc, row, steady(most), row.shown);
+    let messages = fail_messages(rt, alloc, row, steady_devices(most), row.shown);
     let (openings, by_openings) = fail_kind(rt, alloc, row, most, Kind::Opening);
     let (reads, by_reads) = fail_reads(rt, alloc, row, most);
     let (writes, by_writes) = fail_kind(rt, alloc, row, most, Kind::Write);
@@ -360,7 +360,7 @@ static RUNS: [(Words, Module, &[&str], &[u8], u8, Counts, Counts); 9] = [
 #[test]
 fn each_call_fails(rt: HostRuntime) {
     for (words, files, pieces, message, status, one, many) in &RUNS {
-        let report = joined(&rt, rt.alloc(), pieces);
+        let report = join(&rt, rt.alloc(), pieces);
         let row = Row {
             words,
             files,
@@ -401,11 +401,11 @@ fn both_writers_fail(rt: HostRuntime) {
 #[test]
 fn a_full_writer_fails(rt: HostRuntime) {
     let alloc = rt.alloc();
-    let text = joined(&rt, alloc, &["variable \"n\" {}\n"; 80]);
+    let text = join(&rt, alloc, &["variable \"n\" {}\n"; 80]);
     let files = [("a.tf", text.as_slice())];
     let words = ["tfrules", "--rules", "terraform_typed_variables", "a.tf"];
-    let run = run(alloc, &words, &files, &steady(SINK_ROOM));
-    let (report, message, status) = run.shown();
+    let run = run(alloc, &words, &files, &steady_devices(SINK_ROOM));
+    let (report, message, status) = run.outputs();
     same_number(&rt, report.len() as u64, SINK_ROOM as u64, &text);
     holds(
         &rt,
@@ -421,7 +421,7 @@ fn a_full_writer_fails(rt: HostRuntime) {
 fn a_long_report_is_flushed_once(rt: HostRuntime) {
     let alloc = rt.alloc();
     let mut text = Vec::new(alloc);
-    let mut report = joined(&rt, alloc, &["1000 issue(s) found:\n\n"]);
+    let mut report = join(&rt, alloc, &["1000 issue(s) found:\n\n"]);
     for line in 1..1001_u32 {
         let issue = format!(in alloc;
             "a.tf:{line}:1: Warning - variable \"n\" has no type (terraform_typed_variables)\n"

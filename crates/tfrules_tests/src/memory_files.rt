@@ -72,7 +72,7 @@ impl<'a> MemoryFiles<'a> {
     }
 
     /// The number of opens.
-    pub fn opened(&self) -> usize {
+    pub fn open_count(&self) -> usize {
         self.opened
     }
 

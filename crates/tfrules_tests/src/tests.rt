@@ -1,8 +1,8 @@
 //! Whole runs over files in memory, with ample memory, on modules whose answers were worked out by hand: the output,
 //! and which files are opened for it. The rules' reports for many modules are tested by `rule_tests`, and end to end.
 
-use crate::compared::{Files, Shown, first_text, joined, same_number};
-use crate::devices::{Devices, run, steady};
+use crate::compared::{Files, Shown, first_text, join, same_number};
+use crate::devices::{Devices, run, steady_devices};
 use crate::memory_files::FileFailure;
 use hcl_scan::SINK_ROOM;
 use std::alloc::Global;
@@ -178,7 +178,7 @@ static REPORTS: [(Words, (&str, &[u8]), &[&str], u8); 4] = [
 #[test]
 fn issues_give_a_report_and_a_status(rt: HostRuntime) {
     for (words, file, parts, status) in &REPORTS {
-        let report = joined(&rt, rt.alloc(), parts);
+        let report = join(&rt, rt.alloc(), parts);
         let files = [*file];
         let module = (files.as_slice(), FileFailure::None);
         check(
@@ -234,7 +234,7 @@ fn operands_are_counted_as_given(rt: HostRuntime) {
 }
 
 // A text this many times, and another one after it.
-fn repeated(rt: &impl Abort, alloc: Global, text: &[u8], count: usize, last: &[u8]) -> Vec<u8> {
+fn repeat_text(rt: &impl Abort, alloc: Global, text: &[u8], count: usize, last: &[u8]) -> Vec<u8> {
     let mut bytes = Vec::new(alloc);
     for _ in 0..count {
         bytes.extend_from_slice(text).expect(rt, "memory");
@@ -247,7 +247,7 @@ fn repeated(rt: &impl Abort, alloc: Global, text: &[u8], count: usize, last: &[u
 #[test]
 fn a_large_file_is_linted(rt: HostRuntime) {
     let alloc = rt.alloc();
-    let text = repeated(&rt, alloc, b"a = 1\n", 699_046, b"variable \"n\" {}\n");
+    let text = repeat_text(&rt, alloc, b"a = 1\n", 699_046, b"variable \"n\" {}\n");
     let words = [
         "tfrules",
         "--rules",
@@ -272,7 +272,7 @@ fn a_large_file_is_linted(rt: HostRuntime) {
 #[test]
 fn a_fault_far_down_has_its_line(rt: HostRuntime) {
     let alloc = rt.alloc();
-    let text = repeated(&rt, alloc, b"\n", 150_000, b"a=\n");
+    let text = repeat_text(&rt, alloc, b"\n", 150_000, b"a=\n");
     let files = [("a.tf", text.as_slice())];
     let line = "tfrules: error: a.tf:150001:3: unexpected token\n";
     let module = (files.as_slice(), FileFailure::None);

@@ -1,6 +1,6 @@
 -- The request in the code's options, as the definitions have it.
 use Rattle.std.specs.Prelude.{Result, Ok, Err, map}
-use Rattle.file_tree.specs.Choices.{chosen}
+use Rattle.file_tree.specs.Choices.{choice_view}
 use Rattle.tree_command.specs.Line.{Request, Given, Part}
 use Rattle.tree_command.specs.declared.options.Given.{Given as GivenWords}
 use Rattle.tree_command.specs.declared.options.TreeOptions.{TreeOptions}
@@ -25,4 +25,4 @@ result_request (Err usage) = Err usage
 
 -- the view of a part of the files
 abbrev pub part_view : PartOfFiles → Part
-part_view part = record { shard = part.shard; chosen = chosen part.choice }
+part_view part = record { shard = part.shard; chosen = choice_view part.choice }

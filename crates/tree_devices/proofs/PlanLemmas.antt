@@ -3,7 +3,7 @@ use Rattle.std.proofs.Common.{◌≡◌, ◌∙◌, ◌<◌, ◌+◌, ◌++◌, 
 use Rattle.std.specs.Prelude.{option_map, if◌then◌else◌}
 use Rattle.std.specs.Str.{bytes_eq}
 use Rattle.std.proofs.lemmas.List.{take_more}
-use Rattle.file_tree.specs.Files.{Name, put, with_fault}
+use Rattle.file_tree.specs.Files.{Name, with_bytes, with_fault}
 use Rattle.file_tree.specs.declared.fault.TreeFault.{TreeFault}
 use Rattle.tree_devices.specs.PlannedFiles.{planned_faults, planned_files}
 use Rattle.tree_devices.specs.declared.planned_tree.PlannedName.{PlannedName}
@@ -37,5 +37,5 @@ untold_at bytes true = refl
 untold_at bytes false = refl
 
 -- a file whose bytes aren't told is replaced
-pub untold_put : (rows : List PlannedName) (name : Name) (bytes : List ℕ) → planned_files rows ≡ put (planned_files rows) name bytes
+pub untold_put : (rows : List PlannedName) (name : Name) (bytes : List ℕ) → planned_files rows ≡ with_bytes (planned_files rows) name bytes
 untold_put rows name bytes = λ i. record (planned_files rows) { told = λ other. untold_at bytes (bytes_eq other name) i }

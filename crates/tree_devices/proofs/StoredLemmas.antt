@@ -3,7 +3,7 @@ use Rattle.std.proofs.Common.{◌≡◌, ℕ, Bool, true, false, List, ◌∷◌
 use Rattle.std.specs.Prelude.{IsSome, find, option_map, if◌then◌else◌}
 use Rattle.std.specs.Str.{bytes_eq}
 use Rattle.std.proofs.lemmas.Slice.Eq.{bytes_eq-Decides}
-use Rattle.file_tree.specs.Files.{Name, put}
+use Rattle.file_tree.specs.Files.{Name, with_bytes}
 use Rattle.tree_devices.specs.MemoryFiles.{files_in, text_in}
 use Rattle.tree_devices.specs.declared.known.Known.{Known}
 use Rattle.tree_devices.specs.declared.stored.Stored.{Stored}
@@ -24,5 +24,5 @@ one_more files s other h = by (bytes_eq other s.name.items) refl
 
 -- it is the text under its name, if there was one
 pub put_first : (known : List Known) (files links : List Stored) (s : Stored) → IsSome (text_in files s.name.items)
-    → files_in known (s ∷ files) links ≡ put (files_in known files links) s.name.items s.bytes.items
+    → files_in known (s ∷ files) links ≡ with_bytes (files_in known files links) s.name.items s.bytes.items
 put_first known files links s h = λ i. record (files_in known files links) { told = λ other. one_more files s other h i }

@@ -102,7 +102,7 @@ impl Calls {
     }
 
     /// The step of the call that failed, if one did.
-    pub fn failed(&self) -> Option<Step> {
+    pub fn failed_step(&self) -> Option<Step> {
         self.failed
     }
 
@@ -120,7 +120,7 @@ impl Calls {
     }
 
     /// How many files there are beside others for which they were made.
-    pub fn beside(&self) -> usize {
+    pub fn beside_count(&self) -> usize {
         self.beside
     }
 
@@ -197,7 +197,7 @@ impl Calls {
     }
 
     /// The rights of a new file in place of the old one.
-    fn kept(&self) -> Replaced {
+    fn replacement(&self) -> Replaced {
         if self.failures.group {
             Replaced::Narrowed
         } else {
@@ -218,7 +218,7 @@ impl Calls {
         }
         self.make(Step::OpeningOld, name)?;
         match self.put_beside(name, is_same, writing.sync) {
-            Ok(()) => Ok(self.kept()),
+            Ok(()) => Ok(self.replacement()),
             Err(TreeFault::NoneBeside | TreeFault::NotReplaced) if writing.in_place => {
                 self.write_over(name, is_same)?;
                 Ok(Replaced::Kept)

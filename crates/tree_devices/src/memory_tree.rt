@@ -2,7 +2,7 @@
 
 ghost use Rattle.std.specs.Prelude.{◌≡◌, Err, false, IfOk, None, OnErr, OnOk, Some, find, option_map};
 ghost use Rattle.std.specs.Str.{bytes_eq};
-ghost use Rattle.file_tree.specs.Files.{Tells, put};
+ghost use Rattle.file_tree.specs.Files.{Tells, with_bytes};
 ghost use Rattle.file_tree.specs.declared.fault.TreeFault.TheVariants.{Missing};
 ghost use Rattle.tree_devices.specs.MemoryFiles.{files_in, kind_told, known_in, listing_told, real_in, text_in};
 
@@ -84,7 +84,7 @@ fn store(
 }
 
 /// A name as entries have it, if its full path isn't below the current folder.
-fn tidied(name: &[u8]) -> &[u8] {
+fn tidy_name(name: &[u8]) -> &[u8] {
     let name = match name.strip_prefix(b"./".as_slice()) {
         Some(rest) => rest,
         None => name,
@@ -97,7 +97,7 @@ fn tidied(name: &[u8]) -> &[u8] {
 }
 
 /// The part of a full path below this folder, if it is below.
-fn below<'n>(current: &[u8], path: &'n [u8]) -> Option<&'n [u8]> {
+fn name_below<'n>(current: &[u8], path: &'n [u8]) -> Option<&'n [u8]> {
     if path == current {
         return Some(b"");
     }
@@ -105,12 +105,12 @@ fn below<'n>(current: &[u8], path: &'n [u8]) -> Option<&'n [u8]> {
 }
 
 /// A name as entries have it.
-fn plain<'n>(current: &[u8], name: &'n [u8]) -> &'n [u8] {
-    let name = tidied(name);
+fn entry_name<'n>(current: &[u8], name: &'n [u8]) -> &'n [u8] {
+    let name = tidy_name(name);
     if !name.starts_with(b"/") {
         return name;
     }
-    below(current, name).unwrap_or(name)
+    name_below(current, name).unwrap_or(name)
 }
 
 /// The name that an entry has in a folder, if it is in it.
@@ -197,7 +197,7 @@ impl<'a> MemoryTree<'a> {
         }
         let name = match self.stands(folder) {
             Some(Stands::Link(to)) => to,
-            _ => plain(self.current, folder),
+            _ => entry_name(self.current, folder),
         };
         let Ok(mut path) = self.full_name(name) else {
             return Err(TreeFault::OutOfMemory);
@@ -309,7 +309,7 @@ impl<'a> MemoryTree<'a> {
     }
 
     fn stands(&self, name: &[u8]) -> Option<Stands<'a>> {
-        let name = plain(self.current, name);
+        let name = entry_name(self.current, name);
         for entry in self.entries {
             if entry.name == name {
                 return Some(entry.stands);
@@ -322,7 +322,7 @@ impl<'a> MemoryTree<'a> {
     fn identity_of(&self, name: &[u8]) -> Identity {
         let name = match self.stands(name) {
             Some(Stands::Same(_, other)) => other,
-            _ => plain(self.current, name),
+            _ => entry_name(self.current, name),
         };
         let inode = self
             .entries
@@ -372,7 +372,7 @@ impl<'a> MemoryTree<'a> {
             Err(TreeFault::Missing) => return Err(TreeFault::Missing),
             _ => return Err(TreeFault::UnreadableFolder),
         }
-        let folder = plain(self.current, folder);
+        let folder = entry_name(self.current, folder);
         let mut names = Vec::new(self.alloc);
         for entry in self.entries {
             if let Some(name) = name_in(folder, entry.name) {
@@ -426,12 +426,12 @@ impl<'a> MemoryTree<'a> {
     }
 
     /// Gives the file to which a name leads new bytes.
-    fn put(&mut self, name: &[u8], new: &[u8]) -> Result<(), TreeFault>
+    fn set_bytes(&mut self, name: &[u8], new: &[u8]) -> Result<(), TreeFault>
         ensures known { self.new.known.items ≡ self.old.known.items }
         ensures links { self.new.links.items ≡ self.old.links.items }
         ensures ok { OnOk result (
             files_in self.old.known.items self.new.files.items self.old.links.items
-            ≡ put (files_in self.old.known.items self.old.files.items self.old.links.items)
+            ≡ with_bytes (files_in self.old.known.items self.old.files.items self.old.links.items)
             (real_in self.old.links.items name.now) new.now) }
         ensures err { OnErr result (self.new.files.items ≡ self.old.files.items) }
     {
@@ -529,7 +529,7 @@ impl<'a> WritableTree for MemoryTree<'a> {
             Ok(replaced) => replaced,
             Err(fault) => return Err(fault),
         };
-        match self.put(name, new) {
+        match self.set_bytes(name, new) {
             Ok(()) => Ok(replaced),
             Err(fault) => Err(fault),
         }

@@ -30,9 +30,9 @@ impl Progress for Nobody {
         false
     }
 
-    fn looked(&mut self, _outcome: &Outcome) {}
+    fn after_look(&mut self, _outcome: &Outcome) {}
 
-    fn reported(&mut self) {}
+    fn after_report(&mut self) {}
 
     fn end(&mut self) {}
 }

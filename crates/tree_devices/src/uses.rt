@@ -1,7 +1,7 @@
 //! Walks over the trees of this crate: the promises of `find` for a tree that tells hold for these.
 
 ghost use Rattle.std.specs.Prelude.{◌≡◌, [], IfOk, Some, map};
-ghost use Rattle.file_tree.specs.Choices.{chosen};
+ghost use Rattle.file_tree.specs.Choices.{choice_view};
 ghost use Rattle.file_tree.specs.Finds.{Finds};
 ghost use Rattle.tree_devices.specs.Uses.{AreOfCalls};
 
@@ -21,7 +21,7 @@ pub fn find_planned<'a>(
 ) -> Result<Vec<Found>, AllocError>
     requires fresh { ⟦<PlannedTree<'a> as Tree>⟧.faults tree.old ≡ Some [] }
     ensures real { IfOk result (λ found. AreOfCalls (⟦<PlannedTree<'a> as Tree>⟧.files tree.old)
-        (chosen choice.entry) (map (λ path. path.now) paths.now)
+        (choice_view choice.entry) (map (λ path. path.now) paths.now)
         (⟦<PlannedTree<'a> as Tree>⟧.faults tree.new) found.items) }
 {
     find(alloc, choice, paths, tree)
@@ -35,7 +35,7 @@ pub fn find_stored<'a>(
     tree: &mut MemoryTree<'a>,
 ) -> Result<Vec<Found>, AllocError>
     ensures finds { IfOk result (λ found. Finds (⟦<MemoryTree<'a> as Tree>⟧.files tree.old)
-        (chosen choice.entry) (map (λ path. path.now) paths.now) found.items) }
+        (choice_view choice.entry) (map (λ path. path.now) paths.now) found.items) }
 {
     find(alloc, choice, paths, tree)
 }

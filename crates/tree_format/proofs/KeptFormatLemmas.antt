@@ -30,7 +30,7 @@ use Rattle.layout_laws.specs.Reprinted.{printed_tokens}
 use Rattle.layout_laws.proofs.ForgetPlaceLemmas.{print_again}
 use Rattle.layout_laws.proofs.RescanLemmas.{scans_again}
 use Rattle.file_tree.specs.Asked.{Asked}
-use Rattle.file_tree.specs.Files.{Faults, Files, Name, fault_of_reader, with_fault, put}
+use Rattle.file_tree.specs.Files.{Faults, Files, Name, fault_of_reader, with_fault, with_bytes}
 use Rattle.hcl_source.specs.Devices.{Tells}
 use Rattle.file_tree.specs.declared.fault.TreeFault.{TreeFault}
 use Rattle.file_tree.specs.declared.fault.TreeFault.TheVariants.{OutOfMemory}
@@ -84,7 +84,7 @@ written w None bytes formatted t f = refl
 written w (Some x) bytes formatted t f = inr (formatted, subst (λ l. IsFormat l formatted) (sym t) f, refl)
 
 put_kept : (w : Writing) (old : Files) (name bytes formatted other : List ℕ) → Tells (old.told name) bytes → IsFormat bytes formatted
-    → MayBecome (Write w) (old.told other) ((put old name formatted).told other)
+    → MayBecome (Write w) (old.told other) ((with_bytes old name formatted).told other)
 put_kept w old name bytes formatted other t f = by (bytes_eq other name) refl
   where
     by : (v : Bool) → bytes_eq other name ≡ v → MayBecome (Write w) (old.told other) (if v then option_map (λ _. formatted) (old.told other) else old.told other)
@@ -133,7 +133,7 @@ visit_real shows mode old new given name (outcome.Failed fault) v other = same_r
 
 -- ---- other files than the one that is looked at
 
-elsewhere : (old : Files) (name formatted other : List ℕ) → ((other ≡ name) → ⊥) → (put old name formatted).told other ≡ old.told other
+elsewhere : (old : Files) (name formatted other : List ℕ) → ((other ≡ name) → ⊥) → (with_bytes old name formatted).told other ≡ old.told other
 elsewhere old name formatted other ne = by (bytes_eq other name) refl
   where
     by : (v : Bool) → bytes_eq other name ≡ v → (if v then option_map (λ _. formatted) (old.told other) else old.told other) ≡ old.told other
@@ -430,7 +430,7 @@ own_fault : (w : Writing) (a b : Option (List ℕ)) (bytes : List ℕ) (fault : 
 own_fault w None b bytes fault t f e = tt
 own_fault w (Some x) b bytes fault t f e = inr (fault, subst (λ l. IsFault l fault) (sym t) f, e)
 
-put_here : (old : Files) (name bytes : List ℕ) → (put old name bytes).told name ≡ option_map (λ _. bytes) (old.told name)
+put_here : (old : Files) (name bytes : List ℕ) → (with_bytes old name bytes).told name ≡ option_map (λ _. bytes) (old.told name)
 put_here old name bytes = ap (λ b. if b then option_map (λ _. bytes) (old.told name) else old.told name) ((bytes_eq-Decides name name).1 refl)
 
 visit_writes : (shows : Bool) (w : Writing) (old new : Files) (given : Name) (name : Name) (answer : Outcome) → Visits shows (Write w) old new given name answer → is_failed answer ≡ false

@@ -11,7 +11,7 @@ use Rattle.hcl_tokens.specs.Scanned.{Scanned}
 use Rattle.hcl_scan.proofs.SpellingLemmas.{one_kind}
 use Rattle.hcl_grammar.proofs.VerdictLemmas.{not_both, one_verdict, source_or}
 use Rattle.hcl_layout.specs.Print.{print}
-use Rattle.file_tree.specs.Files.{Files, Name, put}
+use Rattle.file_tree.specs.Files.{Files, Name, with_bytes}
 use Rattle.tree_format.specs.States.{State}
 use Rattle.file_tree.specs.declared.fault.TreeFault.{TreeFault}
 use Rattle.file_tree.specs.declared.tree.Replaced.{Replaced}
@@ -55,7 +55,7 @@ one_reason x f g (inr l) (inr m) = one_text_fault x f g l.1 m.1
 -- ---- one look
 
 one_left : (mode : Mode) (old new new' : Files) (name y z : List ℕ) → y ≡ z → Left mode old new name y → Left mode old new' name z → new ≡ new'
-one_left (Write w) old new new' name y z e l m = l ∙ ap (put old name) e ∙ sym m
+one_left (Write w) old new new' name y z e l m = l ∙ ap (with_bytes old name) e ∙ sym m
 one_left Check old new new' name y z e l m = l ∙ sym m
 one_left (Listed ending) old new new' name y z e l m = l ∙ sym m
 one_left Diff old new new' name y z e l m = l ∙ sym m

@@ -26,7 +26,7 @@ use Rattle.layout_laws.specs.Reprinted.{printed_tokens}
 use Rattle.layout_laws.proofs.PrintLoadLemmas.{loads_again}
 use Rattle.layout_laws.proofs.ForgetPlaceLemmas.{print_again, seen_again}
 use Rattle.layout_laws.proofs.RescanLemmas.{scans_again}
-use Rattle.file_tree.specs.Files.{Files, Name, with_fault, put}
+use Rattle.file_tree.specs.Files.{Files, Name, with_fault, with_bytes}
 use Rattle.tree_format.specs.States.{State}
 use Rattle.file_tree.specs.declared.fault.TreeFault.{TreeFault}
 use Rattle.file_tree.specs.Asked.{Asked, with_asked}
@@ -84,7 +84,7 @@ shown shows old given name bytes formatted is ne (outcome.Failed fault) h = absu
 
 changed : (shows : Bool) (mode : Mode) (old : Files) (given name bytes formatted : List ℕ) → HasRoom mode given bytes → IsFormat bytes formatted → formatted ≢ bytes → SomeLook shows mode old given name bytes
 changed shows (Write w) old given name bytes formatted room is ne =
-    (outcome.Changed AllKept, put old name formatted, (no, record { formatted = formatted; is = is; changed = ne; left = refl }), refl)
+    (outcome.Changed AllKept, with_bytes old name formatted, (no, record { formatted = formatted; is = is; changed = ne; left = refl }), refl)
   where
     no : Write w ≡ Diff → ⊥
     no e = cc

@@ -1,7 +1,7 @@
 -- One look at a file: its answer, and the files afterwards.
 use Rattle.std.specs.Prelude.{◌≡◌, ◌≢◌, ◌⊎◌, ◌++◌, ℕ, Bool, List, Option, Some, None, Result, Ok, Err, codes}
 use Rattle.file_tree.specs.Asked.{Asked, with_asked}
-use Rattle.file_tree.specs.Files.{Faults, Files, Name, with_fault, put}
+use Rattle.file_tree.specs.Files.{Faults, Files, Name, with_fault, with_bytes}
 use Rattle.hcl_source.specs.Devices.{Tells}
 use Rattle.file_tree.specs.declared.fault.TreeFault.{TreeFault}
 use Rattle.file_tree.specs.declared.fault.TreeFault.TheVariants.{OutOfMemory}
@@ -19,7 +19,7 @@ use Rattle.tree_format.specs.declared.outcome.Outcome.TheVariants as outcome
 
 -- the files after a look at a file with this real name that isn't formatted
 abbrev pub Left : Mode → Files → Files → Name → List ℕ → Type 0
-Left (Write writing) old new name formatted = new ≡ put old name formatted
+Left (Write writing) old new name formatted = new ≡ with_bytes old name formatted
 Left mode old new name formatted = new ≡ old
 
 -- the bytes of a file aren't its format

@@ -7,7 +7,7 @@ use Rattle.command_line.specs.Rows.{fault_words, line}
 use Rattle.hcl_source.specs.declared.fault.Fault.{Fault}
 use Rattle.file_tree.specs.Files.{Name}
 use Rattle.file_tree.specs.FaultTexts.{tree_fault_text}
-use Rattle.file_tree.specs.Quotes.{quoted}
+use Rattle.file_tree.specs.Quotes.{shown_name}
 use Rattle.file_tree.specs.declared.tree.Replaced.{Replaced}
 use Rattle.file_tree.specs.declared.tree.Replaced.TheVariants.{Kept, Narrowed}
 use Rattle.tree_format.specs.declared.mode.Ending.{Ending}
@@ -25,12 +25,12 @@ pub record Report : Type 0 where
 
 -- `NAME: TEXT`
 abbrev pub about : Name → List ℕ → List ℕ
-about name text = quoted name ++ (codes ": " ++ line text)
+about name text = shown_name name ++ (codes ": " ++ line text)
 
 -- the line of a printed name: quoted as in messages, or the plain name and NUL
-abbrev pub listed : Ending → Name → List ℕ
-listed Line name = line (quoted name)
-listed Null name = name ++ 0 ∷ []
+abbrev pub name_line : Ending → Name → List ℕ
+name_line Line name = line (shown_name name)
+name_line Null name = name ++ 0 ∷ []
 
 -- the group of a file that was written couldn't be kept
 abbrev pub narrowed_text : List ℕ
@@ -44,15 +44,16 @@ rights_words Narrowed name = about name narrowed_text
 -- a file isn't formatted, or wasn't before
 abbrev pub changed_report : Mode → Replaced → Name → Report
 changed_report (Write writing) how name =
-    record { out = line (quoted name); err = rights_words how name; status = 0 }
+    record { out = line (shown_name name); err = rights_words how name; status = 0 }
 changed_report Check how name =
     record { out = []; err = about name (codes "not formatted"); status = 3 }
-changed_report (Listed ending) how name = record { out = listed ending name; err = []; status = 3 }
-changed_report Diff how name = record { out = line (quoted name); err = []; status = 3 }
+changed_report (Listed ending) how name =
+    record { out = name_line ending name; err = []; status = 3 }
+changed_report Diff how name = record { out = line (shown_name name); err = []; status = 3 }
 
 -- the message for a refused file: the place and the fault, and below it the line that is shown
 abbrev pub refused_words : Name → Fault → List ℕ → List ℕ
-refused_words name fault snippet = (quoted name ++ (codes ":" ++ fault_words fault)) ++ snippet
+refused_words name fault snippet = (shown_name name ++ (codes ":" ++ fault_words fault)) ++ snippet
 
 -- the line that a look shows of a refused file
 abbrev pub snippet_text : Option (Vec ℕ Global) → List ℕ

@@ -14,10 +14,10 @@ pub trait Progress {
         ensures { result ≡ shows self.now };
 
     /// A file was looked at, and its outcome is about to be reported.
-    fn looked(&mut self, outcome: &Outcome);
+    fn after_look(&mut self, outcome: &Outcome);
 
     /// The outcome was reported.
-    fn reported(&mut self);
+    fn after_report(&mut self);
 
     /// The run is at its end.
     fn end(&mut self);

@@ -3,9 +3,9 @@
 ghost use Rattle.std.specs.Prelude.{◌≡◌, ◌||◌, [], false, ◌++◌, codes, is_err, map};
 ghost use Rattle.std.specs.List.{concat};
 ghost use Rattle.command_line.specs.Rows.{Took, fault_words, writer};
-ghost use Rattle.file_tree.specs.Quotes.{quoted};
+ghost use Rattle.file_tree.specs.Quotes.{shown_name};
 ghost use Rattle.file_tree.specs.Files.{Name};
-ghost use Rattle.tree_format.specs.Reports.{about, listed, refused_words, report_of, rights_words, snippet_text, worse_status};
+ghost use Rattle.tree_format.specs.Reports.{about, name_line, refused_words, report_of, rights_words, snippet_text, worse_status};
 ghost use Rattle.tree_format.specs.declared.mode.Ending.TheVariants.{Line};
 ghost use Rattle.tree_format.specs.Inner.Parts.{place_words};
 
@@ -21,7 +21,7 @@ use itoa::Buffer;
 fn write_named<S: ByteSink>(sink: &mut S, name: &[u8], pieces: &[&[u8]]) -> Result<(), Failed>
     requires { S.failed sink.old ≡ false }
     ensures took { Took (writer S.ByteSink sink.old sink.new)
-        (quoted name.now ++ concat (map (λ piece. piece.now) pieces.now)) }
+        (shown_name name.now ++ concat (map (λ piece. piece.now) pieces.now)) }
     ensures failed { S.failed sink.new ≡ is_err result }
 {
     if write_quoted(sink, name).is_err() {
@@ -49,7 +49,7 @@ fn tell_at<'p, S: ByteSink>(
 ) -> Result<(), Failed>
     requires { S.failed sink.old ≡ false }
     ensures took { Took (writer S.ByteSink sink.old sink.new)
-        (quoted name.now ++ place_words line.now column.now text.now) }
+        (shown_name name.now ++ place_words line.now column.now text.now) }
     ensures failed { S.failed sink.new ≡ is_err result }
 {
     let line = line.as_bytes();
@@ -62,7 +62,7 @@ fn tell_at<'p, S: ByteSink>(
 fn tell_fault<S: ByteSink>(sink: &mut S, name: &[u8], fault: &Fault) -> Result<(), Failed>
     requires { S.failed sink.old ≡ false }
     ensures took { Took (writer S.ByteSink sink.old sink.new)
-        (quoted name.now ++ (codes ":" ++ fault_words fault.now)) }
+        (shown_name name.now ++ (codes ":" ++ fault_words fault.now)) }
     ensures failed { S.failed sink.new ≡ is_err result }
 {
     let mut line = Buffer::new();
@@ -96,7 +96,7 @@ fn tell_refused<S: ByteSink>(
 /// Prints a name.
 fn tell_name<S: ByteSink>(sink: &mut S, ending: Ending, name: &[u8]) -> Result<(), Failed>
     requires { S.failed sink.old ≡ false }
-    ensures took { Took (writer S.ByteSink sink.old sink.new) (listed ending name.now) }
+    ensures took { Took (writer S.ByteSink sink.old sink.new) (name_line ending name.now) }
     ensures failed { S.failed sink.new ≡ is_err result }
 {
     match ending {
@@ -129,7 +129,8 @@ fn tell_written<O: ByteSink, E: ByteSink>(
 ) -> Result<(), Failed>
     requires out { O.failed streams.old.out ≡ false }
     requires err { E.failed streams.old.err ≡ false }
-    ensures out { Took (writer O.ByteSink streams.old.out streams.new.out) (listed Line name.now) }
+    ensures out { Took (writer O.ByteSink streams.old.out streams.new.out)
+        (name_line Line name.now) }
     ensures err { Took (writer E.ByteSink streams.old.err streams.new.err)
         (rights_words how name.now) }
     ensures failed { is_err result ≡ (O.failed streams.new.out || E.failed streams.new.err) }

@@ -87,12 +87,12 @@ pub fn run_over<T: WritableTree, P: Progress, O: ByteSink, E: ByteSink>(
     let mut tally = Tally::new();
     for found in all {
         let outcome = look_at(alloc, shows, mode, found, tree);
-        progress.looked(&outcome);
+        progress.after_look(&outcome);
         tally = tally.add(&outcome);
         if report(mode, found.name.as_slice(), &outcome, streams).is_err() {
             return Ran { status: 4, tally };
         }
-        progress.reported();
+        progress.after_report();
         status = worse_status(status, status_of(mode, &outcome));
     }
     Ran { status, tally }

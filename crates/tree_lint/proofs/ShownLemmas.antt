@@ -9,7 +9,7 @@ use Rattle.command_line.proofs.ListCutLemmas.{from_here}
 use Rattle.file_tree.specs.FaultTexts.{tree_fault_text}
 use Rattle.file_tree.specs.Files.{Faults, Files, Name}
 use Rattle.file_tree.specs.declared.fault.TreeFault.{TreeFault}
-use Rattle.file_tree.specs.Quotes.{quoted}
+use Rattle.file_tree.specs.Quotes.{shown_name}
 use Rattle.file_tree.specs.declared.walk.Found.{Found}
 use Rattle.lint_forms.specs.Forms.{module_text}
 use Rattle.lint_forms.specs.declared.kind.Form.{Form}
@@ -18,7 +18,7 @@ use Rattle.module_find.specs.declared.module.Module.{Module}
 use Rattle.tf_rules.specs.declared.issue.Issue.{Issue}
 use Rattle.tfrules_command.specs.Line.{max_files}
 use Rattle.tree_lint.specs.Faults.{fault_lines, refusal_by}
-use Rattle.tree_lint.specs.Inner.Showing.{HasOrNoMemory, Shows, is_nothing, refused}
+use Rattle.tree_lint.specs.Inner.Showing.{HasOrNoMemory, Shows, is_nothing, refused_end}
 use Rattle.tree_lint.specs.KeptRefusals.{KeepsAll}
 use Rattle.tree_lint.specs.Parted.{after_empty_line}
 use Rattle.tree_lint.specs.Refusals.{Refusal, refusal_line, refusal_of, reported_fault}
@@ -42,7 +42,7 @@ untouched false a e = appends_nothing a
 untouched true a e = absurd (cc)
 
 module _ (task : Task) (m : Module) (out err : Writer) (before after : KeptRefusals) (ended : Ended) where
-  refused_all : (refusals : List Refusal) (text : List ℕ) → out.failed ≡ false → out.after ≡ out.before → TookBy err.failed err.before err.after text → text ≡ flat_map refusal_line refusals → KeepsAll before after refusals → ended ≡ refused
+  refused_all : (refusals : List Refusal) (text : List ℕ) → out.failed ≡ false → out.after ≡ out.before → TookBy err.failed err.before err.after text → text ≡ flat_map refusal_line refusals → KeepsAll before after refusals → ended ≡ refused_end
       → Shows task m (λ v. v ≡ Err refusals) out err before after ended
   refused_all refusals text good same took is keeps e = record {
     verdict = Err refusals;
@@ -55,12 +55,12 @@ module _ (task : Task) (m : Module) (out err : Writer) (before after : KeptRefus
     shown = ap (λ (x : Ended). x.is_shown) e;
   }
 
-  pub refused_one : (r wanted : Refusal) → r ≡ wanted → out.failed ≡ false → out.after ≡ out.before → TookBy err.failed err.before err.after (refusal_line r) → KeepsAll before after (r ∷ []) → ended ≡ refused
+  pub refused_one : (r wanted : Refusal) → r ≡ wanted → out.failed ≡ false → out.after ≡ out.before → TookBy err.failed err.before err.after (refusal_line r) → KeepsAll before after (r ∷ []) → ended ≡ refused_end
       → Shows task m (λ v. v ≡ Err (wanted ∷ [])) out err before after ended
   refused_one r wanted e good same took keeps is =
       refused_all (wanted ∷ []) (refusal_line r) good same took (ap refusal_line e ∙ sym (append-nil (refusal_line wanted))) (subst (λ q. KeepsAll before after (q ∷ [])) e keeps) is
 
-  pub refused_untold : out.failed ≡ false → out.after ≡ out.before → err.failed ≡ false → err.after ≡ err.before → KeepsAll before after [] → ended ≡ refused → Shows task m (λ v. v ≡ Err []) out err before after ended
+  pub refused_untold : out.failed ≡ false → out.after ≡ out.before → err.failed ≡ false → err.after ≡ err.before → KeepsAll before after [] → ended ≡ refused_end → Shows task m (λ v. v ≡ Err []) out err before after ended
   refused_untold good same fine still keeps is = refused_all [] [] good same (subst (λ a. TookBy err.failed err.before a []) (sym still) (untouched err.failed err.before fine)) refl keeps is
 
   pub shown : (linted : Linted) (text said : List ℕ) → TookBy out.failed out.before out.after text → text ≡ verdict_output task.manner task.is_after m (Ok linted) → TookBy err.failed err.before err.after said → said ≡ verdict_message task.manner.terminals.err m (Ok linted)
@@ -124,9 +124,9 @@ map_twice : {A B C : Type 0} (f : B → C) (h : A → B) (xs : List A) → map (
 map_twice f h [] = refl
 map_twice f h (x ∷ xs) = ap (λ l. f (h x) ∷ l) (map_twice f h xs)
 
-pub names_as : (shows : Bool) (m : Module) (is_after : Bool) (linted : Linted) (names : List (List ℕ)) (files : List (String Global)) → names ≡ map (λ name. quoted (string_bytes name)) files → files ≡ m.files.items
+pub names_as : (shows : Bool) (m : Module) (is_after : Bool) (linted : Linted) (names : List (List ℕ)) (files : List (String Global)) → names ≡ map (λ name. shown_name (string_bytes name)) files → files ≡ m.files.items
     → after_empty_line is_after (report_of shows names linted) ≡ linted_output None shows is_after m linted
-names_as shows m is_after linted names files e same = ap (λ l. after_empty_line is_after (report_of shows l linted)) (e ∙ map_twice quoted string_bytes files ∙ ap (λ l. map quoted (map string_bytes l)) same)
+names_as shows m is_after linted names files e same = ap (λ l. after_empty_line is_after (report_of shows l linted)) (e ∙ map_twice shown_name string_bytes files ∙ ap (λ l. map shown_name (map string_bytes l)) same)
 
 -- in a form, nothing is written if there is no remark
 nothing_in_form : (form : Form) (is_after : Bool) → module_text form is_after [] ≡ []

@@ -2,7 +2,7 @@
 use Rattle.std.specs.Prelude.{ℕ, List, [], ◌++◌, Option, Some, None, codes, decimal}
 use Rattle.command_line.specs.Rows.{Program, error, line}
 use Rattle.file_tree.specs.Files.{Name}
-use Rattle.file_tree.specs.Quotes.{quoted}
+use Rattle.file_tree.specs.Quotes.{shown_name}
 use Rattle.file_tree.specs.declared.fault.TreeFault.{TreeFault}
 use Rattle.file_tree.specs.declared.fault.TreeFault.TheVariants.{Missing, NoInput}
 use Rattle.hcl_source.specs.declared.fault.Position.{Position}
@@ -37,7 +37,7 @@ refusal_words (Some at) text =
 
 -- `NAME: TEXT`, or `NAME:LINE:COLUMN: TEXT`, and below it the part of the file that is shown
 abbrev pub named_words : Refusal → List ℕ
-named_words r = quoted r.name ++ (refusal_words r.at r.text ++ r.snippet)
+named_words r = shown_name r.name ++ (refusal_words r.at r.text ++ r.snippet)
 
 -- the line of a refusal, which begins with the name of the program, and below it the part of the file that is shown
 abbrev pub refusal_line : Refusal → List ℕ

@@ -5,7 +5,7 @@ use Rattle.std.specs.List.{list_any}
 use Rattle.comment_faults.specs.CommentFaults.{CommentFault}
 use Rattle.command_line.specs.Rows.{End, Took}
 use Rattle.file_tree.specs.Files.{Faults, Files, Name}
-use Rattle.file_tree.specs.Quotes.{quoted}
+use Rattle.file_tree.specs.Quotes.{shown_name}
 use Rattle.lint_forms.specs.Forms.{module_text}
 use Rattle.lint_forms.specs.Remarks.{Remark}
 use Rattle.lint_forms.specs.declared.kind.Form.{Form}
@@ -44,7 +44,7 @@ report_of shows names linted =
 
 -- the report of a module, with quoted names of its files
 abbrev pub module_report : Bool → Module → Linted → List ℕ
-module_report shows m linted = report_of shows (map quoted (names_in m)) linted
+module_report shows m linted = report_of shows (map shown_name (names_in m)) linted
 
 -- an issue in the file of its number, as a remark
 abbrev pub issue_remark : List Name → Issue → Remark

@@ -56,7 +56,7 @@ impl Gathered {
     }
 
     /// These issues, with the comments and the texts.
-    pub(crate) fn linted<'a, 'f>(&'a self, issues: &'a IssueList<'f>) -> Linted<'a, 'f>
+    pub(crate) fn as_linted<'a, 'f>(&'a self, issues: &'a IssueList<'f>) -> Linted<'a, 'f>
         ensures { linted_view result ≡ record {
           issues = issues.entry.now;
           comments = map fault_view self.entry.now.comments.items;

@@ -9,7 +9,7 @@ ghost use Rattle.tree_lint.specs.Refusals.{refusal_line, refusal_view};
 ghost use Rattle.tree_lint.specs.KeptRefusals.{KeepsAll};
 ghost use Rattle.tree_lint.specs.Runs.{comment_line, linted_output, remarks_by, report_of};
 ghost use Rattle.tree_lint.specs.Verdicts.{names_in, no_memory, too_many};
-ghost use Rattle.tree_lint.specs.Inner.Showing.{HasOrNoMemory, Shows, linted_view, refused};
+ghost use Rattle.tree_lint.specs.Inner.Showing.{HasOrNoMemory, Shows, linted_view, refused_end};
 
 use crate::counts::Ended;
 use crate::issue_remarks::{linted_text, name_of};
@@ -119,7 +119,7 @@ pub(crate) fn refuse<E: ByteSink>(
     ensures took { Took (writer E.ByteSink err.old err.new)
         (refusal_line (refusal_view refusal.entry)) }
     ensures kept { KeepsAll kept.old kept.new (refusal_view refusal.entry ∷ []) }
-    ensures ended { result ≡ refused }
+    ensures ended { result ≡ refused_end }
 {
     let _ = tell_refusal(err, refusal);
     kept.add(alloc, refusal);

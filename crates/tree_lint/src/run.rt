@@ -63,7 +63,7 @@ fn lint_files<T: Tree + Drop, O: ByteSink, E: ByteSink>(
     }
     match all.facts.issue_list(&task.policy.settings) {
         Ok(issues) => {
-            let linted = all.linted(&issues);
+            let linted = all.as_linted(&issues);
             show(alloc, task, one, linted, streams, kept)
         }
         Err(_) => refuse(alloc, no_memory(one), &mut streams.err, kept),
@@ -136,7 +136,7 @@ pub struct RunEnd {
 
 impl RunEnd {
     /// The end of a run in which a write failed.
-    fn cut(counts: Counts, kept: KeptRefusals) -> RunEnd
+    fn with_failed_write(counts: Counts, kept: KeptRefusals) -> RunEnd
         ensures { result.status ≡ 1 }
     {
         RunEnd {
@@ -176,7 +176,7 @@ fn run_all<T: Tree + Drop, O: ByteSink, E: ByteSink>(
         };
         let ended = lint_one(alloc, task, &one.module, files, streams, &mut kept);
         if streams.has_failed() {
-            return RunEnd::cut(counts, kept);
+            return RunEnd::with_failed_write(counts, kept);
         }
         has_output = either(has_output, ended.is_shown);
         status = worse_status(status, ended.status);
@@ -211,7 +211,7 @@ pub fn run_over<T: Tree + Drop, O: ByteSink, E: ByteSink>(
     ensures leaves { Leaves T.Tree files.old files.new }
 {
     if let Err(_fault) = write_fully(&mut streams.out, written.head) {
-        return RunEnd::cut(Counts::new(), KeptRefusals::new(alloc, false));
+        return RunEnd::with_failed_write(Counts::new(), KeptRefusals::new(alloc, false));
     }
     run_all(alloc, written.manner, modules, files, streams)
 }

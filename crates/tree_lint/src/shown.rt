@@ -1,9 +1,9 @@
 //! The quoted names of a module's files.
 
 ghost use Rattle.std.specs.Prelude.{◌≡◌, ◌++◌, ◌∷◌, [], IfOk, List, OnOk, map, string_bytes, ℕ};
-ghost use Rattle.file_tree.specs.Quotes.{quoted};
+ghost use Rattle.file_tree.specs.Quotes.{shown_name};
 
-use file_tree::quote::quoted;
+use file_tree::quote::quote_name;
 use std::alloc::{AllocError, Global};
 use tfrules_command::shown_names::ShownNames;
 
@@ -17,9 +17,9 @@ impl Shown {
     /// Adds the name of one more file.
     fn add(&mut self, alloc: Global, name: &str) -> Result<(), AllocError>
         ensures { OnOk result (map (λ shown. shown.items) self.new.names.items
-            ≡ map (λ shown. shown.items) self.old.names.items ++ quoted name.now ∷ []) }
+            ≡ map (λ shown. shown.items) self.old.names.items ++ shown_name name.now ∷ []) }
     {
-        let shown = quoted(alloc, name.as_bytes())?;
+        let shown = quote_name(alloc, name.as_bytes())?;
         let Ok(()) = self.names.push(shown) else {
             return Err(AllocError);
         };
@@ -29,7 +29,7 @@ impl Shown {
     /// These names, quoted.
     pub(crate) fn new(alloc: Global, names: &[String]) -> Result<Shown, AllocError>
         ensures { IfOk result (λ shown. map (λ name. name.items) shown.names.items
-            ≡ map (λ name. quoted (string_bytes name)) names.now) }
+            ≡ map (λ name. shown_name (string_bytes name)) names.now) }
     {
         let mut shown = Shown {
             names: Vec::new(alloc),

@@ -20,7 +20,7 @@ fn is_made_good(row: &Row, step: Step) -> bool {
 // The expected message for each name.
 fn wanted_lines(rt: &impl Abort, alloc: Global, row: &Row, run: &Ended<'_>) -> Vec<Line> {
     let calls = run.tree.calls();
-    match calls.failed() {
+    match calls.failed_step() {
         Some(step) if !is_made_good(row, step) => {
             let failed = (step, calls.failed_name(), calls.fault(step));
             lines_after(rt, alloc, row.lines, failed)
@@ -43,7 +43,7 @@ fn manner_of(words: Words) -> (bool, bool) {
 }
 
 // The expected output.
-fn wanted(
+fn expected_run(
     rt: &impl Abort,
     alloc: Global,
     row: &Row,
@@ -94,11 +94,11 @@ fn check_files(rt: &impl Abort, row: &Row, lines: &[Line], run: &Ended<'_>, at: 
 // No file is beside others, unless one can't be removed.
 fn check_beside(rt: &impl Abort, devices: &Devices, run: &Ended<'_>, at: At) {
     let calls = run.tree.calls();
-    let is_left = match calls.failed() {
+    let is_left = match calls.failed_step() {
         Some(step) => devices.tree.removal && step.has_file_beside(),
         None => false,
     };
-    same_number(rt, calls.beside() as u64, u64::from(is_left), at);
+    same_number(rt, calls.beside_count() as u64, u64::from(is_left), at);
 }
 
 // The observer is told of each look and each report, and of the end.
@@ -122,7 +122,7 @@ pub fn check(rt: &impl Abort, alloc: Global, row: &Row, devices: &Devices, run: 
         devices: *devices,
     };
     let lines = wanted_lines(rt, alloc, row, run);
-    let wanted = wanted(rt, alloc, row, lines.as_slice(), devices, run);
+    let wanted = expected_run(rt, alloc, row, lines.as_slice(), devices, run);
     same_bytes(rt, run.out.bytes(), wanted.out.as_slice(), at);
     same_bytes(rt, run.err.bytes(), wanted.err.as_slice(), at);
     same_number(rt, u64::from(run.status), u64::from(wanted.status), at);

@@ -31,7 +31,7 @@ pub fn same_bytes(rt: &impl Abort, found: &[u8], wanted: &[u8], at: At) {
 }
 
 /// A text this many times.
-pub fn repeated(rt: &impl Abort, alloc: Global, text: &[u8], count: usize) -> Vec<u8> {
+pub fn repeat_text(rt: &impl Abort, alloc: Global, text: &[u8], count: usize) -> Vec<u8> {
     let mut bytes = Vec::new(alloc);
     for _ in 0..count {
         bytes.extend_from_slice(text).expect(rt, "memory");

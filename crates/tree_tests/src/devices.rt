@@ -26,7 +26,7 @@ pub struct Devices {
 }
 
 /// Devices that don't fail.
-pub fn steady(most: usize) -> Devices {
+pub fn steady_devices(most: usize) -> Devices {
     Devices {
         shows: false,
         most,
@@ -54,11 +54,11 @@ impl Progress for Watcher {
         self.shows
     }
 
-    fn looked(&mut self, _outcome: &Outcome) {
+    fn after_look(&mut self, _outcome: &Outcome) {
         self.looked = self.looked.saturating_add(1);
     }
 
-    fn reported(&mut self) {
+    fn after_report(&mut self) {
         self.reported = self.reported.saturating_add(1);
     }
 

@@ -144,7 +144,7 @@ impl Writer {
         self.taken.extend_from_slice(part).expect(rt, "memory");
     }
 
-    fn put(&mut self, rt: &impl Abort, text: &[u8]) {
+    fn push_chunks(&mut self, rt: &impl Abort, text: &[u8]) {
         for part in text.chunks(self.most.max(1)) {
             self.take(rt, part);
         }
@@ -152,7 +152,7 @@ impl Writer {
 
     fn put_all(&mut self, rt: &impl Abort, pieces: &[&[u8]]) {
         for piece in pieces {
-            self.put(rt, piece);
+            self.push_chunks(rt, piece);
         }
     }
 }
@@ -200,7 +200,7 @@ impl Streams {
             Said::Formatted => {}
             Said::Written(_, _) | Said::Listed => self.out.put_all(rt, &[name, b"\n"]),
             Said::NotFormatted => self.tell_about(rt, name, "not formatted"),
-            Said::Shown(text) => self.out.put(rt, text),
+            Said::Shown(text) => self.out.push_chunks(rt, text),
             Said::Refused(line, column, text) => self.tell_place(rt, name, (line, column), text),
             Said::Failed(fault) => self.tell_about(rt, name, fault.text()),
         }
@@ -225,28 +225,28 @@ impl Streams {
     /// Reports that standard output failed, if it did.
     fn finish(&mut self, rt: &impl Abort) {
         if self.out.has_failed && !self.err.has_failed {
-            self.err.put(rt, b"tffmt-all: error: write failed\n");
+            self.err.push_chunks(rt, b"tffmt-all: error: write failed\n");
         }
     }
 
     fn tell_number(&mut self, rt: &impl Abort, alloc: Global, number: usize) {
         let text = format!(in alloc; "{number}").expect(rt, "memory");
-        self.err.put(rt, text.as_bytes());
+        self.err.push_chunks(rt, text.as_bytes());
     }
 
     /// Writes how many files have this outcome, if any.
     fn tell_count(&mut self, rt: &impl Abort, alloc: Global, number: usize, word: &[u8]) {
         if number > 0 {
-            self.err.put(rt, b", ");
+            self.err.push_chunks(rt, b", ");
             self.tell_number(rt, alloc, number);
-            self.err.put(rt, word);
+            self.err.push_chunks(rt, word);
         }
     }
 
     /// Writes the outcomes of all files.
     fn tell_tally(&mut self, rt: &impl Abort, alloc: Global, lines: &[Line], writes: bool) {
         if lines.is_empty() {
-            self.err.put(rt, b"no files found\n");
+            self.err.push_chunks(rt, b"no files found\n");
             return;
         }
         let refused = count_of(lines, 2);
@@ -256,8 +256,8 @@ impl Streams {
         let changed = lines.len().saturating_sub(others);
         self.tell_number(rt, alloc, changed);
         self.err
-            .put(rt, if changed == 1 { b" file" } else { b" files" });
-        self.err.put(
+            .push_chunks(rt, if changed == 1 { b" file" } else { b" files" });
+        self.err.push_chunks(
             rt,
             if writes {
                 b" formatted, "
@@ -266,10 +266,10 @@ impl Streams {
             },
         );
         self.tell_number(rt, alloc, unchanged);
-        self.err.put(rt, b" unchanged");
+        self.err.push_chunks(rt, b" unchanged");
         self.tell_count(rt, alloc, refused, b" refused");
         self.tell_count(rt, alloc, failed, b" failed");
-        self.err.put(rt, b"\n");
+        self.err.push_chunks(rt, b"\n");
     }
 
     /// Writes the last messages of a run over these lines.
@@ -343,11 +343,11 @@ pub fn shown_text(
     devices: &Devices,
 ) -> Shown {
     let mut streams = Streams::new(alloc, devices);
-    streams.out.put(rt, out);
+    streams.out.push_chunks(rt, out);
     if devices.flush && !out.is_empty() {
         streams.out.has_failed = true;
     }
     streams.finish(rt);
-    streams.err.put(rt, err);
+    streams.err.push_chunks(rt, err);
     Shown::of(streams, status, (0, 0))
 }

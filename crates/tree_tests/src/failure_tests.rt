@@ -4,7 +4,7 @@
 
 use crate::checks::check;
 use crate::compared::{At, same_number};
-use crate::devices::{Devices, Ended, run, steady};
+use crate::devices::{Devices, Ended, run, steady_devices};
 use crate::rows::{
     BAD_WORD, CHECKS, LISTS, NAMES_GIVEN, OF_EACH_KIND, ONLY_IN_PLACE, Row, SHOWS, SYNCS, VERSION,
     WRITES, WRITES_IN_PLACE,
@@ -33,7 +33,7 @@ enum Kind {
 }
 
 // These devices with a further failure: the call of this kind after this many good ones. A flush fails at once.
-fn failing(kind: Kind, good: usize, others: Devices) -> Devices {
+fn failing_devices(kind: Kind, good: usize, others: Devices) -> Devices {
     match kind {
         Kind::Tree => Devices {
             tree: Failures {
@@ -71,7 +71,7 @@ fn failing(kind: Kind, good: usize, others: Devices) -> Devices {
 // Whether a run reached the call of this kind that fails.
 fn is_reached(kind: Kind, run: &Ended<'_>) -> bool {
     match kind {
-        Kind::Tree | Kind::File(_) => run.tree.calls().failed().is_some(),
+        Kind::Tree | Kind::File(_) => run.tree.calls().failed_step().is_some(),
         Kind::Input => run.has_read_failed,
         Kind::Write | Kind::Flush => run.out.has_failed(),
         Kind::Message => run.err.has_failed(),
@@ -88,7 +88,7 @@ fn fails(rt: &impl Abort, alloc: Global, row: &Row, devices: &Devices, kind: Kin
 // Lets each write of the messages fail in turn, beside other failures. Returns how many failed.
 fn fail_messages(rt: &impl Abort, alloc: Global, row: &Row, others: Devices) -> u64 {
     for good in 0..CALLS {
-        let devices = failing(Kind::Message, good, others);
+        let devices = failing_devices(Kind::Message, good, others);
         if !fails(rt, alloc, row, &devices, Kind::Message) {
             return good as u64;
         }
@@ -100,7 +100,7 @@ fn fail_messages(rt: &impl Abort, alloc: Global, row: &Row, others: Devices) -> 
 fn fail_kind(rt: &impl Abort, alloc: Global, row: &Row, others: Devices, kind: Kind) -> u64 {
     let mut failures = 0_u64;
     for good in 0..CALLS {
-        let devices = failing(kind, good, others);
+        let devices = failing_devices(kind, good, others);
         if !fails(rt, alloc, row, &devices, kind) {
             return failures;
         }
@@ -148,7 +148,7 @@ fn fail_by(rt: &impl Abort, alloc: Global, row: &Row, tree: Failures, most: usiz
 fn fail_at(rt: &impl Abort, alloc: Global, row: &Row, tree: Failures, most: usize, wanted: u64) {
     let at = At {
         words: row.words,
-        devices: steady(most),
+        devices: steady_devices(most),
     };
     same_number(rt, fail_by(rt, alloc, row, tree, most), wanted, at);
 }

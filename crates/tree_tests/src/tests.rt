@@ -1,8 +1,8 @@
 //! Whole runs over a tree in memory in which nothing fails, with ample memory.
 
 use crate::checks::check;
-use crate::compared::{At, Words, holds, repeated, same_bytes, same_number};
-use crate::devices::{Devices, run, run_bytes, steady};
+use crate::compared::{At, Words, holds, repeat_text, same_bytes, same_number};
+use crate::devices::{Devices, run, run_bytes, steady_devices};
 use crate::expected::Said;
 use crate::rows::{
     BAD_WORD, CHECKS, LISTS, NAMES_GIVEN, OF_EACH_KIND, ONLY_IN_PLACE, Row, SHOWS, SMALL, SYNCS,
@@ -17,7 +17,7 @@ use tree_devices::entry::{Entry, Stands};
 
 // Runs with a row's words and tree, and checks the result.
 fn shows(rt: &impl Abort, alloc: Global, row: &Row) {
-    let devices = steady(SINK_ROOM);
+    let devices = steady_devices(SINK_ROOM);
     let run = run(alloc, row.words, row.input, row.entries, &devices).expect(rt, "memory");
     check(rt, alloc, row, &devices, &run);
 }
@@ -164,14 +164,14 @@ static ALL: Words = &["tffmt-all"];
 fn at_all() -> At {
     At {
         words: ALL,
-        devices: steady(SINK_ROOM),
+        devices: steady_devices(SINK_ROOM),
     }
 }
 
 #[test]
 fn a_large_file_is_written(rt: HostRuntime) {
-    let old = repeated(&rt, rt.alloc(), b"a=1\n", 20_000);
-    let new = repeated(&rt, rt.alloc(), b"a = 1\n", 20_000);
+    let old = repeat_text(&rt, rt.alloc(), b"a=1\n", 20_000);
+    let new = repeat_text(&rt, rt.alloc(), b"a = 1\n", 20_000);
     let entries = [
         Entry {
             name: b"",

@@ -1,7 +1,7 @@
 //! Wrong command lines: the reported word, and its replacement.
 
 use crate::compared::{At, Words, holds, same_bytes, same_number};
-use crate::devices::{run, steady};
+use crate::devices::{run, steady_devices};
 use crate::rows::{SMALL, USAGE};
 use hcl_scan::SINK_ROOM;
 use std::alloc::Global;
@@ -11,7 +11,7 @@ use std::process::Abort;
 fn says(rt: &impl Abort, alloc: Global, words: Words, front: &[u8]) {
     let at = At {
         words,
-        devices: steady(SINK_ROOM),
+        devices: steady_devices(SINK_ROOM),
     };
     let mut wanted = Vec::new(alloc);
     wanted.extend_from_slice(front).expect(rt, "memory");

@@ -6,7 +6,7 @@ use Rattle.std.specs.Option.{option_map_or}
 use Rattle.std.specs.Str.{bytes_eq}
 use Rattle.clap.specs.Lexer.{long_of, short_of}
 use Rattle.clap.specs.Words.{App, Text, built}
-use Rattle.file_tree.specs.Quotes.{quoted}
+use Rattle.file_tree.specs.Quotes.{shown_name}
 
 -- an option of another program, and the hint after it: what to write instead
 pub record Foreign : Type 0 where
@@ -74,7 +74,7 @@ hint_of v word = if is_name v (drop 1 word) then codes "; write -" ++ word else 
 
 -- `PROGRAM: error: unknown option WORD; WHAT TO WRITE`, and the usage
 abbrev pub about_word : Vocabulary → Text → List ℕ
-about_word v word = v.error ++ quoted word ++ hint_of v word ++ codes "\n" ++ v.usage
+about_word v word = v.error ++ shown_name word ++ hint_of v word ++ codes "\n" ++ v.usage
 
 -- THE MESSAGE for a wrong line: its wrong word, if it has one, and the usage
 abbrev pub bad_line_words : Vocabulary → List Text → List ℕ

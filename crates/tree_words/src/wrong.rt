@@ -10,7 +10,7 @@ ghost use Rattle.tree_words.specs.Vocabularies.{foreign_of, vocabulary_of};
 
 use crate::vocabulary::{Foreign, Vocabulary};
 use crate::words::after_first;
-use file_tree::quote::quoted;
+use file_tree::quote::quote_name;
 use std::alloc::{AllocError, Global};
 
 fn is_one_of(names: &[&str], text: &[u8]) -> bool
@@ -161,7 +161,7 @@ fn push_hint(to: &mut Vec<u8>, of: &Vocabulary, word: &str) -> Result<(), AllocE
 fn about_word(alloc: Global, of: &Vocabulary, word: &str) -> Result<Vec<u8>, AllocError>
     ensures { IfOk result (λ text. text.items ≡ about_word (vocabulary_of of.now) word.now) }
 {
-    let shown = quoted(alloc, word.as_bytes())?;
+    let shown = quote_name(alloc, word.as_bytes())?;
     let mut text = Vec::new(alloc);
     text.extend_from_slice(of.error.as_bytes())?;
     text.extend_from_slice(shown.as_slice())?;

@@ -1,7 +1,7 @@
 //! Trees of small files, whose texts are made when they are opened.
 
 ghost use Rattle.std.specs.Prelude.{◌≡◌, false, None};
-ghost use Rattle.file_tree.specs.Files.{silent};
+ghost use Rattle.file_tree.specs.Files.{silent_files};
 
 use crate::digest::{Digest, DigestSink};
 use crate::made_text::MadeText;
@@ -181,7 +181,7 @@ impl MadeTree {
 impl Tree for MadeTree {
     type Reader = MadeText;
 
-    ghost files = { λ s. silent };
+    ghost files = { λ s. silent_files };
 
     ghost faults = { λ s. None };
 
@@ -257,9 +257,9 @@ impl Progress for Nobody {
         false
     }
 
-    fn looked(&mut self, _outcome: &Outcome) {}
+    fn after_look(&mut self, _outcome: &Outcome) {}
 
-    fn reported(&mut self) {}
+    fn after_report(&mut self) {}
 
     fn end(&mut self) {}
 }

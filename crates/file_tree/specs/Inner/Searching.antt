@@ -11,8 +11,8 @@ use Rattle.file_tree.specs.declared.walk.ListedFolder.{ListedFolder}
 use Rattle.file_tree.specs.declared.walk.Search.{Search}
 
 -- everything found so far, and the folders still to be listed
-abbrev pub searched : Search → Reached
-searched s = record { found = all_found s.walk.found.items s.looked.items; folders = map (λ folder. folder.items) s.walk.folders.items }
+abbrev pub search_view : Search → Reached
+search_view s = record { found = all_found s.walk.found.items s.looked.items; folders = map (λ folder. folder.items) s.walk.folders.items }
 
 abbrev pub nothing : Reached
 nothing = record { found = []; folders = [] }
@@ -42,15 +42,15 @@ AreLooks files chosen looked = (l : ListedFolder) → Contains looked l → IsLo
 
 -- some folders were listed, and those in them
 pub record Searches (files : Files) (chosen : Chosen) (was is : Faults) (old new : Search) : Type 0 where
-  pub walked : (paths : List Name) → Walked files chosen paths (searched old) → Walked files chosen paths (searched new)
-  pub hears : Hears (searched old).found (searched new).found was is
+  pub walked : (paths : List Name) → Walked files chosen paths (search_view old) → Walked files chosen paths (search_view new)
+  pub hears : Hears (search_view old).found (search_view new).found was is
   pub named : new.walk.found ≡ old.walk.found
   pub looks : AreLooks files chosen old.looked.items → AreLooks files chosen new.looked.items
 
 -- everything that these paths stand for
 pub record SeesAll (files : Files) (chosen : Chosen) (paths : List Name) (was is : Faults) (s : Search) : Type 0 where
-  pub walked : Walked files chosen paths (record { found = (searched s).found; folders = [] })
-  pub real : AreReal files chosen paths was is (searched s).found
+  pub walked : Walked files chosen paths (record { found = (search_view s).found; folders = [] })
+  pub real : AreReal files chosen paths was is (search_view s).found
   pub looks : AreLooks files chosen s.looked.items
 
 -- ---- in order

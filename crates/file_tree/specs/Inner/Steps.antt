@@ -9,8 +9,8 @@ abbrev pub gap : Bool → Name
 gap has_step = if has_step then codes "/" else []
 
 -- the text that a part adds
-abbrev pub added : Bool → Name → Name
-added has_step part = if is_step part then gap has_step ++ part else []
+abbrev pub added_text : Bool → Name → Name
+added_text has_step part = if is_step part then gap has_step ++ part else []
 
 abbrev pub has_any : List Name → Bool
 has_any [] = false

@@ -8,7 +8,7 @@ use Rattle.hcl_source.specs.Devices.{Tells}
 use Rattle.file_tree.specs.Finds.{AreReal, Failure, IsFolderOf, IsOf, with_failures}
 use Rattle.file_tree.specs.Names.{is_taken}
 use Rattle.file_tree.specs.Ordered.{IsFound}
-use Rattle.file_tree.specs.Paths.{inside, place, report_name, tidied, top}
+use Rattle.file_tree.specs.Paths.{inside, place, report_name, tidy_path, top}
 use Rattle.file_tree.specs.declared.fault.TreeFault.{TreeFault}
 use Rattle.file_tree.specs.declared.fault.TreeFault.TheVariants.{OtherKind}
 use Rattle.file_tree.specs.declared.kind.Identity.{Identity}
@@ -23,8 +23,8 @@ pub record Reached : Type 0 where
   pub found : List Found
   pub folders : List Name
 
-abbrev pub reached : Walk → Reached
-reached w = record { found = w.found.items; folders = map (λ folder. folder.items) w.folders.items }
+abbrev pub walk_view : Walk → Reached
+walk_view w = record { found = w.found.items; folders = map (λ folder. folder.items) w.folders.items }
 
 -- ---- one step more
 
@@ -99,28 +99,28 @@ TakesFolder files chosen folder old new =
 -- the effect of a given path that leads to a file, by the kind of its name
 abbrev pub TakesNamedFile : Files → Identity → Name → Reached → Reached → Type 0
 TakesNamedFile files identity path old new =
-    Reports (report_name path) old new ⊎ ((entry : Kind) × Tells (files.entry (tidied path)) entry × Adds (tidied path) None (Some (file_by (is_link entry) identity)) old new)
+    Reports (report_name path) old new ⊎ ((entry : Kind) × Tells (files.entry (tidy_path path)) entry × Adds (tidy_path path) None (Some (file_by (is_link entry) identity)) old new)
 
 -- the effect of a given path that is to be looked at
 abbrev pub TakesWanted : Kind → Files → Name → Reached → Reached → Type 0
 TakesWanted (File identity) files path old new = TakesNamedFile files identity path old new
-TakesWanted kind files path old new = Adds (tidied path) None None old new
+TakesWanted kind files path old new = Adds (tidy_path path) None None old new
 
 abbrev pub TakesNamed : Bool → Kind → Files → Name → Reached → Reached → Type 0
 TakesNamed true kind files path old new = TakesWanted kind files path old new
-TakesNamed false kind files path old new = Adds (tidied path) (Some OtherKind) None old new
+TakesNamed false kind files path old new = Adds (tidy_path path) (Some OtherKind) None old new
 
 -- the effect of a given path
 abbrev pub TakesKindGiven : Files → Chosen → Kind → Name → Reached → Reached → Type 0
 TakesKindGiven files chosen Folder path old new = Enters (top path) old new
-TakesKindGiven files chosen kind path old new = TakesNamed (is_wanted chosen (tidied path)) kind files path old new
+TakesKindGiven files chosen kind path old new = TakesNamed (is_wanted chosen (tidy_path path)) kind files path old new
 
 abbrev pub TakesAsked : Files → Chosen → Name → Reached → Reached → Type 0
 TakesAsked files chosen path old new = Reports (report_name path) old new ⊎ ((kind : Kind) × Tells (files.kind path) kind × TakesKindGiven files chosen kind path old new)
 
 abbrev pub TakesGiven : Files → Chosen → Name → Reached → Reached → Type 0
 TakesGiven files chosen path old new =
-    ((is_excluded chosen (tidied path) ≡ true) × (new ≡ old)) ⊎ ((is_excluded chosen (tidied path) ≡ false) × TakesAsked files chosen path old new)
+    ((is_excluded chosen (tidy_path path) ≡ true) × (new ≡ old)) ⊎ ((is_excluded chosen (tidy_path path) ≡ false) × TakesAsked files chosen path old new)
 
 -- ---- the walk so far
 
@@ -135,8 +135,8 @@ Covers r folder (part ∷ parts) last = Contains r.folders folder ⊎ (IsFault r
 pub record Walked (files : Files) (chosen : Chosen) (paths : List Name) (r : Reached) : Type 0 where
   pub real : (f : Found) → Contains r.found f → IsOf files chosen paths f
   pub deeper : (folder : Name) → Contains r.folders folder → (path : Name) × Contains paths path × IsFolderOf files chosen path folder
-  pub other : (path : Name) → Contains paths path → IsOther surely files chosen path → IsFault r.found (tidied path) ⊎ IsFault r.found (report_name path)
-  pub given : (path : Name) → Contains paths path → IsNamed surely files chosen path → IsFound r.found (tidied path) ⊎ IsFault r.found (report_name path)
+  pub other : (path : Name) → Contains paths path → IsOther surely files chosen path → IsFault r.found (tidy_path path) ⊎ IsFault r.found (report_name path)
+  pub given : (path : Name) → Contains paths path → IsNamed surely files chosen path → IsFound r.found (tidy_path path) ⊎ IsFault r.found (report_name path)
   pub below : (path : Name) (parts : List Name) (last : Name) → Contains paths path → IsBelow surely files chosen path parts last
       → IsFault r.found (report_name path) ⊎ Covers r (top path) parts last
 

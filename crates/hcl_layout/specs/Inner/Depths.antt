@@ -26,8 +26,8 @@ BalancedFrom d (t ∷ ts) = Steps d t.kind × BalancedFrom (deepen d t.kind) ts
 
 -- For each depth up to that of the last line, the number of open groups above which the depth stays: the level of a
 -- next line that ends there. A line that goes deeper has the level of the depth before it.
-abbrev pub fresh : List ℕ
-fresh = replicate (max_open + 1) 0
+abbrev pub fresh_levels : List ℕ
+fresh_levels = replicate (max_open + 1) 0
 
 abbrev pub level_at : ℕ → ℕ → List ℕ → ℕ
 level_at before now levels = get_or levels (min before now) 0

@@ -8,10 +8,10 @@ use Rattle.hcl_layout.specs.Lines.{Line, lines}
 use Rattle.hcl_layout.specs.Gaps.{align, plain_gaps, width}
 use Rattle.hcl_layout.specs.Cells.{assign_cell, running_comment, trailing_comment}
 use Rattle.hcl_layout.specs.Print.{printed_text}
-use Rattle.hcl_layout.specs.Inner.Depths.{fresh, level_at, next_levels}
+use Rattle.hcl_layout.specs.Inner.Depths.{fresh_levels, level_at, next_levels}
 use Rattle.hcl_layout.specs.Inner.Left.{gap_before, token_before}
 use Rattle.hcl_layout.specs.Inner.LineGaps.{Cell, LineGaps, gaps_from, gaps_in}
-use Rattle.hcl_layout.specs.Inner.Stream.{assign_column, assign_width, assign_widths, comment_column, comment_widths, comment_stream, next_of, plain}
+use Rattle.hcl_layout.specs.Inner.Stream.{assign_column, assign_width, assign_widths, comment_column, comment_widths, comment_stream, next_of, first_gaps}
 use Rattle.hcl_layout.specs.Inner.Survey.{IsLine, facts_in}
 use Rattle.hcl_layout.specs.Inner.Walks.{IsWalkAt, Walk, comment_widths_at, assign_widths_at}
 use Rattle.hcl_layout.specs.declared.line.Line.{Line as LineRead}
@@ -96,7 +96,7 @@ walk_of s = record { depth = s.depth; levels = s.levels; assigns = column_of s.a
 
 -- no line was passed
 abbrev pub no_lines : Columns → Lines
-no_lines columns = record { next = 0; depth = 0; levels = fresh; assigns = None; comments = None; columns = columns; wrong = false }
+no_lines columns = record { next = 0; depth = 0; levels = fresh_levels; assigns = None; comments = None; columns = columns; wrong = false }
 
 -- the passed lines end before the next token
 pub record IsAt (ts : List Lexeme) (s : Lines) : Type 0 where
@@ -176,7 +176,7 @@ KeepsRuns old new = (new.assigns ≡ old.assigns) × (new.comments ≡ old.comme
 
 -- its gaps with its sign in the column of the run, whatever that is, and then with its comment in the column of its run
 abbrev pub gaps_after_assign : Lines → Lines → Line → List ℕ
-gaps_after_assign old new l = align assign_cell (plain old.depth old.levels l) l (column_of new.assigns)
+gaps_after_assign old new l = align assign_cell (first_gaps old.depth old.levels l) l (column_of new.assigns)
 
 abbrev pub laid_gaps : Lines → Lines → Line → List ℕ
 laid_gaps old new l = align trailing_comment (gaps_after_assign old new l) l (column_of new.comments)

@@ -6,13 +6,13 @@ use Rattle.hcl_layout.specs.declared.buffer.Buffer.{Buffer}
 use Rattle.hcl_layout.specs.declared.buffer.Stretch.{Stretch}
 
 -- the bytes waiting in the buffer
-abbrev pub buffered : Buffer → List ℕ
-buffered b = take b.len b.bytes
+abbrev pub buffered_bytes : Buffer → List ℕ
+buffered_bytes b = take b.len b.bytes
 
 -- a front of the text: a part is in the sink, the rest in the buffer
 pub record Out (base now : Option (List ℕ)) (b : Buffer) (front : List ℕ) : Type 0 where
   pub sent : List ℕ
-  pub whole : front ≡ sent ++ buffered b
+  pub whole : front ≡ sent ++ buffered_bytes b
   pub count : b.sent ≡ length sent
   pub out : Appends base now sent
 
@@ -52,8 +52,8 @@ abbrev pub stretch_len : Stretch → ℕ
 stretch_len s = s.gap + (s.end - s.start)
 
 -- this many bytes went out before, into the sink or into the buffer
-abbrev pub passed : Buffer → ℕ
-passed b = b.sent + b.len
+abbrev pub passed_count : Buffer → ℕ
+passed_count b = b.sent + b.len
 
 -- a block begins as a stretch does
 abbrev pub BeginsWith : List ℕ → Stretch → List ℕ → Type 0

@@ -31,12 +31,12 @@ abbrev pub room_of : ℕ → Line → ℕ
 room_of d l = 2 * d + max (room_before l (assign_cell l)) (room_before l (running_comment l))
 
 -- the room for the cells of the current group
-abbrev pub taken : Extent → ℕ
-taken e = e.cells * e.width
+abbrev pub room_taken : Extent → ℕ
+room_taken e = e.cells * e.width
 
 -- with a line of this many cells, or none, which ends the group
 abbrev pub with_cells : ℕ → ℕ → ℕ → Extent → Extent
-with_cells zero indent room e = record { passed = e.passed + indent + taken e; cells = 0; width = 0 }
+with_cells zero indent room e = record { passed = e.passed + indent + room_taken e; cells = 0; width = 0 }
 with_cells (suc n) indent room e = record { passed = e.passed + indent; cells = e.cells + suc n; width = max e.width room }
 
 -- with a line that begins at a depth

@@ -18,12 +18,12 @@ next_of None (Some width ∷ rest) = Some (widest (Some width ∷ rest))
 next_of (Some column) (Some width ∷ rest) = Some column
 
 -- the first line, by its level and the spacing alone
-abbrev pub plain : ℕ → List ℕ → Line → List ℕ
-plain d levels l = plain_gaps (level_at d (depth_after d l) levels) l
+abbrev pub first_gaps : ℕ → List ℕ → Line → List ℕ
+first_gaps d levels l = plain_gaps (level_at d (depth_after d l) levels) l
 
 abbrev pub level_stream : ℕ → List ℕ → List Line → List (List ℕ)
 level_stream d levels [] = []
-level_stream d levels (l ∷ ls) = plain d levels l ∷ level_stream (depth_after d l) (next_levels d (depth_after d l) levels) ls
+level_stream d levels (l ∷ ls) = first_gaps d levels l ∷ level_stream (depth_after d l) (next_levels d (depth_after d l) levels) ls
 
 abbrev pub assign_widths : ℕ → List ℕ → List Line → List (Option ℕ)
 assign_widths d levels ls = widths assign_cell (level_stream d levels ls) ls
@@ -34,12 +34,12 @@ assign_column d levels column ls = next_of column (assign_widths d levels ls)
 
 -- the first line with its assign cell in that column
 abbrev pub assign_line : ℕ → List ℕ → Option ℕ → Line → List Line → List ℕ
-assign_line d levels column l ls = align assign_cell (plain d levels l) l (assign_column d levels column ls)
+assign_line d levels column l ls = align assign_cell (first_gaps d levels l) l (assign_column d levels column ls)
 
 abbrev pub assign_stream : ℕ → List ℕ → Option ℕ → List Line → List (List ℕ)
 assign_stream d levels column [] = []
 assign_stream d levels column (l ∷ ls) =
-    align assign_cell (plain d levels l) l (assign_column d levels column (l ∷ ls))
+    align assign_cell (first_gaps d levels l) l (assign_column d levels column (l ∷ ls))
     ∷ assign_stream (depth_after d l) (next_levels d (depth_after d l) levels) (assign_column d levels column (l ∷ ls)) ls
 
 abbrev pub comment_widths : ℕ → List ℕ → Option ℕ → List Line → List (Option ℕ)
@@ -51,14 +51,14 @@ comment_column d levels column comment ls = next_of comment (comment_widths d le
 abbrev pub comment_stream : ℕ → List ℕ → Option ℕ → Option ℕ → List Line → List (List ℕ)
 comment_stream d levels column comment [] = []
 comment_stream d levels column comment (l ∷ ls) =
-    align trailing_comment (align assign_cell (plain d levels l) l (assign_column d levels column (l ∷ ls))) l (comment_column d levels column comment (l ∷ ls))
+    align trailing_comment (align assign_cell (first_gaps d levels l) l (assign_column d levels column (l ∷ ls))) l (comment_column d levels column comment (l ∷ ls))
     ∷ comment_stream (depth_after d l) (next_levels d (depth_after d l) levels) (assign_column d levels column (l ∷ ls)) (comment_column d levels column comment (l ∷ ls)) ls
 
 -- ---- the widths of the first line
 
 -- the width before the assign cell, if the line has one
 abbrev pub assign_width : ℕ → List ℕ → Line → Option ℕ
-assign_width d levels l = option_map (λ i. width i (plain d levels l) l) (assign_cell l)
+assign_width d levels l = option_map (λ i. width i (first_gaps d levels l) l) (assign_cell l)
 
 -- the width before the comment, if the line is part of runs of comments
 abbrev pub comment_width : ℕ → List ℕ → Option ℕ → Line → List Line → Option ℕ

@@ -52,8 +52,8 @@ popped_if opener [] = []
 popped_if opener (o ∷ stack) = if same_opener (opener_of o.by) opener then stack else o ∷ stack
 
 -- without the constructs that a token of this kind closes: the token leaves the rest open
-abbrev pub closed : Kind → List Opened → List Opened
-closed kind stack = drop (length stack - length (open_after kind (openers_of stack))) stack
+abbrev pub without_closed : Kind → List Opened → List Opened
+without_closed kind stack = drop (length stack - length (open_after kind (openers_of stack))) stack
 
 -- a `}` closes a sequence inside this opener, given whether it does so around it
 abbrev pub closes_on : Opener → Bool → Bool

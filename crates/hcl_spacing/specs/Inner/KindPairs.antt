@@ -134,5 +134,5 @@ abbrev pub has : ℕ → Kind → Bool
 has kinds kind = bit_at kinds (number kind) == 1
 
 -- the answer of a row for a kind
-abbrev pub told : Row → Kind → Option Bool
-told row r = if has row.asked r then None else Some (has row.blank r)
+abbrev pub row_answer : Row → Kind → Option Bool
+row_answer row r = if has row.asked r then None else Some (has row.blank r)

@@ -6,9 +6,9 @@ use Rattle.hcl_grammar.specs.declared.expected.Newlines.{Newlines}
 use Rattle.hcl_grammar.specs.Classes.{drops, is_trivia}
 
 -- without the newlines at the front, if they are dropped
-abbrev pub shown : Newlines → List Lookahead → List Lookahead
-shown m [] = []
-shown m (t ∷ ts) = if drops m t.class then shown m ts else t ∷ ts
+abbrev pub past_newlines : Newlines → List Lookahead → List Lookahead
+past_newlines m [] = []
+past_newlines m (t ∷ ts) = if drops m t.class then past_newlines m ts else t ∷ ts
 
 abbrev pub first : List Lookahead → Option Lookahead
 first [] = None
@@ -24,5 +24,5 @@ is_shown m c = if is_trivia c then false else (if drops m c then false else true
 
 -- the first token after the dropped newlines, and the rest
 pub record Looks (m : Newlines) (old : List Lookahead) (t : Lookahead) (ts : List Lookahead) : Type 0 where
-  pub is : shown m old ≡ t ∷ ts
+  pub is : past_newlines m old ≡ t ∷ ts
   pub kept : drops m t.class ≡ false

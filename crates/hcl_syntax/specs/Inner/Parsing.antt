@@ -18,7 +18,7 @@ use Rattle.hcl_syntax.specs.declared.expected.Follow.{Follow}
 use Rattle.hcl_syntax.specs.declared.expected.Follow.TheVariants.{Operator, Choice, Other}
 use Rattle.hcl_grammar.specs.declared.refusal.Refusal.{Refusal}
 use Rattle.hcl_grammar.specs.declared.refusal.Refusal.TheVariants.{UnexpectedToken, UnexpectedEnd, TooDeep}
-use Rattle.hcl_syntax.specs.Inner.Cursors.{shown, first, Looks}
+use Rattle.hcl_syntax.specs.Inner.Cursors.{past_newlines, first, Looks}
 use Rattle.hcl_grammar.specs.Grammar.{Marked, Action, ◌at◌, ◌then◌, reads, closes, inside, directive, row_of, the, file, body, eol, expr, fits}
 use Rattle.hcl_grammar.specs.Predictor.{run}
 
@@ -74,7 +74,7 @@ pub record TookTerminal (m : Newlines) (e : Terminal) (old new : List Lookahead)
 
 -- The first token, if there is one, is not the one that the terminal expects.
 pub record LacksTerminal (m : Newlines) (e : Terminal) (old new : List Lookahead) : Type 0 where
-  pub shows : new ≡ shown m old
+  pub shows : new ≡ past_newlines m old
   pub unfit : (t : Lookahead) → Some t ≡ first new → fits e t.class ≡ false
 
 -- a sign before an operand

@@ -14,9 +14,9 @@ abbrev pub declarer_of : found.Declarer → Declarer
 declarer_of d = record { kind = d.kind; labels = d.labels }
 
 -- a list of one declaration or none
-abbrev pub listed : Option Declared → List (Declaration ℕ)
-listed None = []
-listed (Some d) = declaration d ∷ []
+abbrev pub declared_list : Option Declared → List (Declaration ℕ)
+declared_list None = []
+declared_list (Some d) = declaration d ∷ []
 
 abbrev pub blocks_listed : Option VariableBlock → List VariableSpan
 blocks_listed None = []

@@ -7,10 +7,10 @@ use Rattle.tf_facts.specs.declared.seen.Seen.{Seen}
 use Rattle.tf_facts.specs.declared.reference.Reference.{Reference}
 use Rattle.tf_facts.specs.declared.reference.Reference.TheVariants.{Variable, Local, Data}
 
-abbrev pub spelled : Reference → List ℕ
-spelled (Variable n) = variable_reference n.now
-spelled (Local n) = local_reference n.now
-spelled (Data t n) = data_reference t.now n.now
+abbrev pub spelling_of : Reference → List ℕ
+spelling_of (Variable n) = variable_reference n.now
+spelling_of (Local n) = local_reference n.now
+spelling_of (Data t n) = data_reference t.now n.now
 
 -- the tokens from a number on begin with a dot and this identifier
 pub record IsAfter (tokens : List Lexeme) (from : ℕ) (t : Seen) : Type 0 where

@@ -5,7 +5,7 @@ use Rattle.std.specs.Str.{bytes_eq}
 use Rattle.hcl_tokens.specs.Kinds.{is}
 use Rattle.hcl_tokens.specs.declared.token.Kind.TheVariants.{Newline}
 use Rattle.hcl_tokens.specs.Lexemes.{Lexeme}
-use Rattle.hcl_grammar.specs.Numbered.{Numbered, is_comment, numbered}
+use Rattle.hcl_grammar.specs.Numbered.{Numbered, is_comment, number_tokens}
 use Rattle.tf_facts.specs.Declarations.{Attribute, PlainText, has}
 use Rattle.tf_facts.specs.Inner.Seen.{numbered_of}
 use Rattle.tf_facts.specs.declared.value.Body.{Body}
@@ -18,7 +18,7 @@ in_value t = not (is_comment t.kind) && not (is Newline t.kind)
 
 -- the tokens from a number on to before another, without comments and newlines
 abbrev pub values : List Lexeme → ℕ → ℕ → List Numbered
-values tokens from to = filter in_value (take (to - from) (drop from (numbered tokens)))
+values tokens from to = filter in_value (take (to - from) (drop from (number_tokens tokens)))
 
 -- the token is the first of the value's tokens in this range
 pub record IsFirstValue (tokens : List Lexeme) (from to : ℕ) (t : Seen) : Type 0 where
@@ -38,8 +38,8 @@ body_of attributes = record {
 }
 
 -- the body of two lists of attributes, one after the other
-abbrev pub both : Body → Body → Body
-both one other = record {
+abbrev pub append_bodies : Body → Body → Body
+append_bodies one other = record {
   is_described = one.is_described || other.is_described;
   is_typed = one.is_typed || other.is_typed;
   is_versioned = one.is_versioned || other.is_versioned;

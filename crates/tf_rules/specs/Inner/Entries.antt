@@ -23,13 +23,13 @@ use Rattle.tf_rules.specs.declared.entry.Statement.TheVariants.{Fixed, About, De
 use Rattle.tf_facts.specs.References.{last_of}
 
 -- a blank, a quote and a name; the closing quote begins the text after it
-abbrev pub opened : List ℕ → List ℕ → List ℕ
-opened name rest = codes " \"" ++ (name ++ rest)
+abbrev pub open_quote : List ℕ → List ℕ → List ℕ
+open_quote name rest = codes " \"" ++ (name ++ rest)
 
 -- the text of a message
 abbrev pub text_of : Statement → List ℕ
 text_of (Fixed text) = text.now
-text_of (About d rest) = findings.kind_text d.now.kind ++ opened (last_of (stored_names d.now.names)) rest.now
+text_of (About d rest) = findings.kind_text d.now.kind ++ open_quote (last_of (stored_names d.now.names)) rest.now
 text_of (DefaultBranch d branch) = findings.about (stored_declaration d.now) (codes " source uses a default branch: " ++ branch.now)
 text_of (Misnamed d naming) = findings.kind_text d.now.kind ++ (codes " name" ++ findings.quoting (last_of (stored_names d.now.names)) (codes " must match " ++ naming_text naming))
 text_of (Unused d) = findings.kind_text d.now.kind ++ findings.both_quoted (stored_names d.now.names) (codes " is declared but not used")

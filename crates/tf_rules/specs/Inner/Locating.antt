@@ -21,8 +21,8 @@ abbrev pub reached_after : List Lexeme → ℕ → List ℕ → ℕ
 reached_after tokens reached [] = reached
 reached_after tokens reached (n ∷ ns) = reached_after tokens (start_of tokens n) ns
 
-abbrev pub advanced : Locating → List ℕ → Locating
-advanced p numbers = record { file = p.file; reached = reached_after p.file.source.tokens p.reached numbers }
+abbrev pub advance : Locating → List ℕ → Locating
+advance p numbers = record { file = p.file; reached = reached_after p.file.source.tokens p.reached numbers }
 
 -- the walk can reach these tokens
 abbrev pub CanAdvance : Locating → List ℕ → Type 0

@@ -10,7 +10,7 @@ use Rattle.hcl_source.specs.declared.fault.LoadError.TheVariants as error
 use Rattle.hcl_tokens.specs.Scanned.{Scanned}
 use Rattle.source_snippet.specs.Snippets.{snippet_if}
 use Rattle.tf_rules.specs.Issues.{File}
-use Rattle.tf_rules.specs.Stored.{nothing, with_file}
+use Rattle.tf_rules.specs.Stored.{no_facts, with_file}
 use Rattle.tfrules_command.specs.Files.{max_module, numbered_files}
 use Rattle.tfrules_command.specs.Keeping.{Added, KeepsTokens, Reached, ScansFile}
 use Rattle.tfrules_command.specs.declared.gather.ScannedFile.{ScannedFile}
@@ -51,7 +51,7 @@ ReadsFile told was is (Err (stop.Failed fault)) = StopsBy false told 0 was is (s
 
 -- nothing is kept yet
 pub record IsEmpty (all : Gathered) : Type 0 where
-  pub facts : all.facts ≡ nothing
+  pub facts : all.facts ≡ no_facts
   pub comments : all.comments.items ≡ []
   pub texts : all.texts.items ≡ []
 

@@ -42,5 +42,5 @@ abbrev pub comment_refusal : Name → List ℕ → found.CommentFault → List �
 comment_refusal name snippet f = refusal_line (record { name = name; at = Some (fault_view f).at; text = (fault_view f).text; snippet = snippet })
 
 -- the end of a run over a refused module
-abbrev pub refused : Ended
-refused = record { status = 1; issues = 0; is_shown = false }
+abbrev pub refused_end : Ended
+refused_end = record { status = 1; issues = 0; is_shown = false }

@@ -1,6 +1,6 @@
 use Rattle.std.proofs.Common.{◌≡◌, ◌∙◌, ◌+◌, [], arith, ap, drop}
 use Rattle.std.proofs.Math.ListN.{drop_of_length-le}
-use Rattle.hcl_layout.specs.Inner.Rooms.{no_extent, taken, with_lines}
+use Rattle.hcl_layout.specs.Inner.Rooms.{no_extent, room_taken, with_lines}
 use Rattle.hcl_layout.specs.Lines.{lines}
 use Rattle.hcl_layout.specs.declared.bound.Extent.{Extent}
 use Rattle.hcl_layout.proofs.BoundLemmas.{print_within}
@@ -15,6 +15,6 @@ returns c =
     omega (
       arith,
       print_within ts c.requires.balanced c.len-count.ensures.bounded.apart,
-      ap (λ (e : Extent). e.passed + taken e) all,
+      ap (λ (e : Extent). e.passed + room_taken e) all,
       c.len_bound.ensures.bound,
     )

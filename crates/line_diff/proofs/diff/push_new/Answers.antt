@@ -6,4 +6,4 @@ use Rattle.line_diff.proofs.diff.push_new.Goals as goal
 pub loop-number-preserved : goal.loop-number-preserved
 loop-number-preserved c =
     each_goes (λ k. signed_line (codes "+") (line_at c.args.lines.now.new k)) _ c.loop-number.to.items c.push_line.new.to.items c.loop-number.number c.args.end c.loop-number-test.true c.loop-number.invariant
-    (c.in_ok-push_line.ensures ∙ ap (λ l. c.loop-number.to.items ++ signed_line (codes "+") l) c.new_at.ensures)
+    (c.in_ok-push_line.ensures ∙ ap (λ l. c.loop-number.to.items ++ signed_line (codes "+") l) c.new_line.ensures)

@@ -5,14 +5,14 @@ use Rattle.std.proofs.lemmas.List.{length_push, take_all, take_more}
 use Rattle.std.proofs.lemmas.List.Sums.{fold-append}
 use Rattle.std.proofs.lemmas.Iterator.Consumers.{YieldsList-at, YieldsList-end, YieldsList-turn}
 use Rattle.std.proofs.lemmas.Iterator.Splits.{YieldsList-from_str_split}
-use Rattle.lint_config.specs.Lines.{nothing}
+use Rattle.lint_config.specs.Lines.{no_options}
 use Rattle.lint_config.specs.Reads.{Read, read_line}
 use Rattle.lint_config.proofs.text.config_in.Goals as goal
 
 pub loop-line-preserved : goal.loop-line-preserved
 loop-line-preserved c =
     let all : List (List ℕ) = slice_split (λ b. b == 10) c.args.text.now in
-    let none : Read = record { said = nothing; lines = 0; faults = [] } in
+    let none : Read = record { said = no_options; lines = 0; faults = [] } in
     let t = YieldsList-turn (YieldsList-at c.into_iter-line-iterator.ensures.into_iter_gives
     (YieldsList-from_str_split 10 c.args.text.now (lit< tt) c.split-line-items.ensures.text c.split-line-items.ensures.has_more c.split-line-items.ensures.pattern))
     c.loop-line.yielded _ c.loop-line.yielded_by _ _ c.in-Some.line c.in-Some.is c.next.ensures.steps in
@@ -24,7 +24,7 @@ loop-line-preserved c =
 
 pub returns : goal.returns
 returns c =
-    let none : Read = record { said = nothing; lines = 0; faults = [] } in
+    let none : Read = record { said = no_options; lines = 0; faults = [] } in
     let t = YieldsList-end (YieldsList-at c.into_iter-line-iterator.ensures.into_iter_gives
     (YieldsList-from_str_split 10 c.args.text.now (lit< tt) c.split-line-items.ensures.text c.split-line-items.ensures.has_more c.split-line-items.ensures.pattern))
     c.loop-line.yielded _ c.loop-line.yielded_by _ _ c.in-None.is c.next.ensures.steps in

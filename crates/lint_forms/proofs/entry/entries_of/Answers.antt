@@ -1,5 +1,5 @@
 use Rattle.std.proofs.Common.{ap, map, refl}
-use Rattle.lint_forms.specs.Inner.Numbering.{came}
+use Rattle.lint_forms.specs.Inner.Numbering.{times_seen}
 use Rattle.lint_forms.specs.Inner.Shapes.{entry_by}
 use Rattle.lint_forms.specs.Remarks.{said_by}
 use Rattle.lint_forms.proofs.NumberingLemmas.{one_more_at}
@@ -10,5 +10,5 @@ loop-remark-init c = record { all = ap (map entry_by) c.new-all.ensures.items; c
 
 pub loop-remark-preserved : goal.loop-remark-preserved
 loop-remark-preserved c =
-    one_more_at said_by _ _ (λ q. came c.loop-remark.times q) (λ q. came c.add.new.times q) c.args.remarks.now c.loop-remark.remark-index _
+    one_more_at said_by _ _ (λ q. times_seen c.loop-remark.times q) (λ q. times_seen c.add.new.times q) c.args.remarks.now c.loop-remark.remark-index _
     c.loop-remark-test.true c.loop-remark.invariant c.in_ok-add.ensures.added c.in_ok-add.ensures.counted

@@ -1,6 +1,6 @@
 use Rattle.std.proofs.Common.{◌∙◌, ap, sym, List, ◌∷◌, ◌+◌, drop}
 use Rattle.std.specs.Prelude.{slice_get}
-use Rattle.hcl_grammar.specs.Numbered.{numbered}
+use Rattle.hcl_grammar.specs.Numbered.{number_tokens}
 use Rattle.hcl_grammar.specs.declared.item.Item.{Item}
 use Rattle.hcl_grammar.specs.declared.item.Item.TheVariants as item
 use Rattle.tf_facts.specs.Declarations.{labels_in}
@@ -13,13 +13,13 @@ label_text-requires c =
 
 pub returns-in-Label : goal.returns-in-Label
 returns-in-Label c =
-    labels_here (numbered c.args.accepted.now.tokens) c.args.items.now c.args.number (item.Label c.in-Label.label) c.in-Label.ensures
-    ∙ ap (λ text. text ∷ labels_in (numbered c.args.accepted.now.tokens) (drop (c.args.number + 1) c.args.items.now)) (sym c.label_text.ensures)
+    labels_here (number_tokens c.args.accepted.now.tokens) c.args.items.now c.args.number (item.Label c.in-Label.label) c.in-Label.ensures
+    ∙ ap (λ text. text ∷ labels_in (number_tokens c.args.accepted.now.tokens) (drop (c.args.number + 1) c.args.items.now)) (sym c.label_text.ensures)
 
 pub returns-in-Attribute : goal.returns-in-Attribute
 returns-in-Attribute c =
-    labels_here (numbered c.args.accepted.now.tokens) c.args.items.now c.args.number (item.Attribute c.in-Attribute.level c.in-Attribute.name c.in-Attribute.first c.in-Attribute.end) c.in-Attribute.ensures
+    labels_here (number_tokens c.args.accepted.now.tokens) c.args.items.now c.args.number (item.Attribute c.in-Attribute.level c.in-Attribute.name c.in-Attribute.first c.in-Attribute.end) c.in-Attribute.ensures
 
 pub returns-in-Block : goal.returns-in-Block
 returns-in-Block c =
-    labels_here (numbered c.args.accepted.now.tokens) c.args.items.now c.args.number (item.Block c.in-Block.level c.in-Block.kind c.in-Block.end) c.in-Block.ensures
+    labels_here (number_tokens c.args.accepted.now.tokens) c.args.items.now c.args.number (item.Block c.in-Block.level c.in-Block.kind c.in-Block.end) c.in-Block.ensures

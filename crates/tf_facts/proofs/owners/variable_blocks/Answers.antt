@@ -1,5 +1,5 @@
 use Rattle.std.proofs.Common.{◌∙◌, ap, sym, subst, List, arith}
-use Rattle.hcl_grammar.specs.Numbered.{numbered}
+use Rattle.hcl_grammar.specs.Numbered.{number_tokens}
 use Rattle.tf_facts.specs.VariableBlocks.{Apart}
 use Rattle.tf_facts.specs.References.{VariableSpan, variable_blocks_of_items}
 use Rattle.tf_facts.specs.Inner.FoundViews.{blocks_listed}
@@ -9,17 +9,17 @@ use Rattle.tf_facts.proofs.owners.variable_blocks.Goals as goal
 
 pub loop-number-preserved-in_default : goal.loop-number-preserved-in_default
 loop-number-preserved-in_default c =
-    owners_past (numbered c.args.accepted.now.tokens) c.args.items.now c.loop-number.found.items c.loop-number.number (omega (arith, c.loop-number-test.true, c.len-number-end.ensures))
+    owners_past (number_tokens c.args.accepted.now.tokens) c.args.items.now c.loop-number.found.items c.loop-number.number (omega (arith, c.loop-number-test.true, c.len-number-end.ensures))
     (λ i e. ap blocks_listed (sym c.in_default.is) ∙ c.variable_block_at.ensures i e) c.loop-number.invariant
 
 pub loop-number-preserved : goal.loop-number-preserved
 loop-number-preserved c =
-    owners_more (numbered c.args.accepted.now.tokens) c.args.items.now c.loop-number.found.items c.loop-number.number c.push.new.self.items c.in-Some.block (omega (arith, c.loop-number-test.true, c.len-number-end.ensures))
+    owners_more (number_tokens c.args.accepted.now.tokens) c.args.items.now c.loop-number.found.items c.loop-number.number c.push.new.self.items c.in-Some.block (omega (arith, c.loop-number-test.true, c.len-number-end.ensures))
     c.in_ok-push.ensures.items (λ i e. ap blocks_listed (sym c.in-Some.is) ∙ c.variable_block_at.ensures i e) c.loop-number.invariant
 
 pub returns-clause-apart : goal.returns-clause-apart
 returns-clause-apart c =
     subst (λ (own : List VariableSpan). Apart 0 own)
-    (sym (owners_end (numbered c.args.accepted.now.tokens) c.args.items.now c.loop-number.found.items c.loop-number.number (omega (arith, c.loop-number-test.false, c.len-number-end.ensures)) c.loop-number.invariant
-    ∙ ap (variable_blocks_of_items (numbered c.args.accepted.now.tokens)) c.requires))
+    (sym (owners_end (number_tokens c.args.accepted.now.tokens) c.args.items.now c.loop-number.found.items c.loop-number.number (omega (arith, c.loop-number-test.false, c.len-number-end.ensures)) c.loop-number.invariant
+    ∙ ap (variable_blocks_of_items (number_tokens c.args.accepted.now.tokens)) c.requires))
     (variable_blocks_apart c.args.accepted.now.tokens)

@@ -6,6 +6,6 @@ use Rattle.tf_rules.proofs.message_text.message_text.Goals as goal
 
 pub returns : goal.returns
 returns c =
-    IfOk-weaker c.joined.result (λ t. string_bytes t ≡ c.args.parts.front.now ++ (c.args.parts.name.now ++ (c.args.parts.between.now ++ (c.args.parts.other.now ++ (c.args.parts.rest.now ++ [])))))
+    IfOk-weaker c.join_texts.result (λ t. string_bytes t ≡ c.args.parts.front.now ++ (c.args.parts.name.now ++ (c.args.parts.between.now ++ (c.args.parts.other.now ++ (c.args.parts.rest.now ++ [])))))
     (λ t. string_bytes t ≡ c.args.parts.front.now ++ (c.args.parts.name.now ++ (c.args.parts.between.now ++ (c.args.parts.other.now ++ c.args.parts.rest.now))))
-    (λ t e. e ∙ ap (λ r. c.args.parts.front.now ++ (c.args.parts.name.now ++ (c.args.parts.between.now ++ (c.args.parts.other.now ++ r)))) (append-nil c.args.parts.rest.now)) c.joined.ensures
+    (λ t e. e ∙ ap (λ r. c.args.parts.front.now ++ (c.args.parts.name.now ++ (c.args.parts.between.now ++ (c.args.parts.other.now ++ r)))) (append-nil c.args.parts.rest.now)) c.join_texts.ensures

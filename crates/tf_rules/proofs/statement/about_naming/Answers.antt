@@ -7,5 +7,5 @@ use Rattle.tf_rules.proofs.statement.about_naming.Goals as goal
 
 pub returns : goal.returns
 returns c =
-    told_by_name _ _ (codes " name \"") _ _ c.after_misnamed-rest.result.now c.before_misnamed-front.ensures c.last-name.ensures
+    told_by_name _ _ (codes " name \"") _ _ c.after_misnamed-rest.result.now c.before_misnamed-front.ensures c.last_label-name.ensures
     ∙ ap (λ r. kind_text c.args.declaration.now.kind ++ (codes " name \"" ++ (last_of (stored_names c.args.declaration.now.names) ++ r))) c.after_misnamed-rest.ensures

@@ -26,7 +26,7 @@ returns-in-Ok-issue_list-clause-shows g c =
     let found = c.in-Ok-issue_list.ensures (numbered_files 0 reached.sources) reached.kept_is (rising 0 reached.sources) in
     shows_as _ _ _ _ _ _ _ _ _
     (for_found (g.T.Tree.files c.args.files.now.tree) c.args.task.manner.terminals c.args.task.policy c.args.one.now _ _ c.requires.readable gathered.0 _ (ap (map string_bytes) c.as_slice.ensures.value) _
-    (have_found _ c.args.task.policy _ _ _ _ _ _ _ _ c.new-all.ensures.checks c.new-all.ensures.terminals gathered.1.1 c.linted-linted.ensures found))
+    (have_found _ c.args.task.policy _ _ _ _ _ _ _ _ c.new-all.ensures.checks c.new-all.ensures.terminals gathered.1.1 c.as_linted-linted.ensures found))
     c.show.ensures
 
 pub returns-clause-shows : goal.returns-clause-shows

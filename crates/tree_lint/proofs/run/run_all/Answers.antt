@@ -40,7 +40,7 @@ returns-then-has_failed-clause-ran g c =
     (writer g.O.ByteSink c.loop-one.streams.out c.lint_one-ended.new.streams.out) (writer g.E.ByteSink c.loop-one.streams.err c.lint_one-ended.new.streams.err) c.loop-one.kept c.lint_one-ended.new.kept c.lint_one-ended.result)
     c.loop-one.invariant.3 c.lint_one-ended.ensures.shows in
     run_cut first c.args.manner [] (take c.loop-one.one-index c.args.modules.now) c.one-item.result _ _ _ _ _ c.loop-one.has_output c.loop-one.status c.loop-one.counts c.loop-one.kept _ _ _ c.lint_one-ended.result c.loop-one.invariant.5 shows c.args.modules.now
-    (drop (c.loop-one.one-index + 1) c.args.modules.now) _ _ _ _ (split_here c.args.modules.now c.loop-one.one-index c.one-item.result c.loop-one-test.true c.one-item.is) (sym c.has_failed.ensures ∙ c.if-has_failed.true) c.cut.ensures
+    (drop (c.loop-one.one-index + 1) c.args.modules.now) _ _ _ _ (split_here c.args.modules.now c.loop-one.one-index c.one-item.result c.loop-one-test.true c.one-item.is) (sym c.has_failed.ensures ∙ c.if-has_failed.true) c.with_failed_write.ensures
 
 pub returns-clause-ran : goal.returns-clause-ran
 returns-clause-ran g c =

@@ -6,7 +6,7 @@ use Rattle.tree_lint.proofs.run.run_over.Goals as goal
 pub returns-in-Err-clause-ran : goal.returns-in-Err-clause-ran
 returns-in-Err-clause-ran g c =
     none_run (g.T.Tree.files c.args.files.now.tree) c.args.written.manner c.args.written.head.now c.args.modules.now _ _ _ _ _
-    (took_less _ _ _ c.args.written.head.now c.in-Err._fault.written c.in-Err.ensures.failed c.in-Err.ensures.written c.in-Err.ensures.err) c.in-Err.ensures.failed c.requires.err refl c.cut.ensures
+    (took_less _ _ _ c.args.written.head.now c.in-Err._fault.written c.in-Err.ensures.failed c.in-Err.ensures.written c.in-Err.ensures.err) c.in-Err.ensures.failed c.requires.err refl c.with_failed_write.ensures
 
 pub returns-clause-ran : goal.returns-clause-ran
 returns-clause-ran g c =

@@ -9,7 +9,7 @@ comment_width-requires-clause-order c =
     let r = c.line_at-line.result in
     let d = c.loop-ahead.ahead.depth in
     let p = subst (λ k. IsLine ts k d (facts_in r)) (sym c.line_at-line.ensures.first) c.line_at-line.ensures.line in
-    omega (arith, c.pass_assign-laid.ensures.spans.0, comment_follows ts d r p c.in-Some.number (running_some r.runs r.comment c.in-Some.number (sym c.running.ensures ∙ c.in-Some.is)))
+    omega (arith, c.pass_assign-laid.ensures.spans.0, comment_follows ts d r p c.in-Some.number (running_some r.runs r.comment c.in-Some.number (sym c.run_comment.ensures ∙ c.in-Some.is)))
 
 pub comment_width-requires-clause-within : goal.comment_width-requires-clause-within
 comment_width-requires-clause-within c =
@@ -17,4 +17,4 @@ comment_width-requires-clause-within c =
     let r = c.line_at-line.result in
     let d = c.loop-ahead.ahead.depth in
     let p = subst (λ k. IsLine ts k d (facts_in r)) (sym c.line_at-line.ensures.first) c.line_at-line.ensures.line in
-    omega (arith, c.pass_assign-laid.ensures.spans.1, comment_in ts d r p c.in-Some.number (running_some r.runs r.comment c.in-Some.number (sym c.running.ensures ∙ c.in-Some.is)))
+    omega (arith, c.pass_assign-laid.ensures.spans.1, comment_in ts d r p c.in-Some.number (running_some r.runs r.comment c.in-Some.number (sym c.run_comment.ensures ∙ c.in-Some.is)))

@@ -5,7 +5,7 @@ use Rattle.hcl_layout.specs.Gaps.{align, plain_gaps, width}
 use Rattle.hcl_layout.specs.Inner.Depths.{level_at}
 use Rattle.hcl_layout.specs.Inner.Laid.{Laid, column_of, shape, gaps_after_assign, text_of}
 use Rattle.hcl_layout.specs.Inner.LineGaps.{HasAssignSet, gaps_in}
-use Rattle.hcl_layout.specs.Inner.Stream.{plain}
+use Rattle.hcl_layout.specs.Inner.Stream.{first_gaps}
 use Rattle.hcl_layout.specs.Inner.Survey.{IsLine, facts_in}
 use Rattle.hcl_layout.specs.declared.lines.LaidLine.{LaidLine}
 use Rattle.hcl_layout.proofs.PassLemmas.{bare_gaps, set_gaps, set_laid, set_signed, text_in, with_sign_at}
@@ -102,6 +102,6 @@ returns-clause-gaps c =
     let column = c.assign_cell_column-column.result in
     let gap : ℕ = column - w + 1 in
     let own = c.assign_cell_width-width.ensures.value ∙ ap (λ (b : LaidLine). width (n - b.first) (plain_gaps b.level (text_of ts b)) (text_of ts b)) laid in
-    subst (λ (x : LaidLine). gaps_in (shape x) (text_of ts x) ≡ align assign_cell (plain s.depth s.levels (text_of ts x)) (text_of ts x) (Some c.run_with.result.column)) (sym (c.with_assign.ensures ∙ ap (λ (b : LaidLine). with_sign_at b n w gap) laid))
+    subst (λ (x : LaidLine). gaps_in (shape x) (text_of ts x) ≡ align assign_cell (first_gaps s.depth s.levels (text_of ts x)) (text_of ts x) (Some c.run_with.result.column)) (sym (c.with_assign.ensures ∙ ap (λ (b : LaidLine). with_sign_at b n w gap) laid))
     (set_gaps ts s.depth r p s.levels level low refl n w gap c.in-Some.is own column refl
-    ∙ ap (λ (k : ℕ). align assign_cell (plain s.depth s.levels (text_in ts r)) (text_in ts r) (Some k)) (sym c.run_with.ensures.column))
+    ∙ ap (λ (k : ℕ). align assign_cell (first_gaps s.depth s.levels (text_in ts r)) (text_in ts r) (Some k)) (sym c.run_with.ensures.column))

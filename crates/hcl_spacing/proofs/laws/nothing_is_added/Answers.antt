@@ -3,7 +3,7 @@ use Rattle.hcl_tokens.proofs.BooleanLemmas.{or_true}
 use Rattle.hcl_tokens.specs.Kinds.{is}
 use Rattle.hcl_tokens.specs.declared.token.Kind.TheVariants as kind
 use Rattle.hcl_spacing.proofs.SpacingLemmas.{row_one, template_touches}
-use Rattle.hcl_spacing.proofs.laws.kept.Goals as goal
+use Rattle.hcl_spacing.proofs.laws.nothing_is_added.Goals as goal
 
 pub returns-clause-newline : goal.returns-clause-newline
 returns-clause-newline c before u t h = row_one before u t (ap (λ v. v || t.inside_heredoc) h)

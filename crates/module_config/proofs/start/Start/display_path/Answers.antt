@@ -1,6 +1,6 @@
 use Rattle.std.proofs.Common.{◌∙◌, ap, length, sym}
 use Rattle.module_config.proofs.LookLemmas.{shown_rest, shown_whole}
-use Rattle.module_config.proofs.start.Start.shown.Goals as goal
+use Rattle.module_config.proofs.start.Start.display_path.Goals as goal
 
 pub returns-then-not-starts_with : goal.returns-then-not-starts_with
 returns-then-not-starts_with c =

@@ -1,7 +1,7 @@
 use Rattle.std.proofs.Common.{◌∙◌}
 use Rattle.file_tree.proofs.HearLemmas.{real_taken}
 use Rattle.file_tree.proofs.TreeWalkLemmas.{walked_more}
-use Rattle.file_tree.proofs.walk.Walk.over.Goals as goal
+use Rattle.file_tree.proofs.walk.Walk.from_names.Goals as goal
 
 pub loop-path-preserved : goal.loop-path-preserved
 loop-path-preserved g c = (

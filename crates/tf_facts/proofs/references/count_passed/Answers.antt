@@ -1,7 +1,7 @@
 use Rattle.std.proofs.Common.{arith}
 use Rattle.std.proofs.lemmas.Option.{slice_get_within}
 use Rattle.tf_facts.proofs.OwnLemmas.{one_more_passed}
-use Rattle.tf_facts.proofs.references.passed.Goals as goal
+use Rattle.tf_facts.proofs.references.count_passed.Goals as goal
 
 pub loop-next-preserved : goal.loop-next-preserved
 loop-next-preserved c = record {

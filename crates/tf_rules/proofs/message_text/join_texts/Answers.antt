@@ -1,6 +1,6 @@
 use Rattle.std.specs.String.{string_bytes}
 use Rattle.tf_rules.proofs.StatementLemmas.{text_more}
-use Rattle.tf_rules.proofs.message_text.joined.Goals as goal
+use Rattle.tf_rules.proofs.message_text.join_texts.Goals as goal
 
 pub loop-text-preserved : goal.loop-text-preserved
 loop-text-preserved c =

@@ -1,6 +1,6 @@
 use Rattle.std.proofs.Common.{arith, w64}
 use Rattle.std.proofs.lemmas.Nat.Bits.{bit_at-trailing_zeros}
-use Rattle.hcl_scan.proofs.lanes.lowest.Goals as goal
+use Rattle.hcl_scan.proofs.lanes.lowest_bit.Goals as goal
 
 pub returns : goal.returns
 returns c =

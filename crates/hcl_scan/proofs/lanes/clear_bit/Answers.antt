@@ -4,7 +4,7 @@ use Rattle.std.proofs.lemmas.Nat.Bits.{bit_at_clear_other, bit_at_and, and_pow}
 use Rattle.std.proofs.lemmas.Nat.{and-not, and_comm}
 use Rattle.std.proofs.Common.{pow_pos, pow_mono}
 use Rattle.std.proofs.Math.Nat.{two-pow-succ}
-use Rattle.hcl_scan.proofs.lanes.without.Goals as goal
+use Rattle.hcl_scan.proofs.lanes.clear_bit.Goals as goal
 
 pub returns-clause-kept : goal.returns-clause-kept
 returns-clause-kept c k l apart = bit_at_clear_other w64 c.args.mask c.args.bit c.requires.bound k l apart

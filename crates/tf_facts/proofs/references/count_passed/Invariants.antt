@@ -1,6 +1,6 @@
 use Rattle.std.proofs.Common.{map, ◌-◌, ◌≤◌, length}
 use Rattle.tf_facts.specs.VariableBlocks.{block_view, ArePassed}
-use Rattle.tf_facts.proofs.references.passed.Given as goal
+use Rattle.tf_facts.proofs.references.count_passed.Given as goal
 
 abbrev pub invariant-loop-next : goal.invariant-loop-next
 invariant-loop-next l = record { passed : ArePassed (map block_view l.blocks) l.next l.number; within : l.next ≤ length l.blocks }

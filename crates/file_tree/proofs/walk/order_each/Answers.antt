@@ -1,7 +1,7 @@
 use Rattle.std.proofs.Common.{◌++◌, ◌∷◌, [], refl, subst, sym}
 use Rattle.file_tree.specs.Inner.Searching.{AreOrdered}
 use Rattle.file_tree.proofs.SearchLemmas.{ordered_more}
-use Rattle.file_tree.proofs.walk.ordered.Goals as goal
+use Rattle.file_tree.proofs.walk.order_each.Goals as goal
 
 pub loop-one-preserved : goal.loop-one-preserved
 loop-one-preserved c =
