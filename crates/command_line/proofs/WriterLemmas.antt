@@ -69,6 +69,6 @@ goes_all start now f rest whole good none go =
     go now f (subst (λ v. TookBy v now now rest) (sym good) (subst (Appends now now) (sym none) (appends_nothing now)))
 
 -- the texts of a part and of those after it
-pub piece_here : (xs : List (Bor (List ℕ))) (i : ℕ) (d : Bor (List ℕ)) (text : List ℕ) → i < length xs → text ≡ (get_or xs i d).now → concat (map (λ piece. piece.now) (drop i xs)) ≡ text ++ concat (map (λ piece. piece.now) (drop (i + 1) xs))
-piece_here xs i d text lt is =
-    ap (λ l. concat (map (λ piece. piece.now) l)) (from_here xs i (get_or xs i d) lt (get_or_default xs i d (get_or xs i d) lt)) ∙ ap (λ t. t ++ concat (map (λ piece. piece.now) (drop (i + 1) xs))) (sym is)
+pub part_here : (xs : List (Bor (List ℕ))) (i : ℕ) (d : Bor (List ℕ)) (text : List ℕ) → i < length xs → text ≡ (get_or xs i d).now → concat (map (λ part. part.now) (drop i xs)) ≡ text ++ concat (map (λ part. part.now) (drop (i + 1) xs))
+part_here xs i d text lt is =
+    ap (λ l. concat (map (λ part. part.now) l)) (from_here xs i (get_or xs i d) lt (get_or_default xs i d (get_or xs i d) lt)) ∙ ap (λ t. t ++ concat (map (λ part. part.now) (drop (i + 1) xs))) (sym is)

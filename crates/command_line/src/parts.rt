@@ -10,11 +10,11 @@ use hcl_source::{ByteSink, Failed, write_fully};
 pub fn write_parts<S: ByteSink>(sink: &mut S, parts: &[&[u8]]) -> Result<(), Failed>
     requires { S.failed sink.old ≡ false }
     ensures took { Took (writer S.ByteSink sink.old sink.new)
-        (concat (map (λ piece. piece.now) parts.now)) }
+        (concat (map (λ part. part.now) parts.now)) }
     ensures failed { S.failed sink.new ≡ is_err result }
 {
-    for piece in parts {
-        if let Err(_fault) = write_fully(sink, piece) {
+    for part in parts {
+        if let Err(_fault) = write_fully(sink, part) {
             return Err(Failed);
         }
     }

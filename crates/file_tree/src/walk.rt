@@ -72,7 +72,7 @@ struct Search {
 
 /// What stands in a folder under a name.
 #[derive(Drop)]
-struct Entry<'n> {
+struct FolderEntry<'n> {
     /// Its name in the folder.
     name: &'n [u8],
     path: Vec<u8>,
@@ -199,7 +199,7 @@ impl Walk {
         alloc: Global,
         specials: bool,
         kind: Kind,
-        met: Entry<'_>,
+        met: FolderEntry<'_>,
         tree: &mut T,
     ) -> Result<(), AllocError>
         ensures unchanged { Unchanged T.Tree tree.old tree.new }
@@ -208,7 +208,7 @@ impl Walk {
         ensures hears { OnOk result (Hears (walk_view self.old).found (walk_view self.new).found
             (T.faults tree.old) (T.faults tree.new)) }
     {
-        let Entry { name, path } = met;
+        let FolderEntry { name, path } = met;
         match kind {
             Kind::Folder => {
                 let folder = join(alloc, path.as_slice(), b"/")?;
@@ -226,7 +226,7 @@ impl Walk {
         &mut self,
         alloc: Global,
         specials: bool,
-        met: Entry<'_>,
+        met: FolderEntry<'_>,
         tree: &mut T,
     ) -> Result<(), AllocError>
         ensures unchanged { Unchanged T.Tree tree.old tree.new }
@@ -264,7 +264,7 @@ impl Walk {
         if chooser.is_excluded(path.as_slice()) {
             return Ok(());
         }
-        self.take_met(alloc, chooser.takes_specials(), Entry { name, path }, tree)
+        self.take_met(alloc, chooser.takes_specials(), FolderEntry { name, path }, tree)
     }
 
     /// Looks at the entries of a folder under these names.

@@ -90,9 +90,9 @@ all_from : (from later to : ℕ) (ps : List (List Numbered)) → from ≤ later 
 all_from from later to [] h r = omega (arith, h, r)
 all_from from later to (p ∷ ps) h r = (r.0, rises_from from later r.0 p h r.1, r.2)
 
-pub pieces_rise : (depth from to : ℕ) (ts : List Numbered) → Rises from ts to → AllRise from (segments depth ts) to
-pieces_rise depth from to [] h = (to, h, omega arith)
-pieces_rise depth from to (t ∷ ts) h = by (is Newline t.kind && is_closed depth) (pieces_rise (deepen depth t.kind) (t.number + 1) to ts h.1)
+pub segments_rise : (depth from to : ℕ) (ts : List Numbered) → Rises from ts to → AllRise from (segments depth ts) to
+segments_rise depth from to [] h = (to, h, omega arith)
+segments_rise depth from to (t ∷ ts) h = by (is Newline t.kind && is_closed depth) (segments_rise (deepen depth t.kind) (t.number + 1) to ts h.1)
   where
     by : (b : Bool) → AllRise (t.number + 1) (segments (deepen depth t.kind) ts) to → AllRise from (cond b ([] ∷ segments (deepen depth t.kind) ts) (onto t (segments (deepen depth t.kind) ts))) to
     by true r = (from, omega arith, all_from from (t.number + 1) to (segments (deepen depth t.kind) ts) (omega (arith, h.0)) r)
@@ -137,7 +137,7 @@ module _ (inner : List Numbered → List Item) (climb : Climbing inner) (level :
         climbs_both (kind.number + 1) l.0 to (labels rest) (inner (body rest)) l.1 (climb l.0 to (body rest) (rises_filter (λ t. nat_lt (t.number + 1) (block_end rest)) l.0 to (after_brace rest) l.2)),
       )
 
-  item_climbs : (from to : ℕ) (piece : List Numbered) → Rises from piece to → Climbs from (item_of inner level piece) to
+  item_climbs : (from to : ℕ) (segment : List Numbered) → Rises from segment to → Climbs from (item_of inner level segment) to
   item_climbs from to [] h = h
   item_climbs from to (kind ∷ []) h = block_climbs from to kind [] h.0 h.1
   item_climbs from to (name ∷ second ∷ rest) h = by (is Assign second.kind)
@@ -154,7 +154,7 @@ module _ (inner : List Numbered → List Item) (climb : Climbing inner) (level :
 
 pub items_climb : (n level : ℕ) → Climbing (items n level)
 items_climb zero level from to ts h = rises_wide from to ts h
-items_climb (suc n) level from to ts h = all_climb (items n (level + 1)) (items_climb n (level + 1)) level from to (segments 0 ts) (pieces_rise 0 from to ts h)
+items_climb (suc n) level from to ts h = all_climb (items n (level + 1)) (items_climb n (level + 1)) level from to (segments 0 ts) (segments_rise 0 from to ts h)
 
 -- THE LAW
 pub outline_climbs : (tokens : List Lexeme) → Climbs 0 (outline tokens) (length tokens)

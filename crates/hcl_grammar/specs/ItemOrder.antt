@@ -30,8 +30,8 @@ Climbs from (i ∷ is) to = Spans from i to × Climbs (past i) is to
 
 -- each top-level block begins after the end of the one before; the first begins at `from` or later, and all end at `to`
 -- or before
-abbrev pub TopsApart : ℕ → List Item → ℕ → Type 0
-TopsApart from [] to = from ≤ to
-TopsApart from (item.Block level kind end ∷ is) to = MatchBool (is_closed level)
-    ((from ≤ kind) × TopsApart (max kind end) is to) (TopsApart from is to)
-TopsApart from (_ ∷ is) to = TopsApart from is to
+abbrev pub TopsDisjoint : ℕ → List Item → ℕ → Type 0
+TopsDisjoint from [] to = from ≤ to
+TopsDisjoint from (item.Block level kind end ∷ is) to = MatchBool (is_closed level)
+    ((from ≤ kind) × TopsDisjoint (max kind end) is to) (TopsDisjoint from is to)
+TopsDisjoint from (_ ∷ is) to = TopsDisjoint from is to

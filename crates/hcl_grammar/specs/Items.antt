@@ -24,7 +24,7 @@ is_closed (suc depth) = false
 -- the token at the front of the first segment
 abbrev pub onto : Numbered → List (List Numbered) → List (List Numbered)
 onto t [] = (t ∷ []) ∷ []
-onto t (piece ∷ rest) = (t ∷ piece) ∷ rest
+onto t (segment ∷ rest) = (t ∷ segment) ∷ rest
 
 -- the tokens split at the newlines outside all openers, where `depth` openers are open at first
 abbrev pub segments : ℕ → List Numbered → List (List Numbered)

@@ -11,7 +11,7 @@ ghost use Rattle.hcl_grammar.specs.Predictor.{refusal_of};
 ghost use Rattle.hcl_grammar.specs.Relation.{ComesTo};
 ghost use Rattle.hcl_grammar.specs.Verdict.{IsAccepted};
 ghost use Rattle.hcl_tokens.specs.Balanced.{IsBalanced};
-ghost use Rattle.hcl_grammar.specs.ItemOrder.{Climbs, TopsApart};
+ghost use Rattle.hcl_grammar.specs.ItemOrder.{Climbs, TopsDisjoint};
 ghost use Rattle.hcl_grammar.specs.Items.{outline};
 
 /// In each front of the tokens of a file there are 0 to 256 more openers than closers.
@@ -38,6 +38,6 @@ pub fn climbs()
 {}
 
 /// Each top-level block begins after the end of the one before it.
-pub fn tops_apart()
-    ensures { (tokens : List Lexeme) → TopsApart 0 (outline tokens) (length tokens) }
+pub fn blocks_are_disjoint()
+    ensures { (tokens : List Lexeme) → TopsDisjoint 0 (outline tokens) (length tokens) }
 {}

@@ -13,7 +13,7 @@ use Rattle.hcl_layout.specs.Gaps.{align, gap_to, gaps, gaps_after, plain_gaps, s
 use Rattle.hcl_layout.specs.Lines.{Line, ends_line, lines, onto_line}
 use Rattle.hcl_layout.specs.Print.{print, printed_text}
 use Rattle.hcl_layout.specs.Inner.Depths.{BalancedFrom, Sound, depth_after, fresh_levels, level_at, next_levels, with_level}
-use Rattle.hcl_layout.specs.Inner.Bounds.{AreApart}
+use Rattle.hcl_layout.specs.Inner.Bounds.{AreDisjoint}
 use Rattle.hcl_layout.specs.Inner.LineGaps.{len_with_blanks}
 use Rattle.hcl_layout.specs.Inner.Rooms.{cells_of, no_extent, room_before, room_of, start_of, room_taken, with_cells, with_line, with_lines}
 use Rattle.hcl_layout.specs.Inner.Stream.{assign_column, assign_widths, comment_column, comment_widths, comment_stream, next_of, first_gaps}
@@ -109,20 +109,20 @@ plain_low d levels l p = omega (arith, plain_excess (level_at d (depth_after d l
 
 -- ---- the source text before a cell
 
-front_room : (l : Line) (i n : ℕ) → AreApart n l → i < length l → len_with_blanks (take i l) + n ≤ start_of (drop i l) + i
+front_room : (l : Line) (i n : ℕ) → AreDisjoint n l → i < length l → len_with_blanks (take i l) + n ≤ start_of (drop i l) + i
 front_room [] i n p lt = absurd (omega (arith, lt))
 front_room (t ∷ l) zero n p lt = omega (arith, p.0)
 front_room (t ∷ l) (suc i) n p lt = omega (arith, p.0, front_room l i (t.start + length t.text) p.1 (omega (arith, lt)))
 
-from_start : (l : Line) (n : ℕ) → AreApart n l → AreApart (start_of l) l
+from_start : (l : Line) (n : ℕ) → AreDisjoint n l → AreDisjoint (start_of l) l
 from_start [] n p = tt
 from_start (t ∷ l) n p = (omega arith, p.1)
 
-from_lower : (l : Line) (n : ℕ) → AreApart n l → AreApart 0 l
+from_lower : (l : Line) (n : ℕ) → AreDisjoint n l → AreDisjoint 0 l
 from_lower [] n p = tt
 from_lower (t ∷ l) n p = (omega arith, p.1)
 
-room_tells : (l : Line) (cell : Option ℕ) (i n : ℕ) → AreApart n l → cell ≡ Some i → i < length l → len_with_blanks (take i l) ≤ room_before l cell
+room_tells : (l : Line) (cell : Option ℕ) (i n : ℕ) → AreDisjoint n l → cell ≡ Some i → i < length l → len_with_blanks (take i l) ≤ room_before l cell
 room_tells l None i n p e lt = cc
 room_tells l (Some j) i n p e lt =
     let same : i ≡ j = by j i e in
@@ -150,35 +150,35 @@ room_is ts first end n a t le lt p q =
 
 abbrev LinesApart : ℕ → List Line → Type 0
 LinesApart n [] = Unit {0}
-LinesApart n (l ∷ ls) = AreApart n l × LinesApart 0 ls
+LinesApart n (l ∷ ls) = AreDisjoint n l × LinesApart 0 ls
 
 lines_lower : (ls : List Line) (n : ℕ) → LinesApart n ls → LinesApart 0 ls
 lines_lower [] n p = tt
 lines_lower (l ∷ ls) n p = (from_lower l n p.0, p.1)
 
-onto_apart : (t : Lexeme) (n : ℕ) (ls : List Line) → n ≤ t.start → LinesApart (t.start + length t.text) ls → LinesApart n (onto_line t ls)
-onto_apart t n [] p q = ((p, tt), tt)
-onto_apart t n (l ∷ ls) p q = ((p, q.0), q.1)
+onto_disjoint : (t : Lexeme) (n : ℕ) (ls : List Line) → n ≤ t.start → LinesApart (t.start + length t.text) ls → LinesApart n (onto_line t ls)
+onto_disjoint t n [] p q = ((p, tt), tt)
+onto_disjoint t n (l ∷ ls) p q = ((p, q.0), q.1)
 
-lines_apart : (ts : List Lexeme) (n : ℕ) → AreApart n ts → LinesApart n (lines ts)
-lines_apart [] n p = tt
-lines_apart (t ∷ ts) n p = go (lines_apart ts (t.start + length t.text) p.1) (ends_line t) refl
+lines_disjoint : (ts : List Lexeme) (n : ℕ) → AreDisjoint n ts → LinesApart n (lines ts)
+lines_disjoint [] n p = tt
+lines_disjoint (t ∷ ts) n p = go (lines_disjoint ts (t.start + length t.text) p.1) (ends_line t) refl
   where
     go : LinesApart (t.start + length t.text) (lines ts) → (v : Bool) → ends_line t ≡ v → LinesApart n (lines (t ∷ ts))
     go r true e = rw e ((p.0, tt), lines_lower (lines ts) (t.start + length t.text) r)
-    go r false e = rw e (onto_apart t n (lines ts) p.0 r)
+    go r false e = rw e (onto_disjoint t n (lines ts) p.0 r)
 
 -- lines that begin with no more open than is allowed
 record Fair (d : ℕ) (levels : List ℕ) (ls : List Line) : Type 0 where
   sound : Sound d levels
   low : d ≤ max_open
   balanced : BalancedLines d ls
-  apart : LinesApart 0 ls
+  disjoint : LinesApart 0 ls
 
 fair_after : (d : ℕ) (levels : List ℕ) (l : Line) (ls : List Line) → Fair d levels (l ∷ ls) → Fair (depth_after d l) (next_levels d (depth_after d l) levels) ls
 fair_after d levels l ls p =
     let low : depth_after d l ≤ max_open = after_low l d p.balanced.0 p.low in
-    record { sound = sound_after d (depth_after d l) levels low p.sound; low = low; balanced = p.balanced.1; apart = p.apart.1 }
+    record { sound = sound_after d (depth_after d l) levels low p.sound; low = low; balanced = p.balanced.1; disjoint = p.disjoint.1 }
 
 -- ---- the final width of the current group
 
@@ -211,7 +211,7 @@ sign_upto d w i levels l ls p e =
       arith,
       width_excess i (first_gaps d levels l) l,
       plain_low d levels l p.sound,
-      room_tells l (assign_cell l) i 0 p.apart.0 e (assign_within l i e),
+      room_tells l (assign_cell l) i 0 p.disjoint.0 e (assign_within l i e),
       last_keeps ls (depth_after d l) (max w (room_of d l)),
     )
 
@@ -224,7 +224,7 @@ comment_upto d w j levels l ls column most p e q le =
       width_excess j gs l,
       signed_excess d levels l column most p.sound q,
       share_most (assign_cell l) most,
-      room_tells l (running_comment l) j 0 p.apart.0 e (comment_within l j (multiline_some (has_multiline l) (trailing_comment l) j e)),
+      room_tells l (running_comment l) j 0 p.disjoint.0 e (comment_within l j (multiline_some (has_multiline l) (trailing_comment l) j e)),
       last_keeps ls (depth_after d l) (max w (room_of d l)),
       le,
     )
@@ -341,11 +341,11 @@ fresh_sound = (length-replicate {A = ℕ} (max_open + 1) 0, low)
     low zero le = omega arith
     low (suc k) le = absurd (omega arith)
 
-pub print_within : (ts : List Lexeme) → BalancedFrom 0 ts → AreApart 0 ts → length (print ts) ≤ len_with_blanks ts + ((with_lines 0 (lines ts) no_extent).passed + room_taken (with_lines 0 (lines ts) no_extent))
+pub print_within : (ts : List Lexeme) → BalancedFrom 0 ts → AreDisjoint 0 ts → length (print ts) ≤ len_with_blanks ts + ((with_lines 0 (lines ts) no_extent).passed + room_taken (with_lines 0 (lines ts) no_extent))
 print_within ts p q =
     omega (
       arith,
       printed_excess (gaps ts) ts,
       ap excess (gaps_all ts p),
-      lines_excess (lines ts) 0 fresh_levels None None no_extent (record { sound = fresh_sound; low = omega arith; balanced = balanced_lines ts 0 p; apart = lines_apart ts 0 q }) tt tt,
+      lines_excess (lines ts) 0 fresh_levels None None no_extent (record { sound = fresh_sound; low = omega arith; balanced = balanced_lines ts 0 p; disjoint = lines_disjoint ts 0 q }) tt tt,
     )

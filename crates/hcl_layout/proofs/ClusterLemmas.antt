@@ -3,7 +3,7 @@
 use Rattle.std.proofs.Common.{IsUtf8, cond, get_or, not, one-add, subst, length-append, length-take-le, ◌≡◌, ◌∙◌, ◌+◌, ◌-◌, ◌*◌, ◌≤◌, ◌<◌, ◌==◌, ◌&&◌, ap, ap₂, sym, refl, true≢false, ℕ, suc, zero, Bool, true, false, List, [], ◌∷◌, length, arith, drop, take, add-one, inl, inr}
 use Rattle.std.specs.Prelude.{encode_utf8_all, ◌++◌, ◌||◌, map, nat_le, nat_lt, unwrap_or}
 use Rattle.hcl_layout.specs.Inner.Simple.{IsFrom, are_alone, first_alone, further_alone, is_alone, is_simple, is_simple_byte, within_any}
-use Rattle.hcl_source.proofs.SimpleLemmas.{Breaks, clusters_apart, clusters_simple, simple_parts}
+use Rattle.hcl_source.proofs.SimpleLemmas.{Breaks, clusters_disjoint, clusters_simple, simple_parts}
 use Rattle.std.proofs.lemmas.List.{length-map, take-append-drop}
 use Rattle.std.proofs.lemmas.List.Folds.{list_all-append}
 use Rattle.std.proofs.lemmas.List.Sums.{prefix_len-le-length, prefix_len_passes}
@@ -78,12 +78,12 @@ within_any_is r [] c = or_false (nat_le r.0 c && nat_le c r.1)
 within_any_is r (s ∷ rs) c = ap (λ v. (nat_le r.0 c && nat_le c r.1) || v) (within_any_is s rs c)
 
 -- the tables have such classes in the ranges, and no consonant of GB9c
-abbrev apart : Bool → GraphemeClusterBreak → IndicConjunctBreak → Bool
-apart within class conjunct = not within || (lone class && not (is_consonant conjunct))
+abbrev disjoint : Bool → GraphemeClusterBreak → IndicConjunctBreak → Bool
+disjoint within class conjunct = not within || (lone class && not (is_consonant conjunct))
 
-alone_apart : (c : ℕ) → apart (in_ranges alone_ranges c) (grapheme_cluster_break c) (indic_conjunct_break c) ≡ true
+alone_disjoint : (c : ℕ) → disjoint (in_ranges alone_ranges c) (grapheme_cluster_break c) (indic_conjunct_break c) ≡ true
 unfolding tables grapheme_cluster_break_stepped indic_conjunct_break_stepped
-alone_apart =
+alone_disjoint =
     let class = λ (b : GraphemeClusterBreak) (i : IndicConjunctBreak). lone b && not (is_consonant i) in
     let classes = zip_stepped class grapheme_cluster_break indic_conjunct_break grapheme_cluster_break_stepped indic_conjunct_break_stepped in
     let either = λ (within fine : Bool). not within || fine in
@@ -91,9 +91,9 @@ alone_apart =
     Stepped-everywhere (λ c. either (in_ranges alone_ranges c) (class (grapheme_cluster_break c) (indic_conjunct_break c))) steps refl
 
 alone_class : (c : ℕ) → is_alone c ≡ true → (lone (grapheme_cluster_break c) ≡ true) × (is_consonant (indic_conjunct_break c) ≡ false)
-alone_class c e = go (in_ranges alone_ranges c) (sym (within_any_is first_alone further_alone c) ∙ e) (alone_apart c)
+alone_class c e = go (in_ranges alone_ranges c) (sym (within_any_is first_alone further_alone c) ∙ e) (alone_disjoint c)
   where
-    go : (v : Bool) → v ≡ true → apart v (grapheme_cluster_break c) (indic_conjunct_break c) ≡ true → (lone (grapheme_cluster_break c) ≡ true) × (is_consonant (indic_conjunct_break c) ≡ false)
+    go : (v : Bool) → v ≡ true → disjoint v (grapheme_cluster_break c) (indic_conjunct_break c) ≡ true → (lone (grapheme_cluster_break c) ≡ true) × (is_consonant (indic_conjunct_break c) ≡ false)
     go true p h =
         let parts = and_parts (lone (grapheme_cluster_break c)) (not (is_consonant (indic_conjunct_break c))) h in
         (parts.0, not-true (is_consonant (indic_conjunct_break c)) parts.1)
@@ -172,7 +172,7 @@ alone_breaks c n before after p q =
     ∙ pair_breaks (grapheme_cluster_break c) (grapheme_cluster_break n) _ here.0 next.0 (λ l r. others_break c n before l r next.1)
 
 pub clusters_alone : (text : List ℕ) → are_alone (chars text) ≡ true → length (graphemes true text) ≡ length (chars text)
-clusters_alone = clusters_apart is_alone alone_breaks
+clusters_alone = clusters_disjoint is_alone alone_breaks
 
 -- ---- below U+0300, and from there on
 

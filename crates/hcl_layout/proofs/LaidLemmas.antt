@@ -18,13 +18,13 @@ use Rattle.hcl_layout.proofs.SurveyLemmas.{drop_at}
 -- ---- cells
 
 other_place : (a n f : ℕ) → f < a → f ≤ n → (a ≡ n → ⊥) → (a - f == n - f) ≡ false
-other_place a n f lt le apart = go (a - f == n - f) refl
+other_place a n f lt le disjoint = go (a - f == n - f) refl
   where
     equal : (x y : ℕ) → (x == y) ≡ true → x ≡ y
     equal x y e = grind (arith, nat_tests)
 
     go : (v : Bool) → (a - f == n - f) ≡ v → v ≡ false
-    go true e = absurd (apart (omega (arith, lt, le, equal (a - f) (n - f) e)))
+    go true e = absurd (disjoint (omega (arith, lt, le, equal (a - f) (n - f) e)))
     go false e = refl
 
 less : (a b : ℕ) → a < b → nat_lt a b ≡ true
@@ -32,10 +32,10 @@ less a b h = grind (arith, nat_tests)
 
 -- and no other cell
 pub cell_elsewhere : (l : LaidLine) (c : CellLaid) (n x : ℕ) → l.first < c.number → l.first ≤ n → (n ≡ c.number → ⊥) → cell_gap (cell_of l c) (n - l.first) x ≡ x
-cell_elsewhere l c n x lt le apart = go (nat_lt c.number l.end) refl
+cell_elsewhere l c n x lt le disjoint = go (nat_lt c.number l.end) refl
   where
     there : (c.number - l.first == n - l.first) ≡ false
-    there = other_place c.number n l.first lt le (λ e. apart (sym e))
+    there = other_place c.number n l.first lt le (λ e. disjoint (sym e))
 
     go : (v : Bool) → nat_lt c.number l.end ≡ v → cell_gap (cell_of l c) (n - l.first) x ≡ x
     go true e = rw (e, there) refl
@@ -43,8 +43,8 @@ cell_elsewhere l c n x lt le apart = go (nat_lt c.number l.end) refl
 
 pub gap_plain : (ts : List Lexeme) (l : LaidLine) (n : ℕ) (t : Lexeme) → Laid ts l → l.first ≤ n → (n ≡ l.comment.number → ⊥) → (n ≡ l.assign.number → ⊥)
     → plain_gap_before ts l.level l.first n t ≡ gap_before ts (shape l) l.first n t
-gap_plain ts l n t p le apart other =
-    sym (cell_elsewhere l l.comment n (cell_gap (cell_of l l.assign) (n - l.first) (plain_gap_before ts l.level l.first n t)) p.comment_front le apart
+gap_plain ts l n t p le disjoint other =
+    sym (cell_elsewhere l l.comment n (cell_gap (cell_of l l.assign) (n - l.first) (plain_gap_before ts l.level l.first n t)) p.comment_front le disjoint
     ∙ cell_elsewhere l l.assign n (plain_gap_before ts l.level l.first n t) p.sign_front le other)
 
 pub plain_before_small : (ts : List Lexeme) (level first n : ℕ) (t : Lexeme) → level ≤ max_open → plain_gap_before ts level first n t ≤ 2 * max_open

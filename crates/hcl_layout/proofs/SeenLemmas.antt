@@ -11,7 +11,7 @@ use Rattle.hcl_layout.specs.Lines.{ends_line}
 use Rattle.hcl_layout.specs.Inner.Depths.{BalancedFrom}
 use Rattle.hcl_layout.specs.Inner.Survey.{IsLine, Survey, facts_in, facts_of, survey_start, marks, survey_step, survey_of, survey_rest, takes_assign}
 use Rattle.hcl_layout.specs.declared.line.Line.{Line}
-use Rattle.hcl_layout.specs.declared.line.Seen.{Seen}
+use Rattle.hcl_layout.specs.declared.line.LineState.{LineState}
 use Rattle.hcl_spacing.proofs.KindLemmas.{each}
 use Rattle.hcl_layout.proofs.NotedKindLemmas.{end_stops, passes, stopped_level}
 use Rattle.hcl_layout.proofs.SurveyLemmas.{is_line}
@@ -22,7 +22,7 @@ unmarked false true c h = cc
 unmarked false false c h = (refl, refl, h)
 
 -- a token that isn't a cell and tears none
-pub seen_kept : (s : Seen) (t : Lexeme) (d first n : ℕ) → first ≤ n → is_trailing t ≡ false → is_multiline t ≡ false → is_assignment t ≡ false
+pub seen_kept : (s : LineState) (t : Lexeme) (d first n : ℕ) → first ≤ n → is_trailing t ≡ false → is_multiline t ≡ false → is_assignment t ≡ false
     → survey_of s (deepen d t.kind) first (n + 1) ≡ survey_step (survey_of s d first n) t
 seen_kept s t d first n le trailing inline assign =
     let takes : takes_assign (survey_of s d first n) t ≡ false = rw assign (and_false (not (is_some (option_map (λ k. k - first) s.comment)) && not (is_trailing t) && not (is_some (option_map (λ k. k - first) s.assign)))) in
@@ -48,7 +48,7 @@ seen_kept s t d first n le trailing inline assign =
         rw (takes, inline, trailing, e) (ap₂ made len (or_false s.multiline))
 
 -- a token of a kind that isn't a cell and tears none
-pub seen_noted : (s : Seen) (t : Lexeme) (d first n : ℕ) → first ≤ n → marks t.kind ≡ false → survey_of s (deepen d t.kind) first (n + 1) ≡ survey_step (survey_of s d first n) t
+pub seen_noted : (s : LineState) (t : Lexeme) (d first n : ℕ) → first ≤ n → marks t.kind ≡ false → survey_of s (deepen d t.kind) first (n + 1) ≡ survey_step (survey_of s d first n) t
 seen_noted s t d first n le m =
     let parts = unmarked (is LineComment t.kind) (is InlineComment t.kind) (is Assign t.kind) m in
     seen_kept s t d first n le (rw parts.0 refl) (rw parts.1 refl) (rw parts.2 refl)
@@ -61,7 +61,7 @@ end_unmarked t e = go (is Newline t.kind) refl e
     go true q h = passes (not (is Newline t.kind)) (marks t.kind) (each (λ j. not (is Newline j) || not (marks j)) refl t.kind) (ap not q)
     go false q h = cc
 
-pub seen_end : (s : Seen) (t : Lexeme) (d first n : ℕ) → first ≤ n → ends_line t ≡ true → survey_of s d first (n + 1) ≡ survey_step (survey_of s d first n) t
+pub seen_end : (s : LineState) (t : Lexeme) (d first n : ℕ) → first ≤ n → ends_line t ≡ true → survey_of s d first (n + 1) ≡ survey_step (survey_of s d first n) t
 seen_end s t d first n le e = ap (λ k. survey_of s k first (n + 1)) (sym (stopped_level t.kind d (end_stops t e))) ∙ seen_noted s t d first n le (end_unmarked t e)
 
 -- the line that was read

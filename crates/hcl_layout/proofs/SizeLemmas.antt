@@ -4,7 +4,7 @@ use Rattle.hcl_tokens.specs.Lexemes.{Lexeme, marker_of}
 use Rattle.hcl_tokens.specs.Scans.{Closes, Hidden, Next, Reads, Run, Scans, Leaves, State, ahead, begin, gap_len, closer_len}
 use Rattle.hcl_tokens.specs.declared.token.Kind.{Kind}
 use Rattle.hcl_tokens.specs.declared.token.Kind.TheVariants as kind
-use Rattle.hcl_layout.specs.Inner.Bounds.{AreApart}
+use Rattle.hcl_layout.specs.Inner.Bounds.{AreDisjoint}
 use Rattle.hcl_layout.specs.Inner.LineGaps.{len_with_blanks}
 
 cut_length : (n : ℕ) (xs : List ℕ) → length (take n xs) + length (drop n xs) ≡ length xs
@@ -89,14 +89,14 @@ scanned_len_with_blanks text ts p = omega (arith, run_length ts (begin text) p.0
 
 -- ---- no two share a byte
 
-next_apart : (s : State) (t : Lexeme) (next : State) → Next s t next → (s.at ≤ t.start) × (next.at ≡ t.start + length t.text)
-next_apart s t next p = ⊎_elim (λ q. (omega (arith, q.start), q.at)) (λ q. (omega (arith, q.start), omega (arith, ap (λ (x : State). x.at) q.next_is, q.start))) p
+next_disjoint : (s : State) (t : Lexeme) (next : State) → Next s t next → (s.at ≤ t.start) × (next.at ≡ t.start + length t.text)
+next_disjoint s t next p = ⊎_elim (λ q. (omega (arith, q.start), q.at)) (λ q. (omega (arith, q.start), omega (arith, ap (λ (x : State). x.at) q.next_is, q.start))) p
 
-run_apart : (ts : List Lexeme) (s end : State) → Run s ts end → AreApart s.at ts
-run_apart [] s end p = tt
-run_apart (t ∷ ts) s end p =
-    let next = next_apart s t p.0 p.1 in
-    (next.0, subst (λ k. AreApart k ts) next.1 (run_apart ts p.0 end p.2))
+run_disjoint : (ts : List Lexeme) (s end : State) → Run s ts end → AreDisjoint s.at ts
+run_disjoint [] s end p = tt
+run_disjoint (t ∷ ts) s end p =
+    let next = next_disjoint s t p.0 p.1 in
+    (next.0, subst (λ k. AreDisjoint k ts) next.1 (run_disjoint ts p.0 end p.2))
 
-pub scanned_apart : (text : List ℕ) (ts : List Lexeme) → Scans text ts → AreApart 0 ts
-scanned_apart text ts p = run_apart ts (begin text) p.0 p.1
+pub scanned_disjoint : (text : List ℕ) (ts : List Lexeme) → Scans text ts → AreDisjoint 0 ts
+scanned_disjoint text ts p = run_disjoint ts (begin text) p.0 p.1

@@ -89,7 +89,7 @@ fn holds_newline(text: &str) -> bool
 
 /// The state of a walk along a line.
 #[derive(Clone, Copy)]
-pub struct Seen {
+pub struct LineState {
     pub assign: Option<usize>,
     pub sign_depth: u32,
     pub comment: Option<usize>,
@@ -98,17 +98,17 @@ pub struct Seen {
     pub multiline: bool,
 }
 
-impl Seen {
+impl LineState {
     /// The state with a sign.
     #[inline(always)]
-    fn with_assign(self, number: usize, depth: u32) -> Seen
+    fn with_assign(self, number: usize, depth: u32) -> LineState
         ensures { (t : Lexeme) → t.kind ≡ Assign → t.inside_heredoc ≡ false
             → Notes self number depth t result }
     {
         if self.assign.is_some() || self.comment.is_some() {
             return self;
         }
-        Seen {
+        LineState {
             assign: Some(number),
             sign_depth: depth,
             ..self
@@ -117,14 +117,14 @@ impl Seen {
 
     /// The state with a comment to the end of its line.
     #[inline(always)]
-    fn with_comment(self, number: usize, depth: u32) -> Seen
+    fn with_comment(self, number: usize, depth: u32) -> LineState
         ensures { (t : Lexeme) → t.kind ≡ LineComment → t.inside_heredoc ≡ false
             → Notes self number depth t result }
     {
         if self.comment.is_some() {
             return self;
         }
-        Seen {
+        LineState {
             comment: Some(number),
             body_depth: depth,
             ..self
@@ -133,11 +133,11 @@ impl Seen {
 
     /// The state with an inline comment.
     #[inline(always)]
-    fn with_text(self, number: usize, text: &str) -> Seen
+    fn with_text(self, number: usize, text: &str) -> LineState
         ensures { (t : Lexeme) (depth : ℕ) → t.kind ≡ InlineComment → t.inside_heredoc ≡ false
             → t.text ≡ text.now → Notes self number depth t result }
     {
-        Seen {
+        LineState {
             multiline: self.multiline || holds_newline(text),
             ..self
         }
@@ -145,7 +145,7 @@ impl Seen {
 
     /// The state after a token that needs a closer look and doesn't end the line.
     #[inline(always)]
-    fn with(self, tokens: &Measured<'_, '_>, number: usize, depth: u32) -> Seen
+    fn with(self, tokens: &Measured<'_, '_>, number: usize, depth: u32) -> LineState
         requires within { number < length tokens.now.tokens }
         requires more { AsksMore tokens.now.tokens number }
         requires on { TellsEnd tokens.now.tokens number false }
@@ -214,10 +214,10 @@ fn is_torn_by(tokens: &Measured<'_, '_>, number: usize) -> bool
 }
 
 /// The state of a line before a token that needs a closer look.
-fn seen_at_start(multiline: bool) -> Seen
+fn seen_at_start(multiline: bool) -> LineState
     ensures { result ≡ seen_at_start multiline }
 {
-    Seen {
+    LineState {
         assign: None,
         sign_depth: 0,
         comment: None,
@@ -228,7 +228,7 @@ fn seen_at_start(multiline: bool) -> Seen
 
 /// After the first token of a line, which is no cell: the state, the depth, and whether the line ends with it.
 #[inline(always)]
-fn read_first(tokens: &Measured<'_, '_>, first: usize, before: u32) -> (Seen, u32, bool)
+fn read_first(tokens: &Measured<'_, '_>, first: usize, before: u32) -> (LineState, u32, bool)
     requires within { first < length tokens.now.tokens }
     requires balanced { BalancedFrom before (drop first tokens.now.tokens) }
     requires fits { before ≤ max_open }

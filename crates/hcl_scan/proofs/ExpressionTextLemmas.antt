@@ -14,7 +14,7 @@ use Rattle.hcl_scan.specs.Inner.Prefixes.{prefix_of, prefix_bytes, slash_prefix}
 use Rattle.hcl_tokens.specs.SideBySide.{may_begin_ident}
 use Rattle.hcl_scan.specs.declared.front.Prefix.{Prefix}
 use Rattle.hcl_scan.specs.declared.front.Prefix.TheVariants.{LineEnd, Space, Letter, Digit, HashOrSlashes, SlashStar, OneSlash, LessLess, Closer, Sign}
-use Rattle.hcl_scan.specs.declared.found.Found.{Found}
+use Rattle.hcl_scan.specs.declared.found.FoundToken.{FoundToken}
 use Rattle.hcl_tokens.specs.declared.token.Kind.{Kind}
 use Rattle.hcl_tokens.specs.declared.token.Kind.TheVariants.{Newline, LineComment, InlineComment, Blank, Ident, Number, HeredocOpen, SeqClose, BraceClose, Slash, Less}
 use Rattle.hcl_scan.proofs.WayLemmas.{ways}
@@ -310,14 +310,14 @@ pub formed_cut : {form : List ℕ → Type 0} → (seen : List ℕ) (n : ℕ) �
 formed_cut seen n utf8 ends f = low_cut seen n utf8 f.within (ends (take n seen) f.formed)
 
 -- a form's length, as a token
-pub some_found : {prefix : Prefix} {kind : Kind} {form : List ℕ → Type 0} → (dot inside closes : Bool) (seen bytes : List ℕ) (r : Option Found) (len : Option ℕ) → Reading dot inside closes prefix kind form → prefix_of seen ≡ prefix → bytes ≡ seen →
+pub some_found : {prefix : Prefix} {kind : Kind} {form : List ℕ → Type 0} → (dot inside closes : Bool) (seen bytes : List ℕ) (r : Option FoundToken) (len : Option ℕ) → Reading dot inside closes prefix kind form → prefix_of seen ≡ prefix → bytes ≡ seen →
     IfSome r (λ f. (f.kind ≡ kind) × (len ≡ Some f.len)) → IfSome len (IsLongestFront form bytes) → IfSome r (λ f. FindsAt dot inside closes seen f.kind f.len)
 some_found {form = form} dot inside closes seen bytes (Some f) len reading l e h g =
     let front : IsLongestFront form bytes f.len = subst (λ (o : Option ℕ). IfSome o (IsLongestFront form bytes)) h.1 g in
     subst (λ (k : Kind). FindsAt dot inside closes seen k f.len) (sym h.0) (found dot inside closes seen f.len reading l (subst (λ s. IsLongestFront form s f.len) e front))
 some_found dot inside closes seen bytes None len reading l e h g = tt
 
-pub none_found : {prefix : Prefix} {kind : Kind} {form : List ℕ → Type 0} → (dot inside closes : Bool) (seen bytes : List ℕ) (r : Option Found) (len : Option ℕ) → Reading dot inside closes prefix kind form → prefix_of seen ≡ prefix → is_settled prefix ≡ true → bytes ≡ seen →
+pub none_found : {prefix : Prefix} {kind : Kind} {form : List ℕ → Type 0} → (dot inside closes : Bool) (seen bytes : List ℕ) (r : Option FoundToken) (len : Option ℕ) → Reading dot inside closes prefix kind form → prefix_of seen ≡ prefix → is_settled prefix ≡ true → bytes ≡ seen →
     IfNone r (len ≡ None) → IfNone len (HasNoFront form bytes) → IfNone r (HasNoneAt dot inside closes seen)
 none_found dot inside closes seen bytes (Some f) len reading l s e h g = tt
 none_found {form = form} dot inside closes seen bytes None len reading l s e h g =
@@ -325,30 +325,30 @@ none_found {form = form} dot inside closes seen bytes None len reading l s e h g
     nothing dot inside closes seen reading l s (subst (λ b. HasNoFront form b) e none)
 
 -- a form's length, if the found form gives its kind itself
-pub kind_found : {prefix : Prefix} {kind : Kind} {form : List ℕ → Type 0} → (dot inside closes : Bool) (seen bytes : List ℕ) (r : Option Found) → Reading dot inside closes prefix kind form → prefix_of seen ≡ prefix → bytes ≡ seen →
+pub kind_found : {prefix : Prefix} {kind : Kind} {form : List ℕ → Type 0} → (dot inside closes : Bool) (seen bytes : List ℕ) (r : Option FoundToken) → Reading dot inside closes prefix kind form → prefix_of seen ≡ prefix → bytes ≡ seen →
     IfSome r (λ f. (f.kind ≡ kind) × IsLongestFront form bytes f.len) → IfSome r (λ f. FindsAt dot inside closes seen f.kind f.len)
 kind_found {form = form} dot inside closes seen bytes (Some f) reading l e h =
     subst (λ (k : Kind). FindsAt dot inside closes seen k f.len) (sym h.0) (found dot inside closes seen f.len reading l (subst (λ s. IsLongestFront form s f.len) e h.1))
 kind_found dot inside closes seen bytes None reading l e h = tt
 
-pub kind_none : {prefix : Prefix} {kind : Kind} {form : List ℕ → Type 0} → (dot inside closes : Bool) (seen bytes : List ℕ) (r : Option Found) → Reading dot inside closes prefix kind form → prefix_of seen ≡ prefix → is_settled prefix ≡ true → bytes ≡ seen →
+pub kind_none : {prefix : Prefix} {kind : Kind} {form : List ℕ → Type 0} → (dot inside closes : Bool) (seen bytes : List ℕ) (r : Option FoundToken) → Reading dot inside closes prefix kind form → prefix_of seen ≡ prefix → is_settled prefix ≡ true → bytes ≡ seen →
     IfNone r (HasNoFront form bytes) → IfNone r (HasNoneAt dot inside closes seen)
 kind_none dot inside closes seen bytes (Some f) reading l s e h = tt
 kind_none {form = form} dot inside closes seen bytes None reading l s e h = nothing dot inside closes seen reading l s (subst (λ b. HasNoFront form b) e h)
 
-pub kind_cut : {form : List ℕ → Type 0} → (kind : Kind) (seen bytes : List ℕ) (r : Option Found) → IsUtf8 seen → ((text : List ℕ) → form text → EndsLow text) → bytes ≡ seen →
+pub kind_cut : {form : List ℕ → Type 0} → (kind : Kind) (seen bytes : List ℕ) (r : Option FoundToken) → IsUtf8 seen → ((text : List ℕ) → form text → EndsLow text) → bytes ≡ seen →
     IfSome r (λ f. (f.kind ≡ kind) × IsLongestFront form bytes f.len) → IfSome r (λ f. IsCharBoundary seen f.len)
 kind_cut {form} kind seen bytes (Some f) utf8 ends e h = formed_cut seen f.len utf8 ends (subst (λ s. IsLongestFront form s f.len) e h.1)
 kind_cut kind seen bytes None utf8 ends e h = tt
 
-pub some_cut : {form : List ℕ → Type 0} → (kind : Kind) (seen bytes : List ℕ) (r : Option Found) (len : Option ℕ) → IsUtf8 seen → ((text : List ℕ) → form text → EndsLow text) → bytes ≡ seen →
+pub some_cut : {form : List ℕ → Type 0} → (kind : Kind) (seen bytes : List ℕ) (r : Option FoundToken) (len : Option ℕ) → IsUtf8 seen → ((text : List ℕ) → form text → EndsLow text) → bytes ≡ seen →
     IfSome r (λ f. (f.kind ≡ kind) × (len ≡ Some f.len)) → IfSome len (IsLongestFront form bytes) → IfSome r (λ f. IsCharBoundary seen f.len)
 some_cut {form} kind seen bytes (Some f) len utf8 ends e h g =
     let front : IsLongestFront form bytes f.len = subst (λ (o : Option ℕ). IfSome o (IsLongestFront form bytes)) h.1 g in
     formed_cut seen f.len utf8 ends (subst (λ s. IsLongestFront form s f.len) e front)
 some_cut kind seen bytes None len utf8 ends e h g = tt
 
-pub comment_none : (dot inside closes : Bool) (seen bytes : List ℕ) (r : Option Found) (len : Option ℕ) → prefix_of seen ≡ SlashStar → bytes ≡ seen → IfNone r (len ≡ None) → IfNone len (HasNoFront IsInlineComment bytes) → IfNone r (HasNoneAt dot inside closes seen)
+pub comment_none : (dot inside closes : Bool) (seen bytes : List ℕ) (r : Option FoundToken) (len : Option ℕ) → prefix_of seen ≡ SlashStar → bytes ≡ seen → IfNone r (len ≡ None) → IfNone len (HasNoFront IsInlineComment bytes) → IfNone r (HasNoneAt dot inside closes seen)
 comment_none dot inside closes seen bytes (Some f) len l e h g = tt
 comment_none dot inside closes seen bytes None len l e h g =
     comment_nothing dot inside closes seen l (subst (λ b. HasNoFront IsInlineComment b) e (subst (λ (o : Option ℕ). IfNone o (HasNoFront IsInlineComment bytes)) h g))

@@ -11,18 +11,18 @@ use Rattle.hcl_scan.specs.Inner.Scanners.{state_of, IsStopped, Moves}
 use Rattle.hcl_source.specs.declared.fault.FaultKind.{FaultKind}
 use Rattle.hcl_tokens.specs.declared.token.TokenEntry.{TokenEntry}
 use Rattle.hcl_scan.specs.declared.scanner.Scanner.{Scanner}
-use Rattle.hcl_scan.specs.declared.scanner.Stopped.{Stopped}
+use Rattle.hcl_scan.specs.declared.scanner.FaultAt.{FaultAt}
 use Rattle.hcl_tokens.proofs.OneReadingLemmas.{no_fault}
 use Rattle.hcl_scan.proofs.AllContextLemmas.{one_kind, lacks_stuck, Run-push}
 use Rattle.hcl_scan.proofs.ExpressionLawLemmas.{one_expression}
 use Rattle.hcl_tokens.proofs.NonemptyLemmas.{nonempty}
 
 -- the result of the scanner
-pub token_read : (read : Result TokenEntry Stopped) (s next : Scanner) (e : TokenEntry) → read ≡ Ok e → IfOk read (λ x. Moves s x next) → Moves s e next
-token_read read s next e is h = subst (λ (r : Result TokenEntry Stopped). IfOk r (λ x. Moves s x next)) is h
+pub token_read : (read : Result TokenEntry FaultAt) (s next : Scanner) (e : TokenEntry) → read ≡ Ok e → IfOk read (λ x. Moves s x next) → Moves s e next
+token_read read s next e is h = subst (λ (r : Result TokenEntry FaultAt). IfOk r (λ x. Moves s x next)) is h
 
-pub stopped_there : (read : Result TokenEntry Stopped) (s : Scanner) (fault : Stopped) → read ≡ Err fault → IfErr read (λ x. IsStopped s x) → IsStopped s fault
-stopped_there read s fault is h = subst (λ (r : Result TokenEntry Stopped). IfErr r (λ x. IsStopped s x)) is h
+pub stopped_there : (read : Result TokenEntry FaultAt) (s : Scanner) (fault : FaultAt) → read ≡ Err fault → IfErr read (λ x. IsStopped s x) → IsStopped s fault
+stopped_there read s fault is h = subst (λ (r : Result TokenEntry FaultAt). IfErr r (λ x. IsStopped s x)) is h
 
 pub none_yet : (text : List ℕ) (es : List TokenEntry) → es ≡ [] → All (IsEntry text) es
 none_yet text es is = subst (λ (l : List TokenEntry). All (IsEntry text) l) (sym is) (λ k d h. absurd (omega arith))
@@ -41,7 +41,7 @@ module _ (text : List ℕ) (es new : List TokenEntry) (s next : Scanner) (e : To
       subst (λ (ts : List Lexeme). Run (begin text) ts (state_of next)) (sym tokens_are) (Run-push (begin text) (lexemes_of text es) (state_of s) (lexeme_of text e) (state_of next) run one)
 
 -- it is the fault of the text
-pub scan_fault : (text : List ℕ) (ts : List Lexeme) (s : Scanner) (fault : Stopped) → s.text.now ≡ text → Run (begin text) ts (state_of s) → IsStopped s fault → IsScanFault text fault.kind fault.at
+pub scan_fault : (text : List ℕ) (ts : List Lexeme) (s : Scanner) (fault : FaultAt) → s.text.now ≡ text → Run (begin text) ts (state_of s) → IsStopped s fault → IsScanFault text fault.kind fault.at
 scan_fault text ts s fault same run stopped = record {
   tokens = ts;
   end = state_of s;

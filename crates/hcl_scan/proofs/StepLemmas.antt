@@ -18,7 +18,7 @@ use Rattle.hcl_scan.specs.Inner.Openings.{opener_of, openers_of, offsets_in, hid
 use Rattle.hcl_tokens.specs.Entries.{IsEntry}
 use Rattle.hcl_scan.specs.Inner.Scanners.{state_of, IsStack, IsSound, IsStart, IsNext, IsStopped, Moves}
 use Rattle.hcl_tokens.specs.declared.token.TokenEntry.{TokenEntry}
-use Rattle.hcl_scan.specs.declared.found.Found.{Found}
+use Rattle.hcl_scan.specs.declared.found.FoundToken.{FoundToken}
 use Rattle.hcl_scan.specs.declared.stack.Opener as kept
 use Rattle.hcl_scan.specs.declared.stack.Opener.TheVariants as by
 use Rattle.hcl_scan.specs.declared.stack.Opened.{Opened}
@@ -238,7 +238,7 @@ owed_some text (o ∷ stack) end top sound h =
 pub owed_stops : (s : Scanner) (kind : FaultKind) (at : ℕ) → ahead (state_of s) ≡ [] → end_fault (unclosed_opener (openers_of s.stack)) ≡ Some kind → at ≡ fault_offset (state_of s) kind → IsCharBoundary s.text.now at → IsStopped s (record { kind = kind; at = at })
 owed_stops s kind at read kind_is at_is boundary = record { lacks = at_end read kind_is; at = at_is; boundary = boundary }
 
-pub template_found : (found : Option Found) (opens : List Opener) (dot quoted : Bool) (seen part : List ℕ) → context opens ≡ Template quoted → seen ≡ part → IfSome found (λ f. (opens : List Opener) (dot : Bool) → context opens ≡ Template quoted → Finds opens dot seen f.kind f.len) → IfSome found (λ f. Finds opens dot part f.kind f.len)
+pub template_found : (found : Option FoundToken) (opens : List Opener) (dot quoted : Bool) (seen part : List ℕ) → context opens ≡ Template quoted → seen ≡ part → IfSome found (λ f. (opens : List Opener) (dot : Bool) → context opens ≡ Template quoted → Finds opens dot seen f.kind f.len) → IfSome found (λ f. Finds opens dot part f.kind f.len)
 template_found None opens dot quoted seen part here same h = tt
 template_found (Some f) opens dot quoted seen part here same h = subst (λ l. Finds opens dot l f.kind f.len) same (h opens dot here)
 

@@ -11,7 +11,7 @@ ghost use Rattle.hcl_scan.specs.declared.front.Prefix.TheVariants.{LessLess};
 ghost use Rattle.hcl_tokens.specs.declared.token.Kind.TheVariants.{Newline};
 
 use crate::comment::inline_comment_len;
-use crate::found::Found;
+use crate::found::FoundToken;
 use crate::front::{Front, Prefix, front_of};
 use crate::ident::{begun_ident, heredoc_open_len};
 use crate::number::{digits_len, number_len};
@@ -29,24 +29,24 @@ pub struct Surroundings {
     pub closes_sequence: bool,
 }
 
-fn found_as(kind: Kind, len: Option<usize>) -> Option<Found>
+fn found_as(kind: Kind, len: Option<usize>) -> Option<FoundToken>
     ensures some { IfSome result (λ f. (f.kind ≡ kind) × (len ≡ Some f.len)) }
     ensures none { IfNone result (len ≡ None) }
 {
     match len {
-        Some(len) => Some(Found { kind, len }),
+        Some(len) => Some(FoundToken { kind, len }),
         None => None,
     }
 }
 
 /// The newline at the front: nearly always LF alone.
-fn found_newline(seen: &[u8]) -> Option<Found>
+fn found_newline(seen: &[u8]) -> Option<FoundToken>
     ensures found { IfSome result (λ f. (f.kind ≡ Newline)
         × IsLongestFront IsNewline seen.now f.len) }
     ensures none { IfNone result (HasNoFront IsNewline seen.now) }
 {
     if seen.starts_with(b"\n") {
-        return Some(Found {
+        return Some(FoundToken {
             kind: Kind::Newline,
             len: 1,
         });
@@ -104,18 +104,18 @@ fn closer_len(seen: &[u8], closes_sequence: bool) -> Option<usize>
 }
 
 /// A heredoc's opener, or the first `<` of two.
-fn opener_or_less(seen: &str) -> Found
+fn opener_or_less(seen: &str) -> FoundToken
     requires { prefix_of seen.now ≡ LessLess }
     ensures found { (after_dot inside closes : Bool)
         → FindsAt after_dot inside closes seen.now result.kind result.len }
     ensures boundary { IsCharBoundary seen.now result.len }
 {
     match heredoc_open_len(seen) {
-        Some(len) => Found {
+        Some(len) => FoundToken {
             kind: Kind::HeredocOpen,
             len,
         },
-        None => Found {
+        None => FoundToken {
             kind: Kind::Less,
             len: 1,
         },
@@ -123,7 +123,7 @@ fn opener_or_less(seen: &str) -> Found
 }
 
 /// The longest token at the front of the visible text, if its first bytes are no mark.
-fn token_by_prefix(seen: &str, prefix: Prefix, around: Surroundings) -> Option<Found>
+fn token_by_prefix(seen: &str, prefix: Prefix, around: Surroundings) -> Option<FoundToken>
     requires { IsFront seen.now (Led prefix) }
     ensures found { IfSome result (λ f. FindsAt around.after_dot around.inside_heredoc
         around.closes_sequence seen.now f.kind f.len) }
@@ -137,12 +137,12 @@ fn token_by_prefix(seen: &str, prefix: Prefix, around: Surroundings) -> Option<F
         Prefix::Space => found_as(Kind::Blank, blank_len(bytes, around.inside_heredoc)),
         Prefix::Letter => begun_ident(seen),
         Prefix::Digit => found_as(Kind::Number, numeral_len(bytes, around.after_dot)),
-        Prefix::HashOrSlashes => Some(Found {
+        Prefix::HashOrSlashes => Some(FoundToken {
             kind: Kind::LineComment,
             len: line_len(bytes),
         }),
         Prefix::SlashStar => found_as(Kind::InlineComment, inline_comment_len(bytes)),
-        Prefix::OneSlash => Some(Found {
+        Prefix::OneSlash => Some(FoundToken {
             kind: Kind::Slash,
             len: 1,
         }),
@@ -156,7 +156,7 @@ fn token_by_prefix(seen: &str, prefix: Prefix, around: Surroundings) -> Option<F
 }
 
 /// The longest token at the front of the visible text in an expression. `seen` is the text after the gap.
-pub(crate) fn next_in_expression(seen: &str, around: Surroundings) -> Option<Found>
+pub(crate) fn next_in_expression(seen: &str, around: Surroundings) -> Option<FoundToken>
     ensures found { IfSome result (λ f. FindsAt around.after_dot around.inside_heredoc
         around.closes_sequence seen.now f.kind f.len) }
     ensures boundary { IfSome result (λ f. IsCharBoundary seen.now f.len) }
@@ -164,7 +164,7 @@ pub(crate) fn next_in_expression(seen: &str, around: Surroundings) -> Option<Fou
         around.closes_sequence seen.now) }
 {
     match front_of(seen.as_bytes()) {
-        Front::Mark(kind, len) => Some(Found { kind, len }),
+        Front::Mark(kind, len) => Some(FoundToken { kind, len }),
         Front::Led(prefix) => token_by_prefix(seen, prefix, around),
     }
 }

@@ -142,7 +142,7 @@ fn ends_differ<const N: usize>(text: &[u8], other: &[u8]) -> bool
 
 /// Whether two texts differ, by their ends. If both have 2 to 32 bytes, the ends decide it, without a call.
 #[inline(always)]
-fn are_told_apart(text: &[u8], other: &[u8]) -> bool
+fn are_different(text: &[u8], other: &[u8]) -> bool
     ensures { IsTrue result → text.now ≢ other.now }
 {
     match other.len() {
@@ -159,7 +159,7 @@ fn is_ruled_out(text: &[u8], marker: &[u8], place: usize) -> bool
     requires within { place + length marker.now ≤ length text.now }
     ensures { IsTrue result → starts (drop place text.now) marker.now ≡ false }
 {
-    are_told_apart(&text[place..place + marker.len()], marker)
+    are_different(&text[place..place + marker.len()], marker)
 }
 
 /// The likely places from the first on at which the marker isn't ruled out. This is a call, since more loops in one

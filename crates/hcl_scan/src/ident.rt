@@ -9,7 +9,7 @@ ghost use Rattle.hcl_tokens.specs.declared.token.Kind.TheVariants.{Ident};
 ghost use Rattle.hcl_tokens.specs.SideBySide.{may_begin_ident};
 ghost use Rattle.hcl_scan.specs.Inner.Found.{IsLongestFront, HasNoFront, AreContinuing, BeginsWith, BeginsWithout, FirstChar, IsMarker, continues_ascii, heredoc_mark_len};
 
-use crate::found::Found;
+use crate::found::FoundToken;
 use crate::text::{BLOCK, byte_at, newline_len};
 use hcl_tokens::Kind;
 
@@ -144,7 +144,7 @@ pub(crate) fn ident_len(text: &str) -> Option<usize>
 
 /// The longest identifier at the front, if the first byte may begin one: a run of ASCII characters alone is one.
 #[inline(always)]
-pub(crate) fn begun_ident(text: &str) -> Option<Found>
+pub(crate) fn begun_ident(text: &str) -> Option<FoundToken>
     requires { may_begin_ident (get_or text.now 0 0) ≡ true }
     ensures found { IfSome result (λ f. (f.kind ≡ Ident) × IsLongestFront IsIdent text.now f.len) }
     ensures boundary { IfSome result (λ f. IsCharBoundary text.now f.len) }
@@ -153,13 +153,13 @@ pub(crate) fn begun_ident(text: &str) -> Option<Found>
     let bytes = text.as_bytes();
     let len = continuing_ascii(bytes);
     if byte_at(bytes, len) < 128 {
-        return Some(Found {
+        return Some(FoundToken {
             kind: Kind::Ident,
             len,
         });
     }
     match ident_len(text) {
-        Some(len) => Some(Found {
+        Some(len) => Some(FoundToken {
             kind: Kind::Ident,
             len,
         }),

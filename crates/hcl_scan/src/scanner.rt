@@ -15,7 +15,7 @@ ghost use Rattle.hcl_scan.specs.declared.stack.Opened.{Opened};
 ghost use Rattle.hcl_scan.specs.Inner.Scanners.{state_of, IsSound, IsStart, IsNext, IsStopped, Moves};
 
 use crate::expression::{Surroundings, next_in_expression};
-use crate::found::Found;
+use crate::found::FoundToken;
 use crate::heredoc::{closer_len, marker_line, marker_of};
 use crate::stack::{Opener, Stack, StackStorage};
 use crate::template::next_in_template;
@@ -26,7 +26,7 @@ use std::marker::Model;
 
 /// A fault and its offset.
 #[derive(Clone, Copy)]
-pub struct Stopped {
+pub struct FaultAt {
     pub kind: FaultKind,
     pub at: u32,
 }
@@ -178,7 +178,7 @@ impl<'s, 'k> Scanner<'s, 'k> {
     }
 
     /// The longest token that begins here.
-    fn find(&self, start: usize) -> Option<Found>
+    fn find(&self, start: usize) -> Option<FoundToken>
         requires sound { IsSound self.now }
         requires start { IsStart self.now start }
         ensures found { IfSome result (λ f. Finds (openers_of self.now.stack) self.now.after_dot
@@ -203,7 +203,7 @@ impl<'s, 'k> Scanner<'s, 'k> {
     }
 
     /// Why no token begins here.
-    fn no_token(&self, start: usize) -> Stopped
+    fn no_token(&self, start: usize) -> FaultAt
         requires sound { IsSound self.now }
         requires start { IsStart self.now start }
         requires some { start < self.now.end }
@@ -213,18 +213,18 @@ impl<'s, 'k> Scanner<'s, 'k> {
     {
         let seen = self.text[start..self.end].as_bytes();
         let Some(top) = self.stack.template_top() else {
-            return Stopped {
+            return FaultAt {
                 kind: no_expression(seen),
                 at: start as u32,
             };
         };
         if seen.starts_with(b"\\") {
-            return Stopped {
+            return FaultAt {
                 kind: FaultKind::InvalidEscape,
                 at: start as u32,
             };
         }
-        Stopped {
+        FaultAt {
             kind: FaultKind::UnterminatedQuote,
             at: top.at,
         }
@@ -232,7 +232,7 @@ impl<'s, 'k> Scanner<'s, 'k> {
 
     /// After the end of the visible text, without a heredoc that ends: the reason why more is needed, if a construct
     /// must still be closed.
-    fn stop_if_unclosed(&mut self) -> Option<Stopped>
+    fn stop_if_unclosed(&mut self) -> Option<FaultAt>
         requires sound { IsSound self.old }
         requires read { ahead (state_of self.old) ≡ [] }
         requires no_heredoc { context (openers_of self.old.stack) ≢ Template false }
@@ -244,11 +244,11 @@ impl<'s, 'k> Scanner<'s, 'k> {
         };
         let at = stop_if_unclosed.at;
         match stop_if_unclosed.by {
-            Opener::Quote => Some(Stopped {
+            Opener::Quote => Some(FaultAt {
                 kind: FaultKind::UnterminatedQuote,
                 at,
             }),
-            _ => Some(Stopped {
+            _ => Some(FaultAt {
                 kind: FaultKind::UnterminatedTemplate,
                 at,
             }),
@@ -281,7 +281,7 @@ impl<'s, 'k> Scanner<'s, 'k> {
     }
 
     /// Reads an opener, heredocs aside.
-    fn read_opener(&mut self, entry: TokenEntry, by: Opener) -> Result<(), Stopped>
+    fn read_opener(&mut self, entry: TokenEntry, by: Opener) -> Result<(), FaultAt>
         requires sound { IsSound self.old }
         requires next { IsNext self.old entry }
         requires opens { opened_by entry.kind ≡ Some by }
@@ -289,7 +289,7 @@ impl<'s, 'k> Scanner<'s, 'k> {
         ensures stopped { IfErr result (IsStopped self.old) }
     {
         if self.stack.is_full() {
-            return Err(Stopped {
+            return Err(FaultAt {
                 kind: FaultKind::TooDeep,
                 at: entry.start,
             });
@@ -301,7 +301,7 @@ impl<'s, 'k> Scanner<'s, 'k> {
     }
 
     /// Reads the opener of a heredoc, and searches for its marker line.
-    fn read_heredoc(&mut self, entry: TokenEntry) -> Result<(), Stopped>
+    fn read_heredoc(&mut self, entry: TokenEntry) -> Result<(), FaultAt>
         requires sound { IsSound self.old }
         requires next { IsNext self.old entry }
         requires heredoc { is HeredocOpen entry.kind ≡ true }
@@ -310,7 +310,7 @@ impl<'s, 'k> Scanner<'s, 'k> {
     {
         let at = entry.end as usize;
         if self.stack.is_full() {
-            return Err(Stopped {
+            return Err(FaultAt {
                 kind: FaultKind::TooDeep,
                 at: entry.start,
             });
@@ -318,7 +318,7 @@ impl<'s, 'k> Scanner<'s, 'k> {
         let marker = marker_of(self.text[entry.start as usize..at].as_bytes());
         let rest = self.text[at..self.end].as_bytes();
         let Some(line) = marker_line(rest, marker) else {
-            return Err(Stopped {
+            return Err(FaultAt {
                 kind: FaultKind::UnterminatedHeredoc,
                 at: entry.start,
             });
@@ -359,7 +359,7 @@ impl<'s, 'k> Scanner<'s, 'k> {
     }
 
     /// Reads the longest next token.
-    fn read(&mut self, entry: TokenEntry) -> Result<(), Stopped>
+    fn read(&mut self, entry: TokenEntry) -> Result<(), FaultAt>
         requires sound { IsSound self.old }
         requires next { IsNext self.old entry }
         ensures read { OnOk result (Moves self.old entry self.new) }
@@ -380,7 +380,7 @@ impl<'s, 'k> Scanner<'s, 'k> {
     }
 
     /// Reads the token that begins here.
-    fn token(&mut self, start: usize) -> Result<TokenEntry, Stopped>
+    fn token(&mut self, start: usize) -> Result<TokenEntry, FaultAt>
         requires sound { IsSound self.old }
         requires start { IsStart self.old start }
         requires some { start < self.old.end }
@@ -403,7 +403,7 @@ impl<'s, 'k> Scanner<'s, 'k> {
     }
 
     /// Reads a token, or returns `None` if all was read and nothing must still be closed.
-    pub fn next_token(&mut self) -> Option<Result<TokenEntry, Stopped>>
+    pub fn next_token(&mut self) -> Option<Result<TokenEntry, FaultAt>>
         requires { IsSound self.old }
         ensures complete { IfNone result (IsComplete (state_of self.old)) }
         ensures read { IfSome result (λ read. IfOk read (λ entry. Moves self.old entry self.new)) }

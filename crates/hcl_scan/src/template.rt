@@ -7,7 +7,7 @@ ghost use Rattle.hcl_tokens.specs.Spelling.{Template, context, starts};
 ghost use Rattle.hcl_scan.specs.Inner.Found.{Finds};
 ghost use Rattle.hcl_tokens.specs.Scans.{HasNone};
 
-use crate::found::Found;
+use crate::found::FoundToken;
 use crate::literal::literal_len;
 use hcl_tokens::Kind;
 
@@ -21,7 +21,7 @@ fn sequence_open_len(seen: &[u8]) -> usize
 }
 
 /// The longest token at the front of the visible text of a template.
-pub fn next_in_template(seen: &[u8], quoted: bool) -> Option<Found>
+pub fn next_in_template(seen: &[u8], quoted: bool) -> Option<FoundToken>
     ensures found { IfSome result (λ f. (opens : List Opener) (after_dot : Bool)
         → context opens ≡ Template quoted → Finds opens after_dot seen.now f.kind f.len) }
     ensures none { IfNone result ((opens : List Opener) (after_dot : Bool)
@@ -29,26 +29,26 @@ pub fn next_in_template(seen: &[u8], quoted: bool) -> Option<Found>
     ensures boundary { IsUtf8 seen.now → IfSome result (λ f. IsCharBoundary seen.now f.len) }
 {
     if quoted && seen.starts_with(b"\"") {
-        return Some(Found {
+        return Some(FoundToken {
             kind: Kind::QuoteClose,
             len: 1,
         });
     }
     let len = literal_len(seen, quoted);
     if len > 0 {
-        return Some(Found {
+        return Some(FoundToken {
             kind: Kind::Lit,
             len,
         });
     }
     if seen.starts_with(b"${") {
-        return Some(Found {
+        return Some(FoundToken {
             kind: Kind::InterpOpen,
             len: sequence_open_len(seen),
         });
     }
     if seen.starts_with(b"%{") {
-        return Some(Found {
+        return Some(FoundToken {
             kind: Kind::ControlOpen,
             len: sequence_open_len(seen),
         });

@@ -54,9 +54,9 @@ apart_cuts alone breaks (c ∷ cs) e =
     let parts = and_parts (alone c) (list_all alone cs) e in
     apart_cut alone breaks cs c [] parts.0 parts.1
 
-pub clusters_apart : (alone : ℕ → Bool) → Breaks alone → (text : List ℕ) → list_all alone (chars text) ≡ true → length (graphemes true text) ≡ length (chars text)
+pub clusters_disjoint : (alone : ℕ → Bool) → Breaks alone → (text : List ℕ) → list_all alone (chars text) ≡ true → length (graphemes true text) ≡ length (chars text)
 unfolding segments
-clusters_apart alone breaks text e = length-map (cut (is_grapheme_break true) [] (chars text) []) encode_utf8_all ∙ apart_cuts alone breaks (chars text) e
+clusters_disjoint alone breaks text e = length-map (cut (is_grapheme_break true) [] (chars text) []) encode_utf8_all ∙ apart_cuts alone breaks (chars text) e
 
 -- ---- characters below the first that joins
 
@@ -194,7 +194,7 @@ simple_alone (b ∷ text) e =
 pub clusters_simple : (text : List ℕ) → is_simple text ≡ true → length (graphemes true text) ≡ length text
 clusters_simple text e =
     let same = chars-IsAscii text (λ i. simple_ascii text i e) in
-    clusters_apart is_alone alone_breaks text (ap are_alone same ∙ simple_alone text e) ∙ ap length same
+    clusters_disjoint is_alone alone_breaks text (ap are_alone same ∙ simple_alone text e) ∙ ap length same
 
 -- ---- byte by byte
 

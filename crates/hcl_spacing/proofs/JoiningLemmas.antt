@@ -194,19 +194,19 @@ module _ (before : Option Lexeme) (u t : Lexeme) (dot : Bool) (outside_all : t.i
       by (inl x) = told kind.Slash is_slashed refl e x
       by (inr x) = told kind.Slash (is kind.Star) refl e x
 
-  stays_apart : (k : Kind) → Parted k
-  stays_apart kind.Ident = ident_parted
-  stays_apart kind.Number = number_parted
-  stays_apart kind.Dot = dot_parted
-  stays_apart kind.Colon = colon_parted
-  stays_apart kind.Not = not_parted
-  stays_apart kind.Assign = assign_parted
-  stays_apart kind.Less = less_parted
-  stays_apart kind.Greater = greater_parted
-  stays_apart kind.Slash = slash_parted
-  stays_apart kind.InterpOpen = interp_parted
-  stays_apart kind.ControlOpen = control_parted
-  stays_apart _ = λ e h. never h
+  separated : (k : Kind) → Parted k
+  separated kind.Ident = ident_parted
+  separated kind.Number = number_parted
+  separated kind.Dot = dot_parted
+  separated kind.Colon = colon_parted
+  separated kind.Not = not_parted
+  separated kind.Assign = assign_parted
+  separated kind.Less = less_parted
+  separated kind.Greater = greater_parted
+  separated kind.Slash = slash_parted
+  separated kind.InterpOpen = interp_parted
+  separated kind.ControlOpen = control_parted
+  separated _ = λ e h. never h
 
-  pub joined_apart : neighbours.joins dot u.kind t.kind t.text ≡ true → has_blank before u t ≡ true
-  joined_apart h = stays_apart u.kind refl h
+  pub joined_separated : neighbours.joins dot u.kind t.kind t.text ≡ true → has_blank before u t ≡ true
+  joined_separated h = separated u.kind refl h

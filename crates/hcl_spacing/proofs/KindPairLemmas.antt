@@ -168,6 +168,6 @@ untold l r e =
     let apart = second (is_some (pair_space l r)) (on_samples has_blank l r true (is kind.Ident l)) (ap is_some e) (each (λ r. parts l r) (each (λ l. list_all (λ r. parts l r) kinds) all_part l) r) in
     let close = second (is_some (pair_space l r)) (not (on_samples has_blank l r false true)) (ap is_some e) (each (λ r. joins l r) (each (λ l. list_all (λ r. joins l r) kinds) all_join l) r) in
     record {
-      stays_apart = record { before = before_of l (is kind.Ident l); first = subject_of l true; next = after_of l r true; first_is = refl; next_is = refl; outside = refl; gives = apart };
+      separated = record { before = before_of l (is kind.Ident l); first = subject_of l true; next = after_of l r true; first_is = refl; next_is = refl; outside = refl; gives = apart };
       together = record { before = before_of l true; first = subject_of l false; next = after_of l r false; first_is = refl; next_is = refl; outside = refl; gives = not_true (on_samples has_blank l r false true) close };
     }

@@ -122,5 +122,5 @@ pub record Stand (blank : Bool) (subject after : Kind) : Type 0 where
 
 -- the kinds of two neighbours don't decide: some such tokens have one blank between them, and others none
 pub record AreUndecided (subject after : Kind) : Type 0 where
-  pub stays_apart : Stand true subject after
+  pub separated : Stand true subject after
   pub together : Stand false subject after

@@ -10,7 +10,7 @@ ghost use Rattle.hcl_tokens.specs.declared.token.Kind.TheVariants.{Dot, Newline}
 ghost use Rattle.hcl_spacing.specs.Spacing.{has_blank, follows_kind};
 
 /// Outside heredocs and templates, neighbours are separated if a scan would read them differently side by side.
-pub fn stays_apart()
+pub fn neighbours_are_separated()
     ensures { (before : Option Lexeme) (u t : Lexeme) → Beside u.kind t → t.inside_heredoc ≡ false
         → is_template t.kind ≡ false
         → joins (follows_kind (is Dot) before) u.kind t.kind t.text ≡ true

@@ -10,7 +10,7 @@ use Rattle.hcl_syntax.specs.Inner.Bodies.{PushesBlock}
 use Rattle.hcl_grammar.specs.declared.item.Item.{Item}
 use Rattle.hcl_grammar.specs.declared.item.Item.TheVariants as item
 use Rattle.hcl_grammar.proofs.NumberedLemmas.{number_of}
-use Rattle.hcl_syntax.proofs.FirstPieceLemmas.{take_none, take_zero}
+use Rattle.hcl_syntax.proofs.FirstSegmentLemmas.{take_none, take_zero}
 
 filter_filter : {X : Type 0} (p q : X → Bool) (xs : List X) → filter p (filter q xs) ≡ filter q (filter p xs)
 filter_filter p q [] = refl

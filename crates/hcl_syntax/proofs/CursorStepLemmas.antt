@@ -10,7 +10,7 @@ use Rattle.hcl_grammar.specs.declared.expected.Newlines.{Newlines}
 use Rattle.hcl_grammar.specs.declared.expected.Newlines.TheVariants.{Seen, Dropped}
 use Rattle.hcl_grammar.specs.Classes.{drops}
 use Rattle.hcl_syntax.specs.Inner.Cursors.{past_newlines, first, after_first, Looks}
-use Rattle.hcl_syntax.proofs.LookaheadLemmas.{shown-shown}
+use Rattle.hcl_syntax.proofs.LookaheadLemmas.{past_newlines-twice}
 use Rattle.hcl_grammar.specs.declared.class.Word.{Word}
 use Rattle.hcl_grammar.specs.Grammar.{Symbol, Marked, ◌at◌, Action, ◌then◌, none, nothing, reads, opens, closes, row, ends, the, fits, expr, arg_next, tuple_next, tuple_if, object, object_item, object_next, object_if, group, separator, names, rest, eol, file, body, directive, inside, args, tuple, tuple_item, index, section_directive, labels, row_of}
 use Rattle.hcl_grammar.specs.Predictor.{max_directives, ending, Effect, on, stop, opening_directive, row_effect, effect, next, run}
@@ -329,7 +329,7 @@ bodies-close {A = A} {a = a} (suc n) {old = old} {left = left} {t = t} h l e =
     (beside (eol at Seen ∷ bodies n) (reading {xs = []} (again l) (ap (row_of (the EndBrace) Seen 0) e) done)))
   where
     again : {old : List Lookahead} {t : Lookahead} {ts : List Lookahead} → Looks Seen old t ts → Looks Seen (past_newlines Seen old) t ts
-    again {old = old} l = record { is = sym (past_newlines-past_newlines Seen old) ∙ l.is; kept = l.kept }
+    again {old = old} l = record { is = sym (past_newlines-twice Seen old) ∙ l.is; kept = l.kept }
 
 pub bodies-end : {A : Type 0} (n : ℕ) {ys : List Marked} {old new : List Lookahead} → n ≢ 0 → new ≡ past_newlines Seen old → None ≡ first new → Advances {A = A} 0 (bodies n) old (Err UnexpectedEnd) ys new
 bodies-end zero h s f = absurd (h refl)

@@ -1,4 +1,4 @@
--- A body is shorter than its piece, so more levels than tokens change nothing.
+-- A body is shorter than its segment, so more levels than tokens change nothing.
 use Rattle.std.proofs.Common.{◌≡◌, ◌∙◌, ap, ap₂, sym, refl, ℕ, suc, zero, ◌+◌, ◌≤◌, ◌<◌, Bool, true, false, cond, List, [], ◌∷◌, ◌++◌, length, arith}
 use Rattle.std.specs.Prelude.{◌&&◌, filter, nat_lt}
 use Rattle.std.specs.List.{flat_map}
@@ -10,7 +10,7 @@ use Rattle.hcl_syntax.specs.Inner.Segments.{items_at}
 use Rattle.hcl_grammar.specs.declared.item.Item.{Item}
 use Rattle.hcl_grammar.specs.declared.item.Item.TheVariants as item
 
--- each piece is no longer than a bound
+-- each segment is no longer than a bound
 abbrev pub AllShort : ℕ → List (List Numbered) → Type 0
 AllShort n [] = Unit {0}
 AllShort n (p ∷ ps) = (length p ≤ n) × AllShort n ps
@@ -23,9 +23,9 @@ short_onto : (n : ℕ) (t : Numbered) (ps : List (List Numbered)) → AllShort n
 short_onto n t [] h = (omega arith, tt)
 short_onto n t (p ∷ ps) h = (omega (arith, h.0), short_more n ps h.1)
 
-pub pieces_short : (depth : ℕ) (ts : List Numbered) → AllShort (length ts) (segments depth ts)
-pieces_short depth [] = (omega arith, tt)
-pieces_short depth (t ∷ ts) = by (is Newline t.kind && is_closed depth) (pieces_short (deepen depth t.kind) ts)
+pub segments_short : (depth : ℕ) (ts : List Numbered) → AllShort (length ts) (segments depth ts)
+segments_short depth [] = (omega arith, tt)
+segments_short depth (t ∷ ts) = by (is Newline t.kind && is_closed depth) (segments_short (deepen depth t.kind) ts)
   where
     by : (b : Bool) → AllShort (length ts) (segments (deepen depth t.kind) ts)
         → AllShort (length (t ∷ ts)) (cond b ([] ∷ segments (deepen depth t.kind) ts) (onto t (segments (deepen depth t.kind) ts)))
@@ -51,12 +51,12 @@ filter_short p (x ∷ xs) = by (p x) (filter_short p xs)
 pub body_short : (ts : List Numbered) → length (body ts) ≤ length ts
 body_short ts = omega (arith, filter_short (λ t. nat_lt (t.number + 1) (block_end ts)) (after_brace ts), after_short ts)
 
--- functions that agree on everything shorter than a piece give the same item of it
+-- functions that agree on everything shorter than a segment give the same item of it
 module _ (f g : List Numbered → List Item) (level : ℕ) where
   same_block : (kind : Numbered) (rest : List Numbered) → f (body rest) ≡ g (body rest) → block f level kind rest ≡ block g level kind rest
   same_block kind rest e = ap (λ inner. item.Block level kind.number (block_end rest) ∷ (labels rest ++ inner)) e
 
-  same_item : (piece : List Numbered) → ((ts : List Numbered) → length ts < length piece → f ts ≡ g ts) → item_of f level piece ≡ item_of g level piece
+  same_item : (segment : List Numbered) → ((ts : List Numbered) → length ts < length segment → f ts ≡ g ts) → item_of f level segment ≡ item_of g level segment
   same_item [] h = refl
   same_item (kind ∷ []) h = same_block kind [] (h (body []) (omega arith))
   same_item (name ∷ second ∷ rest) h =
@@ -81,10 +81,10 @@ items_more (suc n) zero level (t ∷ ts) h k = absurd (omega (arith, k))
 items_more (suc n) (suc m) level ts h k =
     same_items (items n (level + 1)) (items m (level + 1)) level (length ts)
     (λ us less. items_more n m (level + 1) us (omega (arith, less, h)) (omega (arith, less, k)))
-    (segments 0 ts) (pieces_short 0 ts)
+    (segments 0 ts) (segments_short 0 ts)
 
--- the items, piece by piece
-pub items_at_pieces : (level : ℕ) (ts : List Numbered) → items_at level ts ≡ flat_map (item_of (items_at (level + 1)) level) (segments 0 ts)
-items_at_pieces level ts =
+-- the items, segment by segment
+pub items_at_segments : (level : ℕ) (ts : List Numbered) → items_at level ts ≡ flat_map (item_of (items_at (level + 1)) level) (segments 0 ts)
+items_at_segments level ts =
     items_more (length ts) (suc (length ts)) level ts (omega arith) (omega arith)
-    ∙ same_items (items (length ts) (level + 1)) (items_at (level + 1)) level (length ts) (λ us less. items_more (length ts) (length us) (level + 1) us (omega (arith, less)) (omega arith)) (segments 0 ts) (pieces_short 0 ts)
+    ∙ same_items (items (length ts) (level + 1)) (items_at (level + 1)) level (length ts) (λ us less. items_more (length ts) (length us) (level + 1) us (omega (arith, less)) (omega arith)) (segments 0 ts) (segments_short 0 ts)

@@ -3,11 +3,11 @@ pub mod CursorStepLemmas
 pub mod RefusalLemmas
 pub mod WordRangeLemmas
 pub mod SoughtLemmas
-pub mod PieceEndLemmas
+pub mod SegmentEndLemmas
 pub mod DeeperLemmas
-pub mod FirstPieceLemmas
+pub mod FirstSegmentLemmas
 pub mod LabelLemmas
 pub mod BlockLemmas
-pub mod ItemPieceLemmas
+pub mod ItemSegmentLemmas
 pub mod OutlineLemmas
 pub mod ShortLemmas

@@ -33,12 +33,12 @@ past_newlines-by : (m : Newlines) (t : Lookahead) (ts : List Lookahead) (b : Boo
 past_newlines-by m t ts true e h = h
 past_newlines-by m t ts false e h = sym (ap (λ b. cond b (past_newlines m ts) (t ∷ ts)) e)
 
-pub past_newlines-past_newlines : (m : Newlines) (ts : List Lookahead) → past_newlines m ts ≡ past_newlines m (past_newlines m ts)
-past_newlines-past_newlines m [] = refl
-past_newlines-past_newlines m (t ∷ ts) = past_newlines-by m t ts (drops m t.class) refl (past_newlines-past_newlines m ts)
+pub past_newlines-twice : (m : Newlines) (ts : List Lookahead) → past_newlines m ts ≡ past_newlines m (past_newlines m ts)
+past_newlines-twice m [] = refl
+past_newlines-twice m (t ∷ ts) = past_newlines-by m t ts (drops m t.class) refl (past_newlines-twice m ts)
 
 pub past_newlines-again : (m : Newlines) (old new : List Lookahead) → new ≡ past_newlines m old → new ≡ past_newlines m new
-past_newlines-again m old new e = e ∙ past_newlines-past_newlines m old ∙ ap (λ l. past_newlines m l) (sym e)
+past_newlines-again m old new e = e ∙ past_newlines-twice m old ∙ ap (λ l. past_newlines m l) (sym e)
 
 -- ---- the tokens after the first that is shown
 

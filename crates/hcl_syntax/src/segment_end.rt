@@ -1,4 +1,4 @@
-//! The ends of pieces: for each place where one can begin, the first newline from there on outside all openers.
+//! The ends of segments: for each place where one can begin, the first newline from there on outside all openers.
 //!
 //! ```text
 //! number    0  1   2   3   4   5   6   7   8   9  10
@@ -6,7 +6,7 @@
 //! ends     10      2   8               8       10      11
 //! ```
 //!
-//! A piece begins with the first token, or after a newline or an opening brace. The numbers of other tokens are never
+//! A segment begins with the first token, or after a newline or an opening brace. The numbers of other tokens are never
 //! used.
 
 ghost use Rattle.std.specs.Prelude.{◌≡◌, ◌≤◌, ◌+◌, ◌++◌, ◌∷◌, ◌||◌, [], ℕ, suc, List, length, get_or, reverse, slice_get, Some, IfOk, if◌then◌else◌};
@@ -102,7 +102,7 @@ fn pass(
     Ok(top)
 }
 
-/// For each place where a piece can begin, the number of the first newline from there on outside all openers, or the
+/// For each place where a segment can begin, the number of the first newline from there on outside all openers, or the
 /// number of tokens. Other places may have any number: to leave them out would take a branch per token.
 pub fn newlines(alloc: Global, tokens: &Tokens<'_>) -> Result<Vec<u32>, AllocError>
     ensures { IfOk result (λ ends. AreEnds tokens.now.tokens ends.items) }

@@ -1,4 +1,4 @@
-//! The items of tokens, appended piece by piece.
+//! The items of tokens, appended segment by segment.
 
 ghost use Rattle.std.specs.Prelude.{◌≡◌, ◌<◌, ◌≤◌, ◌+◌, ◌++◌, length, IfOk, OnOk};
 ghost use Rattle.hcl_source.specs.Load.{max_source};
@@ -13,7 +13,7 @@ use std::alloc::AllocError;
 
 /// The tokens between a block's braces, by the number of the first and one past the last; it may be empty.
 #[derive(Clone, Copy)]
-struct Body {
+struct BlockBody {
     first: u32,
     end: u32,
 }
@@ -64,14 +64,14 @@ fn push_labels(
     Ok(to)
 }
 
-/// Appends a block and its labels. Its kind is the token of this number, and its piece ends before `to`.
+/// Appends a block and its labels. Its kind is the token of this number, and its segment ends before `to`.
 fn push_block_at(
     tokens: &Tokens<'_>,
     level: u32,
     kind: u32,
     to: u32,
     items: &mut Outline,
-) -> Result<Body, AllocError>
+) -> Result<BlockBody, AllocError>
     requires within { to ≤ length tokens.now.tokens }
     requires before { kind < to }
     ensures { IfOk result (PushesBlock tokens.now.tokens level kind to items.old items.new) }
@@ -79,26 +79,26 @@ fn push_block_at(
     let end = block_end(tokens, kind + 1, to);
     items.push_block(level, kind, end)?;
     let first = push_labels(tokens, kind + 1, to, items)?;
-    Ok(Body {
+    Ok(BlockBody {
         first,
         end: end.saturating_sub(1),
     })
 }
 
-/// Appends the item of a piece, except the items of its body.
+/// Appends the item of a segment, except the items of its body.
 fn push_segment(
     tokens: &Tokens<'_>,
     level: u32,
     from: u32,
     to: u32,
     items: &mut Outline,
-) -> Result<Body, AllocError>
+) -> Result<BlockBody, AllocError>
     requires within { to ≤ length tokens.now.tokens }
     requires ordered { from ≤ to }
     ensures { IfOk result (PushesSegment tokens.now.tokens level from to items.old items.new) }
 {
     let Some(name) = first_word(tokens, from, to) else {
-        return Ok(Body { first: to, end: to });
+        return Ok(BlockBody { first: to, end: to });
     };
     let Some(second) = first_word(tokens, name.number + 1, to) else {
         return push_block_at(tokens, level, name.number, to, items);
@@ -108,11 +108,11 @@ fn push_segment(
     }
     let end = words_end(tokens, name.number + 1, to);
     items.push_attribute(level, name.number, second.number + 1, end)?;
-    Ok(Body { first: to, end: to })
+    Ok(BlockBody { first: to, end: to })
 }
 
-/// Appends the items of the tokens from one number to before another. `ends` has, for each place where a piece can
-/// begin, the first newline from there on outside all openers, so that finding the end of a piece looks at no token
+/// Appends the items of the tokens from one number to before another. `ends` has, for each place where a segment can
+/// begin, the first newline from there on outside all openers, so that finding the end of a segment looks at no token
 /// twice.
 pub fn push_items(
     tokens: &Tokens<'_>,

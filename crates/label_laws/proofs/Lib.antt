@@ -1,6 +1,6 @@
 pub mod InnerLemmas
 pub mod TurnLemmas
 pub mod NamePlaceLemmas
-pub mod PieceTurnLemmas
+pub mod SegmentTurnLemmas
 pub mod ReadingLemmas
 pub mod PlainLabelLemmas

@@ -29,23 +29,23 @@ abbrev pub follows_dot : Bool → Kind → Bool
 follows_dot dot k = cond (is_passed_over k) dot (is kind.Dot k)
 
 -- a quote, or an identifier beside no dot
-abbrev pub is_apart : Bool → Kind → List Numbered → Bool
-is_apart dot k rest = is kind.QuoteOpen k || (is kind.Ident k && (not dot && not (begins_dot (significant rest))))
+abbrev pub is_disjoint : Bool → Kind → List Numbered → Bool
+is_disjoint dot k rest = is kind.QuoteOpen k || (is kind.Ident k && (not dot && not (begins_dot (significant rest))))
 
 -- token by token
-abbrev pub apart : Bool → List Numbered → List Bool
-apart dot [] = []
-apart dot (t ∷ ts) = is_apart dot t.kind ts ∷ apart (follows_dot dot t.kind) ts
+abbrev pub disjoint : Bool → List Numbered → List Bool
+disjoint dot [] = []
+disjoint dot (t ∷ ts) = is_disjoint dot t.kind ts ∷ disjoint (follows_dot dot t.kind) ts
 
 abbrev pub first : List Bool → Bool
 first [] = false
 first (b ∷ bs) = b
 
-abbrev pub IsApart : List Numbered → ℕ → Type 0
-IsApart all n = first (drop n (apart false all)) ≡ true
+abbrev pub IsDisjoint : List Numbered → ℕ → Type 0
+IsDisjoint all n = first (drop n (disjoint false all)) ≡ true
 
-pub apart_on : (all : List Numbered) (n : ℕ) (dot : Bool) (t : Numbered) (ts : List Numbered) → drop n (apart false all) ≡ apart dot (t ∷ ts) → drop (n + 1) (apart false all) ≡ apart (follows_dot dot t.kind) ts
-apart_on all n dot t ts e = sym (drop-drop 1 n (apart false all)) ∙ ap (drop 1) e
+pub disjoint_on : (all : List Numbered) (n : ℕ) (dot : Bool) (t : Numbered) (ts : List Numbered) → drop n (disjoint false all) ≡ disjoint dot (t ∷ ts) → drop (n + 1) (disjoint false all) ≡ disjoint (follows_dot dot t.kind) ts
+disjoint_on all n dot t ts e = sym (drop-drop 1 n (disjoint false all)) ∙ ap (drop 1) e
 
 -- ---- which tokens name
 
@@ -118,13 +118,13 @@ no_dot (t ∷ ts) h = by t.kind refl h (no_dot ts)
     by kind.Newline e h rest = absurd (true≢false (sym (sym (ap follows e) ∙ h)))
     by k e h rest = one k e refl (sym (ap follows e) ∙ h)
 
-pub name_apart : (all : List Numbered) (n : ℕ) (dot : Bool) (p : Place) (t : Numbered) (ts : List Numbered) → is_name p t.kind ≡ true → dot ≡ false → (t.kind ≡ kind.Ident → Follows (without_comments ts))
-    → drop n (apart false all) ≡ apart dot (t ∷ ts) → IsApart all n
-name_apart all n dot p t ts e plain next this = ap first this ∙ by (name_kind p t.kind e)
+pub name_disjoint : (all : List Numbered) (n : ℕ) (dot : Bool) (p : Place) (t : Numbered) (ts : List Numbered) → is_name p t.kind ≡ true → dot ≡ false → (t.kind ≡ kind.Ident → Follows (without_comments ts))
+    → drop n (disjoint false all) ≡ disjoint dot (t ∷ ts) → IsDisjoint all n
+name_disjoint all n dot p t ts e plain next this = ap first this ∙ by (name_kind p t.kind e)
   where
-    by : (is kind.QuoteOpen t.kind ≡ true) ⊎ (t.kind ≡ kind.Ident) → is_apart dot t.kind ts ≡ true
+    by : (is kind.QuoteOpen t.kind ≡ true) ⊎ (t.kind ≡ kind.Ident) → is_disjoint dot t.kind ts ≡ true
     by (inl q) = ap (λ b. b || (is kind.Ident t.kind && (not dot && not (begins_dot (significant ts))))) q
-    by (inr i) = ap (λ k. is_apart dot k ts) i ∙ ap (λ b. not b && not (begins_dot (significant ts))) plain ∙ ap not (no_dot ts (next i))
+    by (inr i) = ap (λ k. is_disjoint dot k ts) i ∙ ap (λ b. not b && not (begins_dot (significant ts))) plain ∙ ap not (no_dot ts (next i))
 
 -- ---- a dot is followed by a step
 

@@ -14,7 +14,7 @@ use Rattle.hcl_grammar.specs.declared.item.Item.TheVariants as item
 use Rattle.hcl_grammar.specs.declared.item.Label.{Label}
 use Rattle.hcl_grammar.proofs.ItemOrderLemmas.{Rises, rises_filter, rises_numbered}
 use Rattle.label_laws.proofs.TurnLemmas.{line, depth}
-use Rattle.label_laws.proofs.PieceTurnLemmas.{AllGood, Good, Pieces, cut, items_good}
+use Rattle.label_laws.proofs.SegmentTurnLemmas.{AllGood, Good, Segments, cut, items_good}
 use Rattle.label_laws.proofs.ReadingLemmas.{whole_file}
 
 good_at : (all : List Numbered) (is : List Item) (n : ℕ) (i : Item) → AllGood all is → slice_get is n ≡ Some i → Good all i
@@ -27,7 +27,7 @@ file_good text tokens scans accepted =
     let all = number_tokens tokens in
     let led = whole_file text tokens scans accepted in
     let z : depth (line 0) - 0 ≡ 0 = omega arith in
-    let ps : Pieces all 0 (line 0) (segments 0 (without_comments all)) = subst (λ (n : ℕ). Pieces all 0 (line 0) (segments n (without_comments all))) z (cut all 0 (line 0) (without_comments all) led.0 (omega arith) led.1 led.2) in
+    let ps : Segments all 0 (line 0) (segments 0 (without_comments all)) = subst (λ (n : ℕ). Segments all 0 (line 0) (segments n (without_comments all))) z (cut all 0 (line 0) (without_comments all) led.0 (omega arith) led.1 led.2) in
     let rises : Rises 0 (without_comments all) (0 + length tokens) = rises_filter (λ t. not (is_comment t.kind)) 0 (0 + length tokens) all (rises_numbered 0 tokens) in
     items_good all (length all) 0 0 (line 0) 0 (0 + length tokens) (without_comments all) (inl refl) rises ps
 

@@ -26,9 +26,9 @@ use Rattle.hcl_grammar.proofs.RowLemmas.{owes_all-append}
 use Rattle.hcl_grammar.proofs.MoveLemmas.{EffectMoves, effect-moves}
 use Rattle.hcl_grammar.proofs.BalancedRowLemmas.{counted, groups, shifted}
 use Rattle.label_laws.proofs.InnerLemmas.{AreInner, Passes, inner_ends, inner_passes, landed, newline_passes, stopped}
-use Rattle.label_laws.proofs.NamePlaceLemmas.{Follows, IsApart, apart, apart_on, follows_dot, is_name, name_apart, name_next, step_stays, steps}
+use Rattle.label_laws.proofs.NamePlaceLemmas.{Follows, IsDisjoint, disjoint, disjoint_on, follows_dot, is_name, name_disjoint, name_next, step_stays, steps}
 use Rattle.label_laws.proofs.TurnLemmas.{Place, line, labelled, quoted, written, started, named, single, value, ended, turn}
-use Rattle.label_laws.proofs.PieceTurnLemmas.{Adjoins, Begins, Leads, Stands, Stops, Within, in_quotes}
+use Rattle.label_laws.proofs.SegmentTurnLemmas.{Adjoins, Begins, Leads, Stands, Stops, Within, in_quotes}
 
 -- ---- the place, by the symbols
 
@@ -412,12 +412,12 @@ module _ (all : List Numbered) where
   name_follows p q t (u ∷ us) e turned led i = name_next p q led.1.0 u.kind (sym (ap (λ x. is_name p x) i) ∙ e) (sym (ap (λ x. turn p x) i) ∙ turned) led.1.1
 
   pub lead : (s end : State) (ts : List Lexeme) (p : Place) (ss : List Marked) (count n : ℕ) → scan.Run s ts end → s.opens ≡ owes_all ss → At p ss → run count ss (lookaheads_from n ts) ≡ None → drop n all ≡ numbered_from n ts
-      → (dot : Bool) → (dot ≡ true → steps ss ≡ true) → drop n (apart false all) ≡ apart dot (numbered_from n ts) → Led p (without_comments (numbered_from n ts))
+      → (dot : Bool) → (dot ≡ true → steps ss ≡ true) → drop n (disjoint false all) ≡ disjoint dot (numbered_from n ts) → Led p (without_comments (numbered_from n ts))
   unfolding run
   lead s end [] p ss count n scanned same a accepted here dot stepping beside = (p, refl, stop_there p ss a accepted)
   lead s end (t ∷ ts) p ss count n scanned same a accepted here dot stepping beside =
       by (is_comment t.kind) refl
-      (λ q us later o b c f. lead scanned.0 end ts q us later (n + 1) scanned.2 o b c (there n t ts here) (follows_dot dot t.kind) f (apart_on all n dot it (numbered_from (n + 1) ts) beside))
+      (λ q us later o b c f. lead scanned.0 end ts q us later (n + 1) scanned.2 o b c (there n t ts here) (follows_dot dot t.kind) f (disjoint_on all n dot it (numbered_from (n + 1) ts) beside))
     where
       fits : IsFitting s.opens t.kind
       fits = fitting s t scanned.0 scanned.1
@@ -453,9 +453,9 @@ module _ (all : List Numbered) where
           (here_it, (λ h. absurd (true≢false (sym h ∙ ap (λ x. is_name p x) e ∙ blank_names p))))
           (adjoins p ss o a) (on_ p ss count o a (skipped trivial) (λ d. stepping (sym (ap (λ x. follows_dot dot x) e) ∙ d)))
 
-      named_there : (q : Place) → turn p t.kind ≡ Some q → Led q W → is_name p t.kind ≡ true → IsApart all n
+      named_there : (q : Place) → turn p t.kind ≡ Some q → Led q W → is_name p t.kind ≡ true → IsDisjoint all n
       named_there q turned led e =
-          name_apart all n dot p it (numbered_from (n + 1) ts) e (plain dot stepping) (name_follows p q t.kind W e turned led) beside
+          name_disjoint all n dot p it (numbered_from (n + 1) ts) e (plain dot stepping) (name_follows p q t.kind W e turned led) beside
         where
           plain : (b : Bool) → (b ≡ true → steps ss ≡ true) → b ≡ false
           plain true h = absurd (true≢false (sym (h refl) ∙ name_place p t.kind ss e a))

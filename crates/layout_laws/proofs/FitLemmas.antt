@@ -16,7 +16,7 @@ use Rattle.hcl_spacing.specs.Spacing.{follows_kind, has_blank}
 use Rattle.hcl_layout.specs.Gaps.{blanks}
 use Rattle.hcl_spacing.proofs.SpacingLemmas as rows
 use Rattle.hcl_spacing.proofs.SpacingLemmas.{row_one}
-use Rattle.hcl_spacing.proofs.JoiningLemmas.{joined_apart}
+use Rattle.hcl_spacing.proofs.JoiningLemmas.{joined_separated}
 use Rattle.layout_laws.proofs.PrintGapLemmas.{is_cell, GapFor}
 
 -- ---- one gap, the two tokens before it on the line, and the state of the scan there
@@ -99,12 +99,12 @@ module _ (before u : Option Lexeme) (dot : Bool) (k : Kind) (g : ℕ) (t : Lexem
       zero_after before u t g gap (row_one before u t (λ i. is kind.Newline (n i) || t.inside_heredoc)) (λ i. (is kind.Assign (n i) && not t.inside_heredoc) || (is kind.LineComment (n i) && not t.inside_heredoc))
 
   -- between neighbours that would join
-  apart : (u : Option Lexeme) → Coherent before u dot k → GapFor before u g t → t.inside_heredoc ≡ false → regapped.is_template t.kind ≡ false → g ≡ 0 → neighbours.joins dot k t.kind t.text ≡ true → ⊥
-  apart None c gap e h z j = let x : neighbours.joins dot kind.Newline t.kind t.text ≡ true = subst (λ (y : Kind). neighbours.joins dot y t.kind t.text ≡ true) c j in cc
-  apart (Some u) c (inr x) e h z j = omega (arith, x.0, z)
-  apart (Some u) c (inl x) e h z j =
+  disjoint : (u : Option Lexeme) → Coherent before u dot k → GapFor before u g t → t.inside_heredoc ≡ false → regapped.is_template t.kind ≡ false → g ≡ 0 → neighbours.joins dot k t.kind t.text ≡ true → ⊥
+  disjoint None c gap e h z j = let x : neighbours.joins dot kind.Newline t.kind t.text ≡ true = subst (λ (y : Kind). neighbours.joins dot y t.kind t.text ≡ true) c j in cc
+  disjoint (Some u) c (inr x) e h z j = omega (arith, x.0, z)
+  disjoint (Some u) c (inl x) e h z j =
       let j' : neighbours.joins dot u.kind t.kind t.text ≡ true = subst (λ (y : Kind). neighbours.joins dot y t.kind t.text ≡ true) c.0 j in
-      omega (arith, one_blank before u t (joined_apart before u t dot e c.1 (beside.begins e h) (beside.tilde e) j'), x, z)
+      omega (arith, one_blank before u t (joined_separated before u t dot e c.1 (beside.begins e h) (beside.tilde e) j'), x, z)
 
   pub fits_here : regapped.gap_fits dot k t g ≡ true
   fits_here = by (t.inside_heredoc) refl
@@ -112,7 +112,7 @@ module _ (before u : Option Lexeme) (dot : Bool) (k : Kind) (g : ℕ) (t : Lexem
       outside : t.inside_heredoc ≡ false → (v : Bool) → regapped.is_template t.kind ≡ v → (w : Bool) → is_comment k ≡ w → regapped.gap_fits dot k t g ≡ true
       outside e true h w i = zero_fits (regapped.touches k t) g _ (template_touches k t h) (template_zero u coherent gap e h)
       outside e false h true i = let c = comment_touches k t i in zero_fits (regapped.touches k t) g _ c.0 (comment_zero u coherent gap e c.1)
-      outside e false h false i = free_fits (regapped.touches k t) g _ (free_touches k t i h e) (apart u coherent gap e h)
+      outside e false h false i = free_fits (regapped.touches k t) g _ (free_touches k t i h e) (disjoint u coherent gap e h)
 
       by : (v : Bool) → t.inside_heredoc ≡ v → regapped.gap_fits dot k t g ≡ true
       by true e = zero_fits (regapped.touches k t) g _ (touching k t e) (inside_zero u gap e)

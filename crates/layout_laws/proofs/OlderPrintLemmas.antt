@@ -23,7 +23,7 @@ use Rattle.layout_laws.proofs.OlderScanLemmas.{Apart, Older, colon_colon_is, col
 record Meets (u t : Lexeme) : Type 0 where
   left : is kind.ColonColon u.kind ≡ false
   right : is kind.ColonColon t.kind ≡ false
-  apart : t.inside_heredoc ≡ false → (is kind.Colon u.kind && begins_with_colon t.text) ≡ false
+  disjoint : t.inside_heredoc ≡ false → (is kind.Colon u.kind && begins_with_colon t.text) ≡ false
 
 abbrev rows_after : Option Lexeme → Lexeme → Lexeme → Bool
 rows_after before subject after =
@@ -61,7 +61,7 @@ space_same before u t m = by (is kind.Newline t.kind || t.inside_heredoc) refl
     by : (v : Bool) → (is kind.Newline t.kind || t.inside_heredoc) ≡ v → had_blank before u t ≡ has_blank before u t
     by true h = was_row_one before u t h ∙ sym (row_one before u t h)
     by false h =
-        let n = m.apart (outside (is kind.Newline t.kind) t.inside_heredoc h) in
+        let n = m.disjoint (outside (is kind.Newline t.kind) t.inside_heredoc h) in
         table_same (is kind.Newline t.kind || t.inside_heredoc) (is kind.Ident u.kind && is kind.ParenOpen t.kind) (is kind.Dot u.kind || is kind.Dot t.kind) (rows_after before u t) (would_have_joined before u t) (would_join before u t) (is kind.ColonColon u.kind || is kind.ColonColon t.kind)
         (sym ((λ i. would_have_joined before u t || n i) ∙ or_false (would_have_joined before u t))) (λ i. m.left i || m.right i)
 
@@ -90,13 +90,13 @@ colon_opens_none kind.Colon h e = cc
 colon_opens_none _ h e = cc
 
 meets : (u t : Lexeme) → Beside u.kind t → (u.kind ≢ kind.ColonColon) → (t.kind ≢ kind.ColonColon) → (is kind.Colon u.kind ≡ true → is kind.Colon t.kind ≡ false) → Meets u t
-meets u t beside h k apart = record { left = older_kind u.kind h; right = older_kind t.kind k; apart = λ inside. by inside (is kind.Colon u.kind) refl (begins_with_colon t.text) refl }
+meets u t beside h k disjoint = record { left = older_kind u.kind h; right = older_kind t.kind k; disjoint = λ inside. by inside (is kind.Colon u.kind) refl (begins_with_colon t.text) refl }
   where
     clash : t.inside_heredoc ≡ false → is kind.Colon u.kind ≡ true → begins_with_colon t.text ≡ true → (v : Bool) → is_template t.kind ≡ v → ⊥
     clash inside e f true g = colon_opens_none u.kind e (beside.template inside g)
     clash inside e f false g =
         let c : is_coloned t.kind ≡ true = (says t.kind (get_or t.text 0 0) (beside.begins inside g)).colons (colon_byte t.text f) in
-        let x : true ≡ false = sym (ap (is kind.Colon) (coloned_is t.kind c k)) ∙ apart e in
+        let x : true ≡ false = sym (ap (is kind.Colon) (coloned_is t.kind c k)) ∙ disjoint e in
         cc
 
     by : t.inside_heredoc ≡ false → (a : Bool) → is kind.Colon u.kind ≡ a → (b : Bool) → begins_with_colon t.text ≡ b → (is kind.Colon u.kind && begins_with_colon t.text) ≡ false

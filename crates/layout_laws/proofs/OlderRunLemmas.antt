@@ -358,5 +358,5 @@ parted : (n : ℕ) (ts : List Lexeme) (count : ℕ) (ss : List Marked) → Comes
 parted n [] count ss r p = record { parts_all = tt; front = λ b. refl }
 parted n (t ∷ ts) count ss r p = parted_on n t ts count ss r p (λ later us. parted (n + 1) ts later us) (is_trivia (class_of t)) refl
 
-pub accepted_apart : (ts : List Lexeme) → IsAccepted ts → Apart ts
-accepted_apart ts is = (parted 0 ts 0 (file at Seen ∷ []) (subst (λ (o : Option Refusal). ComesTo 0 (file at Seen ∷ []) (lookaheads ts) o) is (answers 0 (file at Seen ∷ []) (lookaheads ts))) refl).parts_all
+pub accepted_disjoint : (ts : List Lexeme) → IsAccepted ts → Apart ts
+accepted_disjoint ts is = (parted 0 ts 0 (file at Seen ∷ []) (subst (λ (o : Option Refusal). ComesTo 0 (file at Seen ∷ []) (lookaheads ts) o) is (answers 0 (file at Seen ∷ []) (lookaheads ts))) refl).parts_all

@@ -158,10 +158,10 @@ no_gap opens seen tail e = ap (λ l. drop (gap_in opens l) l) e ∙ by (has_gaps
     by true = refl
     by false = refl
 
-module _ (s : State) (t : Lexeme) (next end : State) (ts : List Lexeme) (r : WasRead s t next) (run : WasRun next ts end) (done : IsComplete end) (apart : is kind.Colon t.kind ≡ true → starts_colon ts ≡ false) where
+module _ (s : State) (t : Lexeme) (next end : State) (ts : List Lexeme) (r : WasRead s t next) (run : WasRun next ts end) (done : IsComplete end) (disjoint : is kind.Colon t.kind ≡ true → starts_colon ts ≡ false) where
   -- the earlier tables have read one colon, and the other is next
   not_two : (left : List ℕ) → ahead s ≡ 58 ∷ 58 ∷ left → context s.opens ≡ Expression → length t.text < 2 → ⊥
-  not_two left e c few = by ts run apart
+  not_two left e c few = by ts run disjoint
     where
       whole : t.text ++ r.rest ≡ 58 ∷ 58 ∷ left
       whole = r.longest.whole ∙ e
@@ -182,13 +182,13 @@ module _ (s : State) (t : Lexeme) (next end : State) (ts : List Lexeme) (r : Was
       ahead_is = no_gap next.opens next.seen left seen_is
 
       by : (ts : List Lexeme) → WasRun next ts end → (is kind.Colon t.kind ≡ true → starts_colon ts ≡ false) → ⊥
-      by [] run apart = let e : [] ≡ 58 ∷ left = sym done.0 ∙ ap ahead (sym run) ∙ ahead_is in cc
-      by (u ∷ us) run apart = ⊎_elim reads closes run.1
+      by [] run disjoint = let e : [] ≡ 58 ∷ left = sym done.0 ∙ ap ahead (sym run) ∙ ahead_is in cc
+      by (u ∷ us) run disjoint = ⊎_elim reads closes run.1
         where
           reads : WasRead next u run.0 → ⊥
           reads x =
               let k = was_colon next.opens next.after_dot u.kind u.text x.rest left (ap context opens_same ∙ c) x.longest.spelled (x.longest.whole ∙ ahead_is) in
-              let f : true ≡ false = sym (ap (is kind.Colon) k) ∙ apart (ap (is kind.Colon) colon) in cc
+              let f : true ≡ false = sym (ap (is kind.Colon) k) ∙ disjoint (ap (is kind.Colon) colon) in cc
 
           closes : Closes next u run.0 → ⊥
           closes x = let f : [] ≡ 58 ∷ left = sym x.read ∙ seen_is in cc
@@ -219,12 +219,12 @@ module _ (s : State) (t : Lexeme) (next end : State) (ts : List Lexeme) (r : Was
 
 -- ---- a whole list
 run_too : (ts : List Lexeme) (s end : State) → WasRun s ts end → IsComplete end → Apart ts → Run s ts end
-run_too [] s end run done apart = run
-run_too (t ∷ ts) s end run done apart =
-    (run.0, ⊎_elim (λ r. inl (read_too s t run.0 end ts r run.2 done apart.0)) (λ c. inr c) run.1, run_too ts run.0 end run.2 done apart.1)
+run_too [] s end run done disjoint = run
+run_too (t ∷ ts) s end run done disjoint =
+    (run.0, ⊎_elim (λ r. inl (read_too s t run.0 end ts r run.2 done disjoint.0)) (λ c. inr c) run.1, run_too ts run.0 end run.2 done disjoint.1)
 
 pub scanned_too : (text : List ℕ) (ts : List Lexeme) → WasScanned text ts → Apart ts → Scans text ts
-scanned_too text ts was apart = (was.0, run_too ts (begin text) was.0 was.1 was.2 apart, was.2)
+scanned_too text ts was disjoint = (was.0, run_too ts (begin text) was.0 was.1 was.2 disjoint, was.2)
 
 run_older : (ts : List Lexeme) (s end : State) → WasRun s ts end → Older ts
 run_older [] s end run = tt

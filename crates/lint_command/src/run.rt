@@ -33,7 +33,7 @@ use tree_lint::refusal::tell_faults;
 use tree_lint::run::{RunEnd, run_over, worse_status};
 use tree_lint::written::{Manner, Terminals, Written};
 use tree_words::operands::{operands_in, operands_of, read_names};
-use tree_words::words::{Line, words_of};
+use tree_words::words::{CommandLine, words_of};
 
 static READ_FAILED: &str = "tfrules-all: error: read failed\n";
 
@@ -445,7 +445,7 @@ fn run_request<T: Tree + Drop, R: ByteSource, O: ByteSink, E: ByteSink>(
 /// The whole program for words that are texts, and other words, which are names.
 fn run_line<'w, T: Tree + Drop, R: ByteSource, O: ByteSink, E: ByteSink>(
     alloc: Global,
-    line: Line<'w>,
+    line: CommandLine<'w>,
     terminals: Terminals,
     files: &mut ModuleTree<T>,
     input: &mut R,
@@ -498,7 +498,7 @@ pub fn program<T: Tree + Drop, R: ByteSource, O: ByteSink, E: ByteSink>(
     let Ok(words) = words_of(alloc, "tfrules-all", words) else {
         return streams.tell_out_of_memory(&tree_linter());
     };
-    let line = Line {
+    let line = CommandLine {
         texts: words.texts.as_slice(),
         others: words.others.as_slice(),
     };

@@ -16,18 +16,18 @@ pub(crate) fn without_comment(line: &str) -> &str
 
 /// An option's name and its value, which is empty if it has none.
 #[derive(Clone, Copy, Debug, PartialEq, Eq)]
-pub(crate) struct Cut<'a> {
+pub(crate) struct OptionParts<'a> {
     pub name: &'a str,
     pub value: &'a str,
 }
 
 /// A text that is cut at the first of this character, or these parts if it has none.
-fn cut_or<'a>(c: char, text: &'a str, others: Cut<'a>) -> Cut<'a>
+fn cut_or<'a>(c: char, text: &'a str, others: OptionParts<'a>) -> OptionParts<'a>
     requires { c < 128 }
     ensures { cut_of result ≡ cut_or c text.now (cut_of others.entry) }
 {
     match text.split_once(c) {
-        Some((name, value)) => Cut {
+        Some((name, value)) => OptionParts {
             name: name.trim(),
             value: value.trim(),
         },
@@ -36,10 +36,10 @@ fn cut_or<'a>(c: char, text: &'a str, others: Cut<'a>) -> Cut<'a>
 }
 
 /// The parts of a line.
-pub(crate) fn parts(text: &str) -> Cut<'_>
+pub(crate) fn parts(text: &str) -> OptionParts<'_>
     ensures { cut_of result ≡ parts text.now }
 {
-    let whole = Cut {
+    let whole = OptionParts {
         name: text,
         value: "",
     };

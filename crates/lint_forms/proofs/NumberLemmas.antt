@@ -11,7 +11,7 @@ use Rattle.rule_set.specs.declared.rule.Rule.{Rule}
 use Rattle.rule_set.specs.declared.rule.Rule.TheVariants.{CommentSyntax, DeprecatedIndex, DeprecatedInterpolation, DocumentedOutputs, DocumentedVariables, ModulePinnedSource, ModuleVersion, NamingConvention, TypedVariables, UnusedDeclarations}
 use Rattle.lint_forms.specs.Gitlab.{gitlab_json, quality_json}
 use Rattle.lint_forms.specs.Laws.{HasSmallNumbers}
-use Rattle.lint_forms.specs.Marks.{Entry, entries, entries_after, entry_after}
+use Rattle.lint_forms.specs.Marks.{MarkedRemark, entries, entries_after, entry_after}
 use Rattle.lint_forms.specs.Places.{uri}
 use Rattle.lint_forms.specs.Remarks.{Remark}
 use Rattle.lint_forms.specs.Sarif.{comment_json, location_json, refusal_json, region_json, result_json, rule_index, rule_json, sarif_json}
@@ -47,10 +47,10 @@ issue_numbers r h = ((tt, (tt, (tt, tt))), (tt, (range_numbers r h, (tt, tt))))
 error_numbers : (r : Remark) → HasSmallNumbers r → HasNumbers (error_json r)
 error_numbers r h = (tt, (tt, (range_numbers r h, tt)))
 
-abbrev pub IsSmall : Entry → Type 0
+abbrev pub IsSmall : MarkedRemark → Type 0
 IsSmall e = HasSmallNumbers e.said
 
-quality_numbers : (e : Entry) → IsSmall e → HasNumbers (quality_json e)
+quality_numbers : (e : MarkedRemark) → IsSmall e → HasNumbers (quality_json e)
 quality_numbers e h = (tt, (tt, (tt, (tt, ((tt, ((number_of e.said.line h.line, tt), tt)), tt)))))
 
 index_small : (s : Subject) → rule_index s < 2 ^ 64
@@ -73,7 +73,7 @@ region_numbers r h = (number_of r.line h.line, tt)
 location_numbers : (uri : List ℕ) (r : Remark) → HasSmallNumbers r → HasNumbers (location_json uri r)
 location_numbers uri r h = (((tt, tt), (region_numbers r h, tt)), tt)
 
-result_numbers : (e : Entry) → IsSmall e → HasNumbers (result_json e)
+result_numbers : (e : MarkedRemark) → IsSmall e → HasNumbers (result_json e)
 result_numbers e h =
     (tt, (number_of (rule_index e.said.subject) (index_small e.said.subject), (tt, ((tt, tt), ((location_numbers (uri e.said.file) e.said h, tt), ((tt, (tt, tt)), tt))))))
 
@@ -100,7 +100,7 @@ pub tflint_numbers : (issues refusals : List Remark) → All HasSmallNumbers iss
 tflint_numbers issues refusals h k =
     (items_numbers HasSmallNumbers issue_json issue_numbers issues h, (items_numbers HasSmallNumbers error_json error_numbers refusals k, tt))
 
-pub gitlab_numbers : (es : List Entry) → All IsSmall es → HasNumbers (gitlab_json es)
+pub gitlab_numbers : (es : List MarkedRemark) → All IsSmall es → HasNumbers (gitlab_json es)
 gitlab_numbers es h = items_numbers IsSmall quality_json quality_numbers es h
 
 rule_numbers : (rule : Rule) → HasNumbers (rule_json rule)
@@ -110,7 +110,7 @@ described_numbers : (rules : List Rule) → ItemsHaveNumbers (json_items (map ru
 described_numbers [] = ((tt, ((tt, tt), ((tt, tt), tt))), ((tt, ((tt, tt), ((tt, tt), tt))), tt))
 described_numbers (rule ∷ rules) = (rule_numbers rule, described_numbers rules)
 
-pub sarif_numbers : (version : List ℕ) (status : ℕ) (es : List Entry) → status < 2 ^ 64 → All IsSmall es → HasNumbers (sarif_json version status es)
+pub sarif_numbers : (version : List ℕ) (status : ℕ) (es : List MarkedRemark) → status < 2 ^ 64 → All IsSmall es → HasNumbers (sarif_json version status es)
 sarif_numbers version status es small h = (
   tt,
   (
@@ -137,8 +137,8 @@ described_shallow (rule ∷ rules) = omega (arith, described_shallow rules)
 pub tflint_shallow : (issues refusals : List Remark) → depth (tflint_json issues refusals) ≤ 128
 tflint_shallow issues refusals = omega (arith, items_shallow issue_json 3 (λ r. omega arith) issues, items_shallow error_json 3 (λ r. omega arith) refusals)
 
-pub gitlab_shallow : (es : List Entry) → depth (gitlab_json es) ≤ 128
+pub gitlab_shallow : (es : List MarkedRemark) → depth (gitlab_json es) ≤ 128
 gitlab_shallow es = omega (arith, items_shallow quality_json 3 (λ e. omega arith) es)
 
-pub sarif_shallow : (version : List ℕ) (status : ℕ) (es : List Entry) → depth (sarif_json version status es) ≤ 128
+pub sarif_shallow : (version : List ℕ) (status : ℕ) (es : List MarkedRemark) → depth (sarif_json version status es) ≤ 128
 sarif_shallow version status es = omega (arith, described_shallow all_rules, items_shallow result_json 5 (λ e. omega arith) es)

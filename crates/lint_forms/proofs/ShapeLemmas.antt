@@ -11,7 +11,7 @@ use Rattle.lint_forms.specs.Remarks.{Remark}
 use Rattle.lint_forms.specs.Sarif.{result_by, result_json, rule_index}
 use Rattle.lint_forms.specs.Tflint.{error_json, issue_json}
 use Rattle.lint_forms.specs.Words.{level_word, quality_word, rule_id}
-use Rattle.lint_forms.specs.declared.entry.Entry as code
+use Rattle.lint_forms.specs.declared.entry.MarkedRemark as code
 use Rattle.lint_forms.specs.declared.shape.Shape.{Shape}
 use Rattle.lint_forms.specs.declared.shape.Shape.TheVariants as shape
 use Rattle.lint_forms.proofs.NumberingLemmas.{said_again}
@@ -43,10 +43,10 @@ result_tokens r m u k e f = λ i. json_tokens (result_by (rule_id r.subject) (ru
 
 -- ---- all of them
 
-pub all_shown : (s : Shape) (es : List code.Entry) (rs : List Remark) → map entry_by es ≡ entries rs → flat_map (shape_values s) es ≡ map (shape_json s) (entries rs)
+pub all_shown : (s : Shape) (es : List code.MarkedRemark) (rs : List Remark) → map entry_by es ≡ entries rs → flat_map (shape_values s) es ≡ map (shape_json s) (entries rs)
 all_shown s es rs is = flat_map_single (λ e. shape_json s (entry_by e)) es ∙ fused es ∙ ap (map (shape_json s)) is
   where
-    fused : (es : List code.Entry) → map (λ e. shape_json s (entry_by e)) es ≡ map (shape_json s) (map entry_by es)
+    fused : (es : List code.MarkedRemark) → map (λ e. shape_json s (entry_by e)) es ≡ map (shape_json s) (map entry_by es)
     fused [] = refl
     fused (e ∷ es) = ap (λ l. shape_json s (entry_by e) ∷ l) (fused es)
 

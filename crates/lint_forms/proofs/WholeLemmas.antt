@@ -14,7 +14,7 @@ use Rattle.json.proofs.Printed.Trees.{document-print}
 use Rattle.lint_forms.specs.Forms.{form_foot, form_head, is_some, module_text, modules_text, tflint_foot, run_text}
 use Rattle.lint_forms.specs.Gitlab.{gitlab_json, quality_json}
 use Rattle.lint_forms.specs.Laws.{HasSmallNumbers}
-use Rattle.lint_forms.specs.Marks.{Entry, entries}
+use Rattle.lint_forms.specs.Marks.{MarkedRemark, entries}
 use Rattle.lint_forms.specs.Remarks.{Remark}
 use Rattle.lint_forms.specs.Sarif.{invocation_json, result_json, sarif_foot, sarif_head, sarif_json, tool_json}
 use Rattle.lint_forms.specs.Tflint.{error_json, issue_json, tflint_json}
@@ -111,7 +111,7 @@ tflint_back version status ms rs low small less =
 
 -- ---- values of modules and of refusals
 
-joined : (f : Entry → Json) (ms : List (List Remark)) (rs : List Remark) (before end : List ℕ)
+joined : (f : MarkedRemark → Json) (ms : List (List Remark)) (rs : List Remark) (before end : List ℕ)
     → before ++ (array_text false (map f (flat_map entries ms ++ entries rs)) ++ end)
     ≡ before ++ (array_text false (flat_map (λ issues. map f (entries issues)) ms) ++ (array_text (has_values (flat_map (λ issues. map f (entries issues)) ms)) (map f (entries rs)) ++ end))
 joined f ms rs before end =
@@ -122,7 +122,7 @@ joined f ms rs before end =
 
 -- ---- GitLab
 
-gitlab_parts : (es : List Entry) → print (json_tokens (gitlab_json es)) ≡ print (begin_array ∷ []) ++ (array_text false (map quality_json es) ++ print (end_array ∷ []))
+gitlab_parts : (es : List MarkedRemark) → print (json_tokens (gitlab_json es)) ≡ print (begin_array ∷ []) ++ (array_text false (map quality_json es) ++ print (end_array ∷ []))
 gitlab_parts es =
     ap (λ l. print (begin_array ∷ l)) (sym (append-nil (items_tokens (json_items (map quality_json es))))) ∙ print-array (begin_array ∷ []) (map quality_json es) [] refl
 
@@ -158,7 +158,7 @@ split tool results status =
     ∙ ap (λ l. tool ++ middle l) (append_assoc results (in_run status) (end_array ∷ end_object ∷ []))
     ∙ sym (append_assoc tool (middle []) (results ++ later_of status))
 
-sarif_parts : (version : List ℕ) (status : ℕ) (es : List Entry)
+sarif_parts : (version : List ℕ) (status : ℕ) (es : List MarkedRemark)
     → print (json_tokens (sarif_json version status es)) ≡ print (sarif_head version) ++ (array_text false (map result_json es) ++ print (sarif_foot status))
 sarif_parts version status es =
     let results = map result_json es in

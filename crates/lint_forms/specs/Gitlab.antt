@@ -1,7 +1,7 @@
 -- The report of GitLab's code quality.
 use Rattle.std.specs.Prelude.{List, ℕ, codes, decimal, map}
 use Rattle.json.specs.Json.{Json, array, member, no_members, number, object, string}
-use Rattle.lint_forms.specs.Marks.{Entry}
+use Rattle.lint_forms.specs.Marks.{MarkedRemark}
 use Rattle.lint_forms.specs.Remarks.{Remark}
 use Rattle.lint_forms.specs.Values.{json_items}
 use Rattle.lint_forms.specs.Words.{quality_word, rule_id}
@@ -12,7 +12,7 @@ spot_json r =
     "begin") (number (decimal r.line)) no_members)) no_members))
 
 -- an entry by a rule of this name and severity
-abbrev pub quality_by : List ℕ → List ℕ → Entry → Json
+abbrev pub quality_by : List ℕ → List ℕ → MarkedRemark → Json
 quality_by name severity e =
     object (member (codes "description") (string e.said.text) (member (codes "check_name") (string
     name) (member (codes "fingerprint") (string e.mark)
@@ -20,9 +20,9 @@ quality_by name severity e =
     (member (codes "location") (spot_json e.said) no_members)))))
 
 -- AN ENTRY
-abbrev pub quality_json : Entry → Json
+abbrev pub quality_json : MarkedRemark → Json
 quality_json e = quality_by (rule_id e.said.subject) (quality_word e.said.subject) e
 
 -- THE DOCUMENT of the remarks on all modules
-abbrev pub gitlab_json : List Entry → Json
+abbrev pub gitlab_json : List MarkedRemark → Json
 gitlab_json es = array (json_items (map quality_json es))

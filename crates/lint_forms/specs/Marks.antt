@@ -18,22 +18,22 @@ abbrev pub mark : List ℕ → ℕ → List ℕ
 mark digits number = digits ++ (codes ":" ++ decimal number)
 
 -- a remark, and its mark
-pub record Entry : Type 0 where
+pub record MarkedRemark : Type 0 where
   pub said : Remark
   pub mark : List ℕ
 
 -- a remark after others
-abbrev pub entry_after : List Remark → Remark → Entry
+abbrev pub entry_after : List Remark → Remark → MarkedRemark
 entry_after before r =
     record {
       said = r;
       mark = mark (digits r) (count_by (λ q. bytes_eq (digits r) (digits q)) before + 1);
     }
 
-abbrev pub entries_after : List Remark → List Remark → List Entry
+abbrev pub entries_after : List Remark → List Remark → List MarkedRemark
 entries_after before [] = []
 entries_after before (r ∷ rs) = entry_after before r ∷ entries_after (before ++ r ∷ []) rs
 
 -- THE REMARKS of a module, each with its mark
-abbrev pub entries : List Remark → List Entry
+abbrev pub entries : List Remark → List MarkedRemark
 entries rs = entries_after [] rs

@@ -7,7 +7,7 @@ use Rattle.json.specs.Token.{Token, begin_array, begin_object, end_array, end_ob
 use Rattle.json.specs.Tree.{json_tokens}
 use Rattle.rule_set.specs.Rules.{all_rules, rank, rule_name}
 use Rattle.rule_set.specs.declared.rule.Rule.{Rule}
-use Rattle.lint_forms.specs.Marks.{Entry}
+use Rattle.lint_forms.specs.Marks.{MarkedRemark}
 use Rattle.lint_forms.specs.Places.{uri}
 use Rattle.lint_forms.specs.Remarks.{Remark}
 use Rattle.lint_forms.specs.RuleTexts.{reason, reports}
@@ -87,7 +87,7 @@ marks_json mark =
     (string mark) no_members))
 
 -- a result by a rule of this name, number and level, in the file of this URI
-abbrev pub result_by : List ℕ → ℕ → List ℕ → List ℕ → Entry → Json
+abbrev pub result_by : List ℕ → ℕ → List ℕ → List ℕ → MarkedRemark → Json
 result_by name index level uri e =
     object (member (codes "ruleId") (string name) (member (codes "ruleIndex") (number (decimal
     index)) (member (codes "level") (string level)
@@ -96,7 +96,7 @@ result_by name index level uri e =
     (member (codes "partialFingerprints") (marks_json e.mark) no_members))))))
 
 -- A RESULT
-abbrev pub result_json : Entry → Json
+abbrev pub result_json : MarkedRemark → Json
 result_json e =
     result_by (rule_id e.said.subject) (rule_index e.said.subject) (level_word e.said.subject)
     (uri e.said.file) e
@@ -116,14 +116,14 @@ invocation_json status =
     object (member (codes "executionSuccessful") (boolean (not (status == 1))) (member (codes
     "exitCode") (number (decimal status)) no_members))
 
-abbrev pub run_json : List ℕ → ℕ → List Entry → Json
+abbrev pub run_json : List ℕ → ℕ → List MarkedRemark → Json
 run_json version status es =
     object (member (codes "tool") (tool_json version) (member (codes "results") (array (json_items
     (map result_json es)))
     (member (codes "invocations") (array (item (invocation_json status) no_items)) no_members)))
 
 -- THE DOCUMENT of the remarks on all modules, by the program of a version in a run of a status
-abbrev pub sarif_json : List ℕ → ℕ → List Entry → Json
+abbrev pub sarif_json : List ℕ → ℕ → List MarkedRemark → Json
 sarif_json version status es =
     object (member (codes "$schema") (string (codes
     "https://json.schemastore.org/sarif-2.1.0.json"))

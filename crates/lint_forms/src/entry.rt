@@ -15,7 +15,7 @@ use std::collections::BTreeMap;
 
 /// A remark and its mark.
 #[derive(Drop)]
-pub(crate) struct Entry<'a> {
+pub(crate) struct MarkedRemark<'a> {
     pub said: Remark<'a>,
     pub mark: String,
 }
@@ -65,7 +65,7 @@ fn add<'a>(
     alloc: Global,
     remark: Remark<'a>,
     times: &mut Times,
-    all: &mut Vec<Entry<'a>>,
+    all: &mut Vec<MarkedRemark<'a>>,
 ) -> Result<(), AllocError>
     ensures counted { OnOk result (OnceMore times.old times.new (digits (said_by remark.entry))) }
     ensures added { OnOk result (map entry_by all.new.items ≡ map entry_by all.old.items
@@ -79,7 +79,7 @@ fn add<'a>(
     let own = digits.clone()?;
     let number = count(times, own)?;
     let mark = mark_of(alloc, digits.as_str(), number)?;
-    match all.push(Entry { said: remark, mark }) {
+    match all.push(MarkedRemark { said: remark, mark }) {
         Ok(()) => Ok(()),
         Err(_) => Err(AllocError),
     }
@@ -89,7 +89,7 @@ fn add<'a>(
 pub(crate) fn entries_of<'a>(
     alloc: Global,
     remarks: &[Remark<'a>],
-) -> Result<Vec<Entry<'a>>, AllocError>
+) -> Result<Vec<MarkedRemark<'a>>, AllocError>
     ensures { IfOk result (λ all. map entry_by all.items ≡ entries (map said_by remarks.now)) }
 {
     let mut times = BTreeMap::new(alloc);

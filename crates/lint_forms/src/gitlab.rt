@@ -7,14 +7,14 @@ ghost use Rattle.lint_forms.specs.Gitlab.{quality_json};
 ghost use Rattle.lint_forms.specs.Inner.Shapes.{entry_by};
 ghost use Rattle.lint_forms.specs.Values.{json_text};
 
-use crate::entry::Entry;
+use crate::entry::MarkedRemark;
 use crate::part::JsonPart;
 use crate::parts::with_parts;
 use crate::words::{quality_word, rule_id};
 use std::alloc::{AllocError, Global};
 
 /// A text with an entry appended.
-pub(crate) fn with_entry(text: Vec<u8>, entry: &Entry<'_>) -> Result<Vec<u8>, AllocError>
+pub(crate) fn with_entry(text: Vec<u8>, entry: &MarkedRemark<'_>) -> Result<Vec<u8>, AllocError>
     ensures { IfOk result (λ l. l.items
         ≡ text.items ++ json_text (quality_json (entry_by entry.now))) }
 {

@@ -12,7 +12,7 @@ ghost use Rattle.lint_forms.specs.Sarif.{brief_rule, described_rule, full_text, 
 ghost use Rattle.lint_forms.specs.Values.{json_text};
 ghost use Rattle.lint_forms.specs.Words.{level_word, rule_id};
 
-use crate::entry::Entry;
+use crate::entry::MarkedRemark;
 use crate::part::JsonPart;
 use crate::parts::{with_parts, write_parts};
 use crate::places::uri_of;
@@ -99,7 +99,7 @@ fn with_marked<'a>(
 pub(crate) fn with_result(
     alloc: Global,
     text: Vec<u8>,
-    entry: &Entry<'_>,
+    entry: &MarkedRemark<'_>,
 ) -> Result<Vec<u8>, AllocError>
     ensures { IfOk result (λ l. l.items
         ≡ text.items ++ json_text (result_json (entry_by entry.now))) }

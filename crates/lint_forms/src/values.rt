@@ -6,7 +6,7 @@ ghost use Rattle.lint_forms.specs.Marks.{entries};
 ghost use Rattle.lint_forms.specs.Remarks.{said_by};
 ghost use Rattle.lint_forms.specs.Values.{array_text, comma};
 
-use crate::entry::{Entry, entries_of};
+use crate::entry::{MarkedRemark, entries_of};
 use crate::gitlab::with_entry;
 use crate::remark::Remark;
 use crate::sarif::with_result;
@@ -19,7 +19,7 @@ fn with_value(
     alloc: Global,
     shape: Shape,
     text: Vec<u8>,
-    entry: &Entry<'_>,
+    entry: &MarkedRemark<'_>,
 ) -> Result<Vec<u8>, AllocError>
     ensures { IfOk result (λ l. l.items ≡ text.items ++ entry_text shape entry.now) }
 {
@@ -47,7 +47,7 @@ fn with_next(
     shape: Shape,
     is_after: bool,
     text: Vec<u8>,
-    entry: &Entry<'_>,
+    entry: &MarkedRemark<'_>,
 ) -> Result<Vec<u8>, AllocError>
     ensures { IfOk result (λ l. l.items ≡ text.items ++ shape_text shape is_after entry.now) }
 {
@@ -61,7 +61,7 @@ fn with_values(
     shape: Shape,
     is_after: bool,
     text: Vec<u8>,
-    entries: &[Entry<'_>],
+    entries: &[MarkedRemark<'_>],
 ) -> Result<Vec<u8>, AllocError>
     ensures { IfOk result (λ l. l.items ≡ text.items ++ shapes_text shape is_after entries.now) }
 {

@@ -1,73 +1,73 @@
 //! Whole runs of the program that check comments.
 
 use crate::programs::{Row, shows};
-use tree_devices::entry::{Entry, Stands};
+use tree_devices::entry::{MemoryEntry, Stands};
 
 /// Modules with comments that are meant to silence a rule.
-static ENTRIES: &[Entry<'static>] = &[
-    Entry {
+static ENTRIES: &[MemoryEntry<'static>] = &[
+    MemoryEntry {
         name: b"",
         stands: Stands::Folder,
     },
-    Entry {
+    MemoryEntry {
         name: b"c",
         stands: Stands::Folder,
     },
-    Entry {
+    MemoryEntry {
         name: b"c/a.tf",
         stands: Stands::File(
             b"# tflint-ignore: aws_x, terraform_typed_variables,aws_y # x\nvariable \"x\" {}\n",
         ),
     },
-    Entry {
+    MemoryEntry {
         name: b"c/b.tf",
         stands: Stands::File(
             b"output \"y\" {\n  value = \"\xc3\xa9${var.x}\" # tflint-ignore:\n}\n/* tflint-ignore: no */\n# tflint-ignore: all\n",
         ),
     },
-    Entry {
+    MemoryEntry {
         name: b"c/c.tf",
         stands: Stands::File(
             b"// tflint-ignore-file: all\noutput \"h\" {\n  value = <<E\n# tflint-ignore: inside\nE\n}\n",
         ),
     },
-    Entry {
+    MemoryEntry {
         name: b"d",
         stands: Stands::Folder,
     },
-    Entry {
+    MemoryEntry {
         name: b"d/a.tf",
         stands: Stands::File(b"# tflint-ignore: q\n"),
     },
-    Entry {
+    MemoryEntry {
         name: b"d/b.tf",
         stands: Stands::File(b"x = \n"),
     },
-    Entry {
+    MemoryEntry {
         name: b"e",
         stands: Stands::Folder,
     },
-    Entry {
+    MemoryEntry {
         name: b"e/.tfrules",
         stands: Stands::File(b"--check-comments\n--force\n"),
     },
-    Entry {
+    MemoryEntry {
         name: b"e/\"\n.tf",
         stands: Stands::File(b"# tflint-ignore: \x1b[2J\"\n"),
     },
-    Entry {
+    MemoryEntry {
         name: b"f",
         stands: Stands::Folder,
     },
-    Entry {
+    MemoryEntry {
         name: b"f/main.tf",
         stands: Stands::File(b"variable \"z\" {} # tflint-ignore: b\n"),
     },
-    Entry {
+    MemoryEntry {
         name: b"g",
         stands: Stands::Folder,
     },
-    Entry {
+    MemoryEntry {
         name: b"g/main.tf",
         stands: Stands::File(b"locals {} # tflint-ignore: g\n"),
     },

@@ -8,7 +8,7 @@ use std::alloc::{AllocError, Global};
 use std::process::Abort;
 use tfrules_command::Hashing;
 use tree_devices::calls::{Calls, Failures, STEADY, Step};
-use tree_devices::entry::{Entry, Stands};
+use tree_devices::entry::{MemoryEntry, Stands};
 use tree_devices::memory_tree::MemoryTree;
 use tree_lint::module_tree::ModuleTree;
 
@@ -26,7 +26,7 @@ const FOLDER: Stands<'static> = Stands::Folder;
 /// A run over a tree, and its output.
 struct Row {
     /// The entries beside two modules.
-    entries: &'static [Entry<'static>],
+    entries: &'static [MemoryEntry<'static>],
     words: Words,
     /// How many issues are found in the modules that are linted, and the other messages.
     err: &'static [u8],
@@ -34,24 +34,24 @@ struct Row {
 }
 
 /// Two modules, one in the folder of the other.
-static MODULES: [Entry<'static>; 5] = [
-    Entry {
+static MODULES: [MemoryEntry<'static>; 5] = [
+    MemoryEntry {
         name: b"",
         stands: FOLDER,
     },
-    Entry {
+    MemoryEntry {
         name: b"a",
         stands: FOLDER,
     },
-    Entry {
+    MemoryEntry {
         name: b"a/main.tf",
         stands: Stands::File(FILE),
     },
-    Entry {
+    MemoryEntry {
         name: b"a/b",
         stands: FOLDER,
     },
-    Entry {
+    MemoryEntry {
         name: b"a/b/main.tf",
         stands: Stands::File(FILE),
     },
@@ -67,7 +67,7 @@ static ROWS: [Row; 25] = [
     },
     // The nearest file governs, in the folder of a module or above it.
     Row {
-        entries: &[Entry {
+        entries: &[MemoryEntry {
             name: b"a/.tfrules",
             stands: Stands::File(b"--rules terraform_typed_variables\n"),
         }],
@@ -77,11 +77,11 @@ static ROWS: [Row; 25] = [
     },
     Row {
         entries: &[
-            Entry {
+            MemoryEntry {
                 name: b"a/.tfrules",
                 stands: Stands::File(b"--rules terraform_typed_variables\n"),
             },
-            Entry {
+            MemoryEntry {
                 name: b"a/b/.tfrules",
                 stands: Stands::File(b"--force\n"),
             },
@@ -91,7 +91,7 @@ static ROWS: [Row; 25] = [
         status: 2,
     },
     Row {
-        entries: &[Entry {
+        entries: &[MemoryEntry {
             name: b".tfrules",
             stands: Stands::File(b"--force\n"),
         }],
@@ -102,11 +102,11 @@ static ROWS: [Row; 25] = [
     // Up to the top of the repository, and no further.
     Row {
         entries: &[
-            Entry {
+            MemoryEntry {
                 name: b"a/.tfrules",
                 stands: Stands::File(b"--rules terraform_typed_variables\n"),
             },
-            Entry {
+            MemoryEntry {
                 name: b"a/b/.git",
                 stands: FOLDER,
             },
@@ -117,11 +117,11 @@ static ROWS: [Row; 25] = [
     },
     Row {
         entries: &[
-            Entry {
+            MemoryEntry {
                 name: b"a/b/.tfrules",
                 stands: Stands::File(b"--rules terraform_typed_variables\n"),
             },
-            Entry {
+            MemoryEntry {
                 name: b"a/b/.git",
                 stands: Stands::Link(b"nowhere"),
             },
@@ -133,11 +133,11 @@ static ROWS: [Row; 25] = [
     // The top may be above the current folder.
     Row {
         entries: &[
-            Entry {
+            MemoryEntry {
                 name: b"/r/.tfrules",
                 stands: Stands::File(b"--force\n"),
             },
-            Entry {
+            MemoryEntry {
                 name: b"/r/.git",
                 stands: FOLDER,
             },
@@ -148,7 +148,7 @@ static ROWS: [Row; 25] = [
     },
     // Outside a repository no file above the current folder governs.
     Row {
-        entries: &[Entry {
+        entries: &[MemoryEntry {
             name: b"/r/.tfrules",
             stands: Stands::File(b"--force\n"),
         }],
@@ -158,11 +158,11 @@ static ROWS: [Row; 25] = [
     },
     Row {
         entries: &[
-            Entry {
+            MemoryEntry {
                 name: b"/r/.tfrules",
                 stands: Stands::File(b"--bogus\n"),
             },
-            Entry {
+            MemoryEntry {
                 name: b".tfrules",
                 stands: Stands::File(b"--rules terraform_typed_variables\n"),
             },
@@ -174,19 +174,19 @@ static ROWS: [Row; 25] = [
     // A module elsewhere has the file of its own folder.
     Row {
         entries: &[
-            Entry {
+            MemoryEntry {
                 name: b"/e",
                 stands: FOLDER,
             },
-            Entry {
+            MemoryEntry {
                 name: b"/e/.tfrules",
                 stands: Stands::File(b"--bogus\n"),
             },
-            Entry {
+            MemoryEntry {
                 name: b"/e/m",
                 stands: FOLDER,
             },
-            Entry {
+            MemoryEntry {
                 name: b"/e/m/main.tf",
                 stands: Stands::File(FILE),
             },
@@ -197,15 +197,15 @@ static ROWS: [Row; 25] = [
     },
     Row {
         entries: &[
-            Entry {
+            MemoryEntry {
                 name: b"/e",
                 stands: FOLDER,
             },
-            Entry {
+            MemoryEntry {
                 name: b"/e/.tfrules",
                 stands: Stands::File(b"--force\n"),
             },
-            Entry {
+            MemoryEntry {
                 name: b"/e/main.tf",
                 stands: Stands::File(FILE),
             },
@@ -216,7 +216,7 @@ static ROWS: [Row; 25] = [
     },
     // No file is read if the words ask for that.
     Row {
-        entries: &[Entry {
+        entries: &[MemoryEntry {
             name: b"a/.tfrules",
             stands: Stands::File(b"--bogus\n"),
         }],
@@ -226,7 +226,7 @@ static ROWS: [Row; 25] = [
     },
     // The line takes precedence over the file, option by option.
     Row {
-        entries: &[Entry {
+        entries: &[MemoryEntry {
             name: b"a/.tfrules",
             stands: Stands::File(b"--rules terraform_typed_variables\n--force\n"),
         }],
@@ -241,7 +241,7 @@ static ROWS: [Row; 25] = [
     },
     // A bad line is reported once, and the modules of its file are not linted.
     Row {
-        entries: &[Entry {
+        entries: &[MemoryEntry {
             name: b"a/.tfrules",
             stands: Stands::File(b"--force\n--bogus\n"),
         }],
@@ -250,7 +250,7 @@ static ROWS: [Row; 25] = [
         status: 1,
     },
     Row {
-        entries: &[Entry {
+        entries: &[MemoryEntry {
             name: b"a/b/.tfrules",
             stands: Stands::File(b"--force\n--force\n--naming x"),
         }],
@@ -259,7 +259,7 @@ static ROWS: [Row; 25] = [
         status: 1,
     },
     Row {
-        entries: &[Entry {
+        entries: &[MemoryEntry {
             name: b"a/b/.tfrules",
             stands: Stands::File(b"--bogus"),
         }],
@@ -269,11 +269,11 @@ static ROWS: [Row; 25] = [
     },
     Row {
         entries: &[
-            Entry {
+            MemoryEntry {
                 name: b"/r/.tfrules",
                 stands: Stands::File(b"--bogus"),
             },
-            Entry {
+            MemoryEntry {
                 name: b"/r/.git",
                 stands: FOLDER,
             },
@@ -285,11 +285,11 @@ static ROWS: [Row; 25] = [
     // A folder without modules needs no options.
     Row {
         entries: &[
-            Entry {
+            MemoryEntry {
                 name: b"n",
                 stands: FOLDER,
             },
-            Entry {
+            MemoryEntry {
                 name: b"n/.tfrules",
                 stands: Stands::File(b"--bogus\n"),
             },
@@ -300,7 +300,7 @@ static ROWS: [Row; 25] = [
     },
     // An entry that is no file governs too, and is reported.
     Row {
-        entries: &[Entry {
+        entries: &[MemoryEntry {
             name: b"a/b/.tfrules",
             stands: FOLDER,
         }],
@@ -309,7 +309,7 @@ static ROWS: [Row; 25] = [
         status: 1,
     },
     Row {
-        entries: &[Entry {
+        entries: &[MemoryEntry {
             name: b"a/b/.tfrules",
             stands: Stands::Link(b"nowhere"),
         }],
@@ -318,7 +318,7 @@ static ROWS: [Row; 25] = [
         status: 1,
     },
     Row {
-        entries: &[Entry {
+        entries: &[MemoryEntry {
             name: b"a/b/.tfrules",
             stands: Stands::Pipe,
         }],
@@ -329,11 +329,11 @@ static ROWS: [Row; 25] = [
     // A link to a file is a file.
     Row {
         entries: &[
-            Entry {
+            MemoryEntry {
                 name: b"o",
                 stands: Stands::File(b"--force"),
             },
-            Entry {
+            MemoryEntry {
                 name: b"a/b/.tfrules",
                 stands: Stands::Link(b"o"),
             },
@@ -344,7 +344,7 @@ static ROWS: [Row; 25] = [
     },
     // An entry that isn't text is reported with its place.
     Row {
-        entries: &[Entry {
+        entries: &[MemoryEntry {
             name: b"a/b/.tfrules",
             stands: Stands::File(b"--force\n\xff"),
         }],
@@ -353,7 +353,7 @@ static ROWS: [Row; 25] = [
         status: 1,
     },
     Row {
-        entries: &[Entry {
+        entries: &[MemoryEntry {
             name: b"a/b/.tfrules",
             stands: Stands::File(b"\xef\xbb\xbf--force"),
         }],
@@ -362,7 +362,7 @@ static ROWS: [Row; 25] = [
         status: 1,
     },
     Row {
-        entries: &[Entry {
+        entries: &[MemoryEntry {
             name: b"a/b/.tfrules",
             stands: Stands::File(b"--force\0"),
         }],
@@ -382,7 +382,7 @@ fn fails_a_search(calls: &Calls) -> bool {
 }
 
 /// Both modules, and the entries beside them.
-fn all_of<'a>(alloc: Global, entries: &[Entry<'a>]) -> Result<Vec<Entry<'a>>, AllocError> {
+fn all_of<'a>(alloc: Global, entries: &[MemoryEntry<'a>]) -> Result<Vec<MemoryEntry<'a>>, AllocError> {
     let mut all = Vec::new(alloc);
     all.extend_from_slice(&MODULES)?;
     all.extend_from_slice(entries)?;
@@ -393,7 +393,7 @@ fn all_of<'a>(alloc: Global, entries: &[Entry<'a>]) -> Result<Vec<Entry<'a>>, Al
 fn run(
     rt: &impl Abort,
     alloc: Global,
-    entries: &[Entry<'_>],
+    entries: &[MemoryEntry<'_>],
     words: &[&[u8]],
     failures: Failures,
 ) -> (MemorySink, u8, bool) {
@@ -433,7 +433,7 @@ fn a_large_file_is_told(rt: HostRuntime) {
     for _ in 0..MUCH {
         text.push(b'\n').expect(&rt, "memory");
     }
-    let entries = [Entry {
+    let entries = [MemoryEntry {
         name: b"a/.tfrules",
         stands: Stands::File(text.as_slice()),
     }];

@@ -2,27 +2,27 @@
 
 use crate::programs::{ENTRIES, Row, shows};
 use std::alloc::{AllocError, Global};
-use tree_devices::entry::{Entry, Stands};
+use tree_devices::entry::{MemoryEntry, Stands};
 
 /// A module that doesn't parse, and one whose options aren't known, beside the modules of the other runs.
-static MORE: [Entry<'static>; 5] = [
-    Entry {
+static MORE: [MemoryEntry<'static>; 5] = [
+    MemoryEntry {
         name: b"worse",
         stands: Stands::Folder,
     },
-    Entry {
+    MemoryEntry {
         name: b"worse/main.tf",
         stands: Stands::File(b"x = \n"),
     },
-    Entry {
+    MemoryEntry {
         name: b"set",
         stands: Stands::Folder,
     },
-    Entry {
+    MemoryEntry {
         name: b"set/main.tf",
         stands: Stands::File(b"variable \"s\" {}\n"),
     },
-    Entry {
+    MemoryEntry {
         name: b"set/.tfrules",
         stands: Stands::File(b"--force\n--rules typed\n"),
     },
@@ -108,7 +108,7 @@ static ROWS: [Row; 8] = [
     },
 ];
 
-fn all_entries(alloc: Global) -> Result<Vec<Entry<'static>>, AllocError> {
+fn all_entries(alloc: Global) -> Result<Vec<MemoryEntry<'static>>, AllocError> {
     let mut entries = Vec::from_slice(alloc, ENTRIES)?;
     entries.extend_from_slice(&MORE)?;
     Ok(entries)

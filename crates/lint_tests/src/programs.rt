@@ -8,7 +8,7 @@ use std::alloc::Global;
 use std::process::Abort;
 use tfrules_command::Hashing;
 use tree_devices::calls::{Failures, STEADY};
-use tree_devices::entry::{Entry, Stands};
+use tree_devices::entry::{MemoryEntry, Stands};
 use tree_devices::memory_tree::MemoryTree;
 use tree_lint::module_tree::ModuleTree;
 use tree_lint::written::Terminals;
@@ -17,76 +17,76 @@ use tree_lint::written::Terminals;
 pub(crate) type Words = &'static [&'static [u8]];
 
 /// Three modules, one of them refused, in folders with many files that are no module's.
-pub(crate) static ENTRIES: &[Entry<'static>] = &[
-    Entry {
+pub(crate) static ENTRIES: &[MemoryEntry<'static>] = &[
+    MemoryEntry {
         name: b"",
         stands: Stands::Folder,
     },
-    Entry {
+    MemoryEntry {
         name: b"a",
         stands: Stands::Folder,
     },
-    Entry {
+    MemoryEntry {
         name: b"a/main.tf",
         stands: Stands::File(b"variable \"x\" {}\noutput \"y\" {\n  value = var.x\n}\n"),
     },
-    Entry {
+    MemoryEntry {
         name: b"a/sub",
         stands: Stands::Folder,
     },
-    Entry {
+    MemoryEntry {
         name: b"a/sub/b.tofu",
         stands: Stands::File(b"variable \"z\" {}\n"),
     },
-    Entry {
+    MemoryEntry {
         name: b"a/sub/a.tf",
         stands: Stands::File(b"locals {}\n"),
     },
-    Entry {
+    MemoryEntry {
         name: b"bad",
         stands: Stands::Folder,
     },
-    Entry {
+    MemoryEntry {
         name: b"bad/main.tf",
         stands: Stands::File(b"x = \n"),
     },
-    Entry {
+    MemoryEntry {
         name: b"bad/lost.tf",
         stands: Stands::Link(b"nowhere"),
     },
-    Entry {
+    MemoryEntry {
         name: b"bad/pipe.tf",
         stands: Stands::Pipe,
     },
-    Entry {
+    MemoryEntry {
         name: b"other",
         stands: Stands::Folder,
     },
-    Entry {
+    MemoryEntry {
         name: b"other/x.tfvars",
         stands: Stands::File(b"a = 1\n"),
     },
-    Entry {
+    MemoryEntry {
         name: b"other/dead.tfvars",
         stands: Stands::Link(b"nowhere"),
     },
-    Entry {
+    MemoryEntry {
         name: b"other/pipe.tfvars",
         stands: Stands::Pipe,
     },
-    Entry {
+    MemoryEntry {
         name: b"other/.hidden.tf",
         stands: Stands::File(b"variable \"h\" {}\n"),
     },
-    Entry {
+    MemoryEntry {
         name: b"odd",
         stands: Stands::Folder,
     },
-    Entry {
+    MemoryEntry {
         name: b"odd/\xff.tf",
         stands: Stands::File(b"variable \"o\" {}\n"),
     },
-    Entry {
+    MemoryEntry {
         name: b"odd/main.tf",
         stands: Stands::File(b"variable \"o\" {}\n"),
     },
@@ -367,7 +367,7 @@ static ROWS: [Row; 32] = [
 ];
 
 /// Runs the program with the words of a row over a tree, and compares its output.
-pub(crate) fn shows(rt: &impl Abort, alloc: Global, entries: &[Entry<'_>], row: &Row) {
+pub(crate) fn shows(rt: &impl Abort, alloc: Global, entries: &[MemoryEntry<'_>], row: &Row) {
     shows_on(rt, alloc, entries, PIPES, row);
 }
 
@@ -376,7 +376,7 @@ pub(crate) fn shows(rt: &impl Abort, alloc: Global, entries: &[Entry<'_>], row: 
 pub(crate) fn shows_on(
     rt: &impl Abort,
     alloc: Global,
-    entries: &[Entry<'_>],
+    entries: &[MemoryEntry<'_>],
     terminals: Terminals,
     row: &Row,
 ) {
@@ -413,32 +413,32 @@ fn rows_are_shown(rt: HostRuntime) {
 }
 
 /// Modules whose files have further names in others, or are linked from there, and one of links alone.
-static SHARED: &[Entry<'static>] = &[
-    Entry {
+static SHARED: &[MemoryEntry<'static>] = &[
+    MemoryEntry {
         name: b"",
         stands: Stands::Folder,
     },
-    Entry {
+    MemoryEntry {
         name: b"a",
         stands: Stands::Folder,
     },
-    Entry {
+    MemoryEntry {
         name: b"a/main.tf",
         stands: Stands::File(b"variable \"x\" {}\n"),
     },
-    Entry {
+    MemoryEntry {
         name: b"b",
         stands: Stands::Folder,
     },
-    Entry {
+    MemoryEntry {
         name: b"b/main.tf",
         stands: Stands::Same(b"variable \"x\" {}\n", b"a/main.tf"),
     },
-    Entry {
+    MemoryEntry {
         name: b"c",
         stands: Stands::Folder,
     },
-    Entry {
+    MemoryEntry {
         name: b"c/main.tf",
         stands: Stands::Link(b"a/main.tf"),
     },

@@ -11,7 +11,7 @@ use std::process::Abort;
 use tf_rules::{Naming, RuleSet, Settings, Severity};
 use tfrules_command::Hashing;
 use tree_devices::calls::{Failures, STEADY};
-use tree_devices::entry::{Entry, Stands};
+use tree_devices::entry::{MemoryEntry, Stands};
 use tree_devices::memory_tree::MemoryTree;
 use tree_lint::counts::Counts;
 use tree_lint::module_tree::ModuleTree;
@@ -20,24 +20,24 @@ use tree_lint::run::{RunEnd, run_over};
 use tree_lint::written::{Manner, Written};
 
 /// Two modules with issues, with a refused one and one without issues between them.
-static ENTRIES: &[Entry<'static>] = &[
-    Entry {
+static ENTRIES: &[MemoryEntry<'static>] = &[
+    MemoryEntry {
         name: b"a/main.tf",
         stands: Stands::File(b"variable \"x\" {}\noutput \"y\" {\n  value = var.x\n}\n"),
     },
-    Entry {
+    MemoryEntry {
         name: b"b/main.tf",
         stands: Stands::File(b"x = \n"),
     },
-    Entry {
+    MemoryEntry {
         name: b"c/main.tf",
         stands: Stands::File(b"locals {}\n"),
     },
-    Entry {
+    MemoryEntry {
         name: b"d/a.tf",
         stands: Stands::File(b"variable \"z\" {\n  type = string\n}\n"),
     },
-    Entry {
+    MemoryEntry {
         name: b"d/b.tofu",
         stands: Stands::File(b"variable \"w\" {}\n"),
     },

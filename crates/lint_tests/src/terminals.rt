@@ -2,83 +2,83 @@
 
 use crate::checks::PIPES;
 use crate::programs::{Row, Words, shows_on};
-use tree_devices::entry::{Entry, Stands};
+use tree_devices::entry::{MemoryEntry, Stands};
 use tree_lint::written::Terminals;
 
 /// A module with issues and comments in two files, one with bytes that a terminal shows differently, and a refused
 /// module.
-static ENTRIES: &[Entry<'static>] = &[
-    Entry {
+static ENTRIES: &[MemoryEntry<'static>] = &[
+    MemoryEntry {
         name: b"",
         stands: Stands::Folder,
     },
-    Entry {
+    MemoryEntry {
         name: b"a",
         stands: Stands::Folder,
     },
-    Entry {
+    MemoryEntry {
         name: b"a/main.tf",
         stands: Stands::File(
             b"variable \"x\" {}\n\noutput \"y\" {\n\tvalue = \"${var.x}\" # tflint-ignore: z\n}\n",
         ),
     },
-    Entry {
+    MemoryEntry {
         name: b"a/z.tf",
         stands: Stands::File(b"variable \"\xe5\x90\x8d\" {} # tflint-ignore: \x1b\n"),
     },
-    Entry {
+    MemoryEntry {
         name: b"bad",
         stands: Stands::Folder,
     },
-    Entry {
+    MemoryEntry {
         name: b"bad/main.tf",
         stands: Stands::File(b"x = 1\ny = ]\n"),
     },
-    Entry {
+    MemoryEntry {
         name: b"utf",
         stands: Stands::Folder,
     },
-    Entry {
+    MemoryEntry {
         name: b"utf/main.tf",
         stands: Stands::File(b"x = \"\xff\"\n"),
     },
 ];
 
 /// A module with two issues, one with none, one with one, and a refused one.
-static OTHERS: &[Entry<'static>] = &[
-    Entry {
+static OTHERS: &[MemoryEntry<'static>] = &[
+    MemoryEntry {
         name: b"",
         stands: Stands::Folder,
     },
-    Entry {
+    MemoryEntry {
         name: b"bad",
         stands: Stands::Folder,
     },
-    Entry {
+    MemoryEntry {
         name: b"bad/main.tf",
         stands: Stands::File(b"x = ]\n"),
     },
-    Entry {
+    MemoryEntry {
         name: b"c",
         stands: Stands::Folder,
     },
-    Entry {
+    MemoryEntry {
         name: b"c/main.tf",
         stands: Stands::File(b"variable \"y\" {}\n"),
     },
-    Entry {
+    MemoryEntry {
         name: b"d",
         stands: Stands::Folder,
     },
-    Entry {
+    MemoryEntry {
         name: b"d/main.tf",
         stands: Stands::File(b"x = 1\n"),
     },
-    Entry {
+    MemoryEntry {
         name: b"e",
         stands: Stands::Folder,
     },
-    Entry {
+    MemoryEntry {
         name: b"e/main.tf",
         stands: Stands::File(b"variable \"v\" { type = string }\n"),
     },

@@ -102,7 +102,7 @@ impl ByteSource for FileReader {
 
 /// The file that was opened last.
 #[derive(Clone, Copy)]
-struct Opened {
+struct OpenedFile {
     identity: Identity,
     is_linked: bool,
 }
@@ -113,7 +113,7 @@ pub struct SystemTree {
     rt: HostRuntime,
     /// When the run began, if there is a clock.
     began: Option<SystemTime>,
-    opened: Option<Opened>,
+    opened: Option<OpenedFile>,
     /// The folder of the file that was replaced last.
     held: Option<Folder>,
     /// The folders that the caller named by links to them, as a folder or as the folder of a file.
@@ -345,7 +345,7 @@ impl SystemTree {
             Ok(file) => match patient::open_metadata(&file) {
                 Ok(metadata) if metadata.is_file() => {
                     let identity = identity_of(&metadata);
-                    self.opened = Some(Opened {
+                    self.opened = Some(OpenedFile {
                         identity,
                         is_linked,
                     });
@@ -360,7 +360,7 @@ impl SystemTree {
     }
 
     /// The path of the file that was opened last, by this name.
-    fn opened_path(&self, name: &str, opened: Opened) -> Result<String, TreeFault> {
+    fn opened_path(&self, name: &str, opened: OpenedFile) -> Result<String, TreeFault> {
         if opened.is_linked {
             return real_path(&self.rt, name);
         }
@@ -375,7 +375,7 @@ impl SystemTree {
         &mut self,
         path: &str,
         folder: Folder,
-        opened: Opened,
+        opened: OpenedFile,
         texts: Texts<'_>,
         writing: Writing,
     ) -> Result<Replaced, TreeFault> {

@@ -11,9 +11,9 @@ use Rattle.hcl_grammar.specs.Items.{deepen, is_closed}
 use Rattle.hcl_grammar.specs.Numbered.{is_passed_over}
 use Rattle.tf_facts.specs.Patterns.{begins_with_close, after_closer}
 use Rattle.tf_facts.specs.Inner.Seen.{seen_from}
-use Rattle.tf_facts.specs.Inner.Closings.{AreAhead, closes_before_quote, part_of, quote_from}
-use Rattle.tf_facts.specs.declared.part.Part.{Part}
-use Rattle.tf_facts.specs.declared.part.Part.TheVariants as part
+use Rattle.tf_facts.specs.Inner.Closings.{AreAhead, closes_before_quote, role_of, quote_from}
+use Rattle.tf_facts.specs.declared.role.Role.{Role}
+use Rattle.tf_facts.specs.declared.role.Role.TheVariants as part
 use Rattle.tf_facts.proofs.SeenLemmas.{seen_here}
 
 -- the effects of a part of the walk fit the kind of a significant token
@@ -35,15 +35,15 @@ up d = omega arith
 down : (d : ℕ) → d + 0 - 1 ≡ d - 1
 down d = omega arith
 
-pub at_dot : (k : Kind) → part_of k ≡ part.Dot → Says k true false false false (λ d. d)
+pub at_dot : (k : Kind) → role_of k ≡ part.Dot → Says k true false false false (λ d. d)
 at_dot kind.Dot e = record { seen = refl; dot_is = refl; quote_is = refl; closer_is = refl; moves = flat; opened = λ here known h. refl }
 at_dot _ e = absurd (cc)
 
-pub at_quote : (k : Kind) → part_of k ≡ part.QuoteOpen → Says k false true false false (λ d. d)
+pub at_quote : (k : Kind) → role_of k ≡ part.QuoteOpen → Says k false true false false (λ d. d)
 at_quote kind.QuoteOpen e = record { seen = refl; dot_is = refl; quote_is = refl; closer_is = refl; moves = flat; opened = λ here known h. refl }
 at_quote _ e = absurd (cc)
 
-pub at_opener : (k : Kind) → part_of k ≡ part.Opens → Says k false false true false (λ d. d + 1)
+pub at_opener : (k : Kind) → role_of k ≡ part.Opens → Says k false false true false (λ d. d + 1)
 at_opener kind.ParenOpen e = record { seen = refl; dot_is = refl; quote_is = refl; closer_is = refl; moves = up; opened = λ here known h. refl }
 at_opener kind.BracketOpen e = record { seen = refl; dot_is = refl; quote_is = refl; closer_is = refl; moves = up; opened = λ here known h. refl }
 at_opener kind.BraceOpen e = record { seen = refl; dot_is = refl; quote_is = refl; closer_is = refl; moves = up; opened = λ here known h. refl }
@@ -51,14 +51,14 @@ at_opener kind.InterpOpen e = record { seen = refl; dot_is = refl; quote_is = re
 at_opener kind.ControlOpen e = record { seen = refl; dot_is = refl; quote_is = refl; closer_is = refl; moves = up; opened = λ here known h. refl }
 at_opener _ e = absurd (cc)
 
-pub at_closer : (k : Kind) → part_of k ≡ part.Closes → Says k false false false true (λ d. d - 1)
+pub at_closer : (k : Kind) → role_of k ≡ part.Closes → Says k false false false true (λ d. d - 1)
 at_closer kind.ParenClose e = record { seen = refl; dot_is = refl; quote_is = refl; closer_is = refl; moves = down; opened = λ here known h. refl }
 at_closer kind.BracketClose e = record { seen = refl; dot_is = refl; quote_is = refl; closer_is = refl; moves = down; opened = λ here known h. refl }
 at_closer kind.BraceClose e = record { seen = refl; dot_is = refl; quote_is = refl; closer_is = refl; moves = down; opened = λ here known h. refl }
 at_closer kind.SeqClose e = record { seen = refl; dot_is = refl; quote_is = refl; closer_is = refl; moves = down; opened = λ here known h. refl }
 at_closer _ e = absurd (cc)
 
-pub at_plain : (k : Kind) → part_of k ≡ part.Plain → Says k false false false false (λ d. d)
+pub at_plain : (k : Kind) → role_of k ≡ part.Plain → Says k false false false false (λ d. d)
 at_plain kind.LineComment e = absurd (cc)
 at_plain kind.InlineComment e = absurd (cc)
 at_plain kind.Blank e = absurd (cc)
@@ -76,19 +76,19 @@ at_plain kind.BraceClose e = absurd (cc)
 at_plain kind.SeqClose e = absurd (cc)
 at_plain _ e = record { seen = refl; dot_is = refl; quote_is = refl; closer_is = refl; moves = flat; opened = λ here known h. refl }
 
-pub past : (k : Kind) → part_of k ≡ part.PassedOver → is_passed_over k ≡ true
+pub past : (k : Kind) → role_of k ≡ part.PassedOver → is_passed_over k ≡ true
 past kind.LineComment e = refl
 past kind.InlineComment e = refl
 past kind.Blank e = refl
 past kind.Newline e = refl
 past _ e = absurd (cc)
 
-pub past_comment : (k : Kind) → part_of k ≡ part.LineComment → is_passed_over k ≡ true
+pub past_comment : (k : Kind) → role_of k ≡ part.LineComment → is_passed_over k ≡ true
 past_comment kind.LineComment e = refl
 past_comment _ e = absurd (cc)
 
 -- the walk takes only line comments for line comments
-pub no_comment : (k : Kind) (p : Part) → part_of k ≡ p → (part.LineComment ≡ p → ⊥) → is kind.LineComment k ≡ false
+pub no_comment : (k : Kind) (p : Role) → role_of k ≡ p → (part.LineComment ≡ p → ⊥) → is kind.LineComment k ≡ false
 no_comment kind.LineComment p e other = absurd (other e)
 no_comment _ p e other = refl
 

@@ -3,15 +3,15 @@ use Rattle.std.proofs.Common.{MatchBool, ◌≡◌, ◌∙◌, ap, sym, refl, �
 use Rattle.std.specs.Prelude.{◌&&◌, ◌||◌, nat_le, nat_lt, codes, Some, None, Option, slice_get, filter, ◌==◌}
 use Rattle.std.proofs.lemmas.Bool.{lt-ltb, le-ltb, lt-leb}
 use Rattle.std.specs.Str.{bytes_eq}
-use Rattle.tf_facts.specs.VariableBlocks.{block_view, Apart, ArePassed}
+use Rattle.tf_facts.specs.VariableBlocks.{block_view, AreDisjoint, ArePassed}
 use Rattle.hcl_tokens.specs.Lexemes.{Lexeme}
 use Rattle.hcl_grammar.specs.Numbered.{Numbered, number_tokens}
 use Rattle.hcl_grammar.specs.Items.{is_closed, outline}
 use Rattle.hcl_grammar.specs.Labels.{text_of}
-use Rattle.hcl_grammar.specs.ItemOrder.{TopsApart}
+use Rattle.hcl_grammar.specs.ItemOrder.{TopsDisjoint}
 use Rattle.hcl_grammar.specs.declared.item.Item.{Item}
 use Rattle.hcl_grammar.specs.declared.item.Item.TheVariants as item
-use Rattle.hcl_grammar.proofs.TopBlockLemmas.{tops_apart}
+use Rattle.hcl_grammar.proofs.TopBlockLemmas.{tops_disjoint}
 use Rattle.tf_facts.specs.Declarations.{Attribute, Declaration, Declarer, attributes_in, by_declarer, declarer, has, is_empty, is_kind, labels_in, module_source, of_block, of_local}
 use Rattle.tf_facts.specs.declared.declaration_kind.DeclarationKind.TheVariants as declares
 use Rattle.tf_facts.specs.References.{VariableSpan, is_self_reference, last_of, variable_blocks, variable_blocks_of_items, variable_reference, local_reference, data_reference}
@@ -75,19 +75,19 @@ one_more_passed blocks next number o e ends p = record {
     none false c = refl
 
 -- blocks from a number on contain no token before it
-none_before : (from number : ℕ) (text : List ℕ) (own : List VariableSpan) → number < from → Apart from own → is_self_reference own number text ≡ false
+none_before : (from number : ℕ) (text : List ℕ) (own : List VariableSpan) → number < from → AreDisjoint from own → is_self_reference own number text ≡ false
 none_before from number text [] h a = refl
 none_before from number text (o ∷ own) h a =
     ap (λ b. (b && nat_lt number o.end && bytes_eq (variable_reference o.name) text) || is_self_reference own number text) (le_false o.first number (omega (arith, h, a.0)))
     ∙ none_before (max o.first o.end) number text own (omega (arith, h, a.0)) a.1
 
-apart_drop : (from n : ℕ) (own : List VariableSpan) → Apart from own → (later : ℕ) × Apart later (drop n own)
-apart_drop from zero own a = (from, a)
-apart_drop from (suc n) [] a = (from, tt)
-apart_drop from (suc n) (o ∷ own) a = apart_drop (max o.first o.end) n own a.1
+disjoint_drop : (from n : ℕ) (own : List VariableSpan) → AreDisjoint from own → (later : ℕ) × AreDisjoint later (drop n own)
+disjoint_drop from zero own a = (from, a)
+disjoint_drop from (suc n) [] a = (from, tt)
+disjoint_drop from (suc n) (o ∷ own) a = disjoint_drop (max o.first o.end) n own a.1
 
 -- if the next block ends after the token, that block alone decides
-pub decides : (blocks : List VariableBlock) (next number : ℕ) (o : VariableBlock) (name : List ℕ) → slice_get blocks next ≡ Some o → number < o.end → Apart 0 (map block_view blocks) → ArePassed (map block_view blocks) next number
+pub decides : (blocks : List VariableBlock) (next number : ℕ) (o : VariableBlock) (name : List ℕ) → slice_get blocks next ≡ Some o → number < o.end → AreDisjoint 0 (map block_view blocks) → ArePassed (map block_view blocks) next number
     → (nat_le o.first number && bytes_eq o.name.now name) ≡ is_self_reference (map block_view blocks) number (variable_reference name)
 decides blocks next number o name e inside a p =
     by (nat_le o.first number) (bytes_eq o.name.now name) (is_self_reference (drop (next + 1) own) number (variable_reference name)) (none_before (max o.first o.end) number (variable_reference name) (drop (next + 1) own) (omega (arith, inside)) rest.1)
@@ -101,11 +101,11 @@ decides blocks next number o name e inside a p =
     here : drop next own ≡ block_view o ∷ drop (next + 1) own
     here = at_drop blocks next o e
 
-    whole : (later : ℕ) × Apart later (drop next own)
-    whole = apart_drop 0 next own a
+    whole : (later : ℕ) × AreDisjoint later (drop next own)
+    whole = disjoint_drop 0 next own a
 
-    rest : (whole.0 ≤ o.first) × Apart (max o.first o.end) (drop (next + 1) own)
-    rest = subst (λ (os : List VariableSpan). Apart whole.0 os) here whole.1
+    rest : (whole.0 ≤ o.first) × AreDisjoint (max o.first o.end) (drop (next + 1) own)
+    rest = subst (λ (os : List VariableSpan). AreDisjoint whole.0 os) here whole.1
 
     by : (a b c : Bool) → c ≡ false → (a && b) ≡ ((a && true && b) || c)
     by true true c h = refl
@@ -130,9 +130,9 @@ own_other own number (Data t n) h = own_data own number t.now n.now
 
 -- ---- the blocks of a file follow one another
 
-apart_from : (from later : ℕ) (own : List VariableSpan) → from ≤ later → Apart later own → Apart from own
-apart_from from later [] h a = tt
-apart_from from later (o ∷ own) h a = (omega (arith, h, a.0), a.1)
+disjoint_from : (from later : ℕ) (own : List VariableSpan) → from ≤ later → AreDisjoint later own → AreDisjoint from own
+disjoint_from from later [] h a = tt
+disjoint_from from later (o ∷ own) h a = (omega (arith, h, a.0), a.1)
 
 -- one declaration at most
 abbrev AtMostOne : List (Declaration ℕ) → Type 0
@@ -175,23 +175,23 @@ one_in_block ts token names attributes = by (bytes_eq (text_of ts token) (codes 
     by true false = tt
     by false b = one_declared ts token names attributes (declarer (text_of ts token))
 
-in_front : (from token end : ℕ) (ds : List (Declaration ℕ)) (own : List VariableSpan) → AtMostOne ds → from ≤ token → Apart (max token end) own
-    → Apart from (map (λ d. record { name = last_of d.names; first = token; end = end }) ds ++ own)
-in_front from token end [] own one h a = apart_from from (max token end) own (omega (arith, h)) a
+in_front : (from token end : ℕ) (ds : List (Declaration ℕ)) (own : List VariableSpan) → AtMostOne ds → from ≤ token → AreDisjoint (max token end) own
+    → AreDisjoint from (map (λ d. record { name = last_of d.names; first = token; end = end }) ds ++ own)
+in_front from token end [] own one h a = disjoint_from from (max token end) own (omega (arith, h)) a
 in_front from token end (d ∷ []) own one h a = (h, a)
 in_front from token end (d ∷ e ∷ ds) own one h a = absurd one
 
-items_own : (ts : List Numbered) (from to : ℕ) (is : List Item) → TopsApart from is to → Apart from (variable_blocks_of_items ts is)
+items_own : (ts : List Numbered) (from to : ℕ) (is : List Item) → TopsDisjoint from is to → AreDisjoint from (variable_blocks_of_items ts is)
 items_own ts from to [] h = tt
 items_own ts from to (item.Attribute level name first end ∷ is) h = items_own ts from to is h
 items_own ts from to (item.Label l ∷ is) h = items_own ts from to is h
 items_own ts from to (item.Block level token end ∷ is) h = by (is_closed level) (λ n q. items_own ts n to is q) h
   where
-    by : (b : Bool) → ((n : ℕ) → TopsApart n is to → Apart n (variable_blocks_of_items ts is)) → MatchBool b ((from ≤ token) × TopsApart (max token end) is to) (TopsApart from is to)
-        → Apart from (map (λ d. record { name = last_of d.names; first = token; end = end }) (filter (λ d. is_kind declares.Variable d.kind) (cond b (of_block ts token (labels_in ts is) (attributes_in ts is)) [])) ++ variable_blocks_of_items ts is)
+    by : (b : Bool) → ((n : ℕ) → TopsDisjoint n is to → AreDisjoint n (variable_blocks_of_items ts is)) → MatchBool b ((from ≤ token) × TopsDisjoint (max token end) is to) (TopsDisjoint from is to)
+        → AreDisjoint from (map (λ d. record { name = last_of d.names; first = token; end = end }) (filter (λ d. is_kind declares.Variable d.kind) (cond b (of_block ts token (labels_in ts is) (attributes_in ts is)) [])) ++ variable_blocks_of_items ts is)
     by true more r = in_front from token end (filter (λ e. is_kind declares.Variable e.kind) (of_block ts token (labels_in ts is) (attributes_in ts is))) (variable_blocks_of_items ts is) (one_in_block ts token (labels_in ts is) (attributes_in ts is)) r.0 (more (max token end) r.1)
     by false more r = more from r
 
 -- THE LAW
-pub variable_blocks_apart : (tokens : List Lexeme) → Apart 0 (variable_blocks (number_tokens tokens))
-variable_blocks_apart tokens = items_own (number_tokens tokens) 0 (length tokens) (outline tokens) (tops_apart tokens)
+pub variable_blocks_are_disjoint : (tokens : List Lexeme) → AreDisjoint 0 (variable_blocks (number_tokens tokens))
+variable_blocks_are_disjoint tokens = items_own (number_tokens tokens) 0 (length tokens) (outline tokens) (tops_disjoint tokens)

@@ -8,10 +8,10 @@ use Rattle.hcl_tokens.specs.declared.token.Kind.TheVariants as kind
 use Rattle.hcl_grammar.specs.Numbered.{Numbered, is_passed_over}
 use Rattle.hcl_tokens.specs.Kinds.{is}
 use Rattle.tf_facts.specs.Patterns.{begins_with_close, after_closer, is_index, is_wrapped, numbers_where}
-use Rattle.tf_facts.specs.Inner.Closings.{AreAhead, part_of, quote_from}
+use Rattle.tf_facts.specs.Inner.Closings.{AreAhead, role_of, quote_from}
 use Rattle.tf_facts.specs.Inner.Seen.{number_of, seen_from}
-use Rattle.tf_facts.specs.declared.part.Part.{Part}
-use Rattle.tf_facts.specs.declared.part.Part.TheVariants as part
+use Rattle.tf_facts.specs.declared.role.Role.{Role}
+use Rattle.tf_facts.specs.declared.role.Role.TheVariants as part
 use Rattle.tf_facts.proofs.ClosingLemmas.{Says, at_closer, at_dot, at_opener, at_plain, at_quote, closes, opens, passes}
 use Rattle.tf_facts.proofs.SeenLemmas.{seen_here, seen_none, seen_past}
 
@@ -104,8 +104,8 @@ module _ (ts : List Lexeme) (n m : ℕ) (at : m ≡ n + 1) (indexes interpolatio
   is_k : k ≡ t.kind
   is_k = kind_is t e
 
-  part_is : (p : Part) → part_of k ≡ p → part_of t.kind ≡ p
-  part_is p is_p = ap part_of (sym is_k) ∙ is_p
+  part_is : (p : Role) → role_of k ≡ p → role_of t.kind ≡ p
+  part_is p is_p = ap role_of (sym is_k) ∙ is_p
 
   -- a token that is passed over
   pub walk_past : is_passed_over k ≡ true → IsWalkedBack ts indexes interpolations openers next closed n
@@ -144,30 +144,30 @@ module _ (ts : List Lexeme) (n m : ℕ) (at : m ≡ n + 1) (indexes interpolatio
       cut : seen_from ts n ≡ number_of n t ∷ seen_from ts (n + 1)
       cut = seen_here ts n t e m.seen
 
-  pub walk_plain : part_of k ≡ part.Plain → IsWalkedBack ts indexes interpolations openers k closed n
+  pub walk_plain : role_of k ≡ part.Plain → IsWalkedBack ts indexes interpolations openers k closed n
   walk_plain p =
       let says = at_plain t.kind (part_is part.Plain p) in
       walk_over false false false false (λ d. d) indexes interpolations openers closed says (sym (append-nil indexes)) (sym (append-nil interpolations)) (λ never. absurd (cc)) (passes ts n t e false false openers says h.closes)
 
-  pub walk_dot : (dots : List ℕ) (found : Bool) → part_of k ≡ part.Dot → found ≡ is kind.Number next → dots ≡ indexes ++ cond found (n ∷ []) [] → IsWalkedBack ts dots interpolations openers k closed n
+  pub walk_dot : (dots : List ℕ) (found : Bool) → role_of k ≡ part.Dot → found ≡ is kind.Number next → dots ≡ indexes ++ cond found (n ∷ []) [] → IsWalkedBack ts dots interpolations openers k closed n
   walk_dot dots found p is_found pushed =
       let says = at_dot t.kind (part_is part.Dot p) in
       walk_over true false false false (λ d. d) dots interpolations openers closed says (pushed ∙ ap (λ b. indexes ++ cond b (n ∷ []) []) is_found) (sym (append-nil interpolations)) (λ never. absurd (cc))
       (passes ts n t e true false openers says h.closes)
 
-  pub walk_quote : (quotes : List ℕ) (opened : Bool) → part_of k ≡ part.QuoteOpen → opened ≡ is kind.InterpOpen next → quotes ≡ interpolations ++ cond (opened && closed) (n ∷ []) [] → IsWalkedBack ts indexes quotes openers k closed n
+  pub walk_quote : (quotes : List ℕ) (opened : Bool) → role_of k ≡ part.QuoteOpen → opened ≡ is kind.InterpOpen next → quotes ≡ interpolations ++ cond (opened && closed) (n ∷ []) [] → IsWalkedBack ts indexes quotes openers k closed n
   walk_quote quotes opened p is_opened pushed =
       let says = at_quote t.kind (part_is part.QuoteOpen p) in
       walk_over false true false false (λ d. d) indexes quotes openers closed says (sym (append-nil indexes)) (pushed ∙ ap (λ b. interpolations ++ cond (b && closed) (n ∷ []) []) is_opened) (λ never. absurd (cc))
       (passes ts n t e false true openers says h.closes)
 
-  pub walk_opener : (rest : List Bool) (here : Bool) → part_of k ≡ part.Opens → here ≡ get_or (reverse openers) 0 false → ((d : ℕ) (c : Bool) → get_or (reverse rest) d c ≡ get_or (reverse openers) (suc d) c)
+  pub walk_opener : (rest : List Bool) (here : Bool) → role_of k ≡ part.Opens → here ≡ get_or (reverse openers) 0 false → ((d : ℕ) (c : Bool) → get_or (reverse rest) d c ≡ get_or (reverse openers) (suc d) c)
       → IsWalkedBack ts indexes interpolations rest k here n
   walk_opener rest here p taken left =
       let says = at_opener t.kind (part_is part.Opens p) in
       walk_over false false true false (λ d. d + 1) indexes interpolations rest here says (sym (append-nil indexes)) (sym (append-nil interpolations)) (λ _. taken) (opens ts n t e openers rest says left h.closes)
 
-  pub walk_closer : (rest : List Bool) (flag : Bool) → part_of k ≡ part.Closes → flag ≡ is kind.QuoteClose next → rest ≡ openers ++ flag ∷ [] → IsWalkedBack ts indexes interpolations rest k closed n
+  pub walk_closer : (rest : List Bool) (flag : Bool) → role_of k ≡ part.Closes → flag ≡ is kind.QuoteClose next → rest ≡ openers ++ flag ∷ [] → IsWalkedBack ts indexes interpolations rest k closed n
   walk_closer rest flag p is_flag pushed =
       let says = at_closer t.kind (part_is part.Closes p) in
       walk_over false false false true (λ d. d - 1) indexes interpolations rest closed says (sym (append-nil indexes)) (sym (append-nil interpolations)) (λ never. absurd (cc))

@@ -12,9 +12,9 @@ pub record Extends (old new : List (List ℕ)) : Type 0 where
   pub is : new ≡ old ++ more
 
 -- the blocks follow one another, and the first begins at `from` or later
-abbrev pub Apart : ℕ → List VariableSpan → Type 0
-Apart from [] = Unit {0}
-Apart from (o ∷ own) = (from ≤ o.first) × Apart (max o.first o.end) own
+abbrev pub AreDisjoint : ℕ → List VariableSpan → Type 0
+AreDisjoint from [] = Unit {0}
+AreDisjoint from (o ∷ own) = (from ≤ o.first) × AreDisjoint (max o.first o.end) own
 
 -- from this token on, the first `next` blocks make no difference
 pub record ArePassed (own : List VariableSpan) (next number : ℕ) : Type 0 where

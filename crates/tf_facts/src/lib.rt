@@ -17,7 +17,7 @@ pub mod laws;
 mod module_source;
 mod names;
 mod owners;
-mod part;
+mod role;
 mod pattern;
 mod plain_text;
 mod reference;

@@ -6,7 +6,7 @@ ghost use Rattle.indexmap.specs.IndexSet.{insert_all};
 ghost use Rattle.hcl_grammar.specs.Items.{outline};
 ghost use Rattle.hcl_grammar.specs.Numbered.{number_tokens};
 ghost use Rattle.hcl_grammar.specs.declared.item.Item.{Item};
-ghost use Rattle.tf_facts.specs.VariableBlocks.{block_view, Apart};
+ghost use Rattle.tf_facts.specs.VariableBlocks.{block_view, AreDisjoint};
 ghost use Rattle.tf_facts.specs.References.{variable_blocks, variable_blocks_of_item, references};
 ghost use Rattle.tf_facts.specs.Inner.FoundViews.{blocks_listed};
 ghost use Rattle.tf_facts.specs.Inner.Labelled.{AreNames};
@@ -73,7 +73,7 @@ pub fn variable_blocks<'s>(
     requires { items.now ≡ outline accepted.now.tokens }
     ensures blocks { IfOk result (λ found. map block_view found.items
         ≡ variable_blocks (number_tokens accepted.now.tokens)) }
-    ensures apart { IfOk result (λ found. Apart 0 (map block_view found.items)) }
+    ensures disjoint { IfOk result (λ found. AreDisjoint 0 (map block_view found.items)) }
 {
     let mut found = Vec::new(alloc);
     for number in 0..items.len() {

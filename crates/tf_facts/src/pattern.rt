@@ -14,11 +14,11 @@ ghost use Rattle.hcl_grammar.specs.Numbered.{number_tokens};
 ghost use Rattle.tf_facts.specs.Comments.{comments};
 ghost use Rattle.tf_facts.specs.Found.{comment};
 ghost use Rattle.tf_facts.specs.Patterns.{legacy_indexes, wrapped_interpolations};
-ghost use Rattle.tf_facts.specs.Inner.Closings.{part_of};
+ghost use Rattle.tf_facts.specs.Inner.Closings.{role_of};
 
 use crate::comment::push_comment;
 use crate::found::FoundComment;
-use crate::part::Part;
+use crate::role::Role;
 use hcl_tokens::{Kind, Nesting, Tokens};
 use std::alloc::{AllocError, Global};
 
@@ -41,18 +41,18 @@ fn is_interpolation(kind: Kind) -> bool
 }
 
 #[inline(always)]
-fn part_of(kind: Kind) -> Part
-    ensures { result ≡ part_of kind }
+fn role_of(kind: Kind) -> Role
+    ensures { result ≡ role_of kind }
 {
     match kind {
-        Kind::LineComment => Part::LineComment,
-        Kind::InlineComment | Kind::Blank | Kind::Newline => Part::PassedOver,
-        Kind::Dot => Part::Dot,
-        Kind::QuoteOpen => Part::QuoteOpen,
+        Kind::LineComment => Role::LineComment,
+        Kind::InlineComment | Kind::Blank | Kind::Newline => Role::PassedOver,
+        Kind::Dot => Role::Dot,
+        Kind::QuoteOpen => Role::QuoteOpen,
         _ => match kind.nesting() {
-            Nesting::Opens => Part::Opens,
-            Nesting::Closes => Part::Closes,
-            Nesting::Neither => Part::Plain,
+            Nesting::Opens => Role::Opens,
+            Nesting::Closes => Role::Closes,
+            Nesting::Neither => Role::Plain,
         },
     }
 }
@@ -136,20 +136,20 @@ pub fn found_patterns(alloc: Global, tokens: &Tokens<'_>) -> Result<Patterns, Al
     while number > 0 {
         number -= 1;
         let kind = tokens.kind(number);
-        match part_of(kind) {
-            Part::PassedOver => continue,
-            Part::LineComment => {
+        match role_of(kind) {
+            Role::PassedOver => continue,
+            Role::LineComment => {
                 push_comment(tokens, number, &mut comments)?;
                 continue;
             }
-            Part::Plain => {}
-            Part::Dot => push_if(&mut indexes, is_number(next), number)?,
-            Part::QuoteOpen => {
+            Role::Plain => {}
+            Role::Dot => push_if(&mut indexes, is_number(next), number)?,
+            Role::QuoteOpen => {
                 let is_alone = is_interpolation(next) & is_closed;
                 push_if(&mut interpolations, is_alone, number)?;
             }
-            Part::Opens => is_closed = take_last(&mut openers),
-            Part::Closes => openers.push(is_quote_close(next))?,
+            Role::Opens => is_closed = take_last(&mut openers),
+            Role::Closes => openers.push(is_quote_close(next))?,
         }
         next = kind;
     }

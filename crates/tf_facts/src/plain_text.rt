@@ -8,7 +8,7 @@ ghost use Rattle.hcl_grammar.specs.Numbered.{is_comment};
 ghost use Rattle.tf_facts.specs.Declarations.{plain_text};
 ghost use Rattle.tf_facts.specs.Inner.Values.{IsFirstValue, plain_text_of, values};
 
-use crate::seen::Seen;
+use crate::seen::SeenToken;
 use crate::value::Plain;
 use hcl_tokens::{Kind, Tokens};
 
@@ -41,7 +41,7 @@ fn is_lit(kind: Kind) -> bool
 }
 
 /// The first token from a number on to before another that is neither a comment nor a newline.
-fn next_value<'s>(tokens: &Tokens<'s>, from: usize, to: usize) -> Option<Seen<'s>>
+fn next_value<'s>(tokens: &Tokens<'s>, from: usize, to: usize) -> Option<SeenToken<'s>>
     requires { to ≤ length tokens.now.tokens }
     ensures { MatchOption result (values tokens.now.tokens from to ≡ [])
         (IsFirstValue tokens.now.tokens from to) }
@@ -49,7 +49,7 @@ fn next_value<'s>(tokens: &Tokens<'s>, from: usize, to: usize) -> Option<Seen<'s
     for number in from..to {
         let token = tokens.get(number);
         if counts(token.kind) {
-            return Some(Seen {
+            return Some(SeenToken {
                 number,
                 kind: token.kind,
                 text: token.text,

@@ -9,7 +9,7 @@ ghost use Rattle.tf_facts.specs.References.{name_after, reference_at, reference_
 ghost use Rattle.tf_facts.specs.Inner.Seen.{seen_from, numbered_of};
 ghost use Rattle.tf_facts.specs.Inner.Spelled.{IsAfter, spelling_of};
 
-use crate::seen::{Seen, is_dot, is_passed_over, next_seen};
+use crate::seen::{SeenToken, is_dot, is_passed_over, next_seen};
 use hcl_tokens::{Kind, Tokens};
 
 /// The name in a reference.
@@ -43,7 +43,7 @@ pub fn may_be_named(tokens: &Tokens<'_>, number: usize) -> bool
 }
 
 /// The identifier in the dot and the name with which the tokens from a number on begin.
-fn name_after<'s>(tokens: &Tokens<'s>, from: usize) -> Option<Seen<'s>>
+fn name_after<'s>(tokens: &Tokens<'s>, from: usize) -> Option<SeenToken<'s>>
     requires { from ≤ length tokens.now.tokens }
     ensures { MatchOption result (name_after (seen_from tokens.now.tokens from) ≡ None)
         (IsAfter tokens.now.tokens from) }
@@ -72,7 +72,7 @@ fn is_leading(word: &str) -> bool
 }
 
 /// The reference that begins with a token.
-pub fn reference_at<'s>(tokens: &Tokens<'s>, word: Seen<'s>) -> Option<Reference<'s>>
+pub fn reference_at<'s>(tokens: &Tokens<'s>, word: SeenToken<'s>) -> Option<Reference<'s>>
     requires within { word.number < length tokens.now.tokens }
     requires small { word.number + 1 < 2 ^ 64 }
     ensures { option_map spelling_of result

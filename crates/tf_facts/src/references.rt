@@ -8,10 +8,10 @@ ghost use Rattle.indexmap.specs.IndexSet.{insert_all};
 ghost use Rattle.tf_facts.specs.References.{is_self_reference, reference_at, references_from, unless_self_reference};
 ghost use Rattle.tf_facts.specs.Inner.Seen.{AreNoIdents, IsIdentAt, seen_from, numbered_of};
 ghost use Rattle.tf_facts.specs.Inner.Spelled.{spelling_of};
-ghost use Rattle.tf_facts.specs.VariableBlocks.{block_view, Apart, ArePassed, Extends, IsAhead};
+ghost use Rattle.tf_facts.specs.VariableBlocks.{block_view, AreDisjoint, ArePassed, Extends, IsAhead};
 
 use crate::reference::{Reference, is_ident, may_be_named, reference_at};
-use crate::seen::{Seen, is_after_dot};
+use crate::seen::{SeenToken, is_after_dot};
 use crate::text_set::TextSet;
 use crate::variable_block::VariableBlock;
 use hcl_tokens::Tokens;
@@ -86,7 +86,7 @@ fn is_self_reference(
     number: usize,
     reference: Reference<'_>,
 ) -> bool
-    requires apart { Apart 0 (map block_view blocks.now) }
+    requires disjoint { AreDisjoint 0 (map block_view blocks.now) }
     requires passed { ArePassed (map block_view blocks.now) next number }
     requires within { next ≤ length blocks.now }
     requires ahead { IsAhead blocks.now next number }
@@ -117,13 +117,13 @@ fn insert_reference(
     alloc: Global,
     tokens: &Tokens<'_>,
     blocks: Blocks<'_, '_>,
-    word: Seen<'_>,
+    word: SeenToken<'_>,
     text: &mut String,
     into: &mut TextSet,
 ) -> Result<(), AllocError>
     requires within { word.number < length tokens.now.tokens }
     requires small { word.number + 1 < 2 ^ 64 }
-    requires apart { Apart 0 (map block_view blocks.all.now) }
+    requires disjoint { AreDisjoint 0 (map block_view blocks.all.now) }
     requires passed { ArePassed (map block_view blocks.all.now) blocks.passed word.number }
     requires next { blocks.passed ≤ length blocks.all.now }
     requires ahead { IsAhead blocks.all.now blocks.passed word.number }
@@ -172,7 +172,7 @@ pub fn collect(
     blocks: &[VariableBlock<'_>],
     into: &mut TextSet,
 ) -> Result<(), AllocError>
-    requires { Apart 0 (map block_view blocks.now) }
+    requires { AreDisjoint 0 (map block_view blocks.now) }
     ensures ok { OnOk result (into.new
         ≡ insert_all bytes_eq into.old (references_from (map block_view blocks.now) false
         (seen_from tokens.now.tokens 0))) }
@@ -194,7 +194,7 @@ pub fn collect(
         }
         passed_blocks = count_passed(blocks, passed_blocks, number);
         let token = tokens.get(number);
-        let word = Seen {
+        let word = SeenToken {
             number,
             kind: token.kind,
             text: token.text,
@@ -215,7 +215,7 @@ pub fn add_references(
     blocks: &[VariableBlock<'_>],
     into: &mut TextSet,
 ) -> Result<(), AllocError>
-    requires { Apart 0 (map block_view blocks.now) }
+    requires { AreDisjoint 0 (map block_view blocks.now) }
     ensures ok { OnOk result (into.new
         ≡ insert_all bytes_eq into.old (references_from (map block_view blocks.now) false
         (seen_from tokens.now.tokens 0))) }

@@ -10,7 +10,7 @@ use hcl_tokens::{Kind, Tokens};
 
 /// A significant token, and its number.
 #[derive(Clone, Copy)]
-pub struct Seen<'s> {
+pub struct SeenToken<'s> {
     pub number: usize,
     pub kind: Kind,
     pub text: &'s str,
@@ -34,7 +34,7 @@ pub fn is_dot(kind: Kind) -> bool
 }
 
 /// The first significant token from a number on.
-pub fn next_seen<'s>(tokens: &Tokens<'s>, from: usize) -> Option<Seen<'s>>
+pub fn next_seen<'s>(tokens: &Tokens<'s>, from: usize) -> Option<SeenToken<'s>>
     requires { from ≤ length tokens.now.tokens }
     ensures { MatchOption result (seen_from tokens.now.tokens from ≡ [])
         (IsNextSeen tokens.now.tokens from) }
@@ -42,7 +42,7 @@ pub fn next_seen<'s>(tokens: &Tokens<'s>, from: usize) -> Option<Seen<'s>>
     for number in from..tokens.len() {
         if !is_passed_over(tokens.kind(number)) {
             let token = tokens.get(number);
-            return Some(Seen {
+            return Some(SeenToken {
                 number,
                 kind: token.kind,
                 text: token.text,

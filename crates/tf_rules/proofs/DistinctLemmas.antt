@@ -120,8 +120,8 @@ module _ {Y : Type 0} (R : Y → Y → Type 0) where
   before_both y (x ∷ xs) ys h k = (h.0, before_both y xs ys h.1 k)
 
   both_ascend : (xs ys : List Y) → Ascends R xs → Ascends R ys → ((a b : Y) → Member a xs → Member b ys → R a b) → Ascends R (xs ++ ys)
-  both_ascend [] ys h k apart = k
-  both_ascend (x ∷ xs) ys h k apart = (before_both x xs ys h.0 (λ b m. apart x b (inl refl) m), both_ascend xs ys h.1 k (λ a b m n. apart a b (inr m) n))
+  both_ascend [] ys h k disjoint = k
+  both_ascend (x ∷ xs) ys h k disjoint = (before_both x xs ys h.0 (λ b m. disjoint x b (inl refl) m), both_ascend xs ys h.1 k (λ a b m n. disjoint a b (inr m) n))
 
 member_left_or_right : {Y : Type 0} (z : Y) (xs ys : List Y) → Member z (xs ++ ys) → Member z xs ⊎ Member z ys
 member_left_or_right z [] ys m = inr m
@@ -163,17 +163,17 @@ module _ (asked : Asked) (used : List (List ℕ)) where
       let found = from-map (issue_in file rule) i (findings asked.naming used (facts_of (tokens_of file)) rule) m in
       (ap (λ v. v.place.file) found.1, ap (λ v. v.rule) found.1)
 
-  files_apart : (rule : Rule) (file other : File) → IsBelow file other → (a b : Issue) → Member a (issues_in asked used rule file) → Member b (issues_in asked used rule other) → Differ a b
-  files_apart rule file other less a b m n =
+  files_disjoint : (rule : Rule) (file other : File) → IsBelow file other → (a b : Issue) → Member a (issues_in asked used rule file) → Member b (issues_in asked used rule other) → Differ a b
+  files_disjoint rule file other less a b m n =
       let here = (made_in rule file a m).0 in
       let there = (made_in rule other b n).0 in
       and_left ((a.place.file == b.place.file) && (a.place.token == b.place.token)) (rank a.rule == rank b.rule) (and_left (a.place.file == b.place.file) (a.place.token == b.place.token) (ne_eqb a.place.file b.place.file (λ e. omega (arith, e, here, there, less))))
 
   of_rule : (rule : Rule) (files : List File) → Rising files → Ascends Differ (flat_map (issues_in asked used rule) files)
-  of_rule rule files rising = flat_ascends (issues_in asked used rule) IsBelow Differ (of_file rule) (files_apart rule) files rising
+  of_rule rule files rising = flat_ascends (issues_in asked used rule) IsBelow Differ (of_file rule) (files_disjoint rule) files rising
 
-  rules_apart : (files : List File) (rule other : Rule) → rank rule < rank other → (a b : Issue) → Member a (flat_map (issues_in asked used rule) files) → Member b (flat_map (issues_in asked used other) files) → Differ a b
-  rules_apart files rule other less a b m n =
+  rules_disjoint : (files : List File) (rule other : Rule) → rank rule < rank other → (a b : Issue) → Member a (flat_map (issues_in asked used rule) files) → Member b (flat_map (issues_in asked used other) files) → Differ a b
+  rules_disjoint files rule other less a b m n =
       let x = from_flat (issues_in asked used rule) a files m in
       let y = from_flat (issues_in asked used other) b files n in
       let here : rank a.rule ≡ rank rule = ap rank (made_in rule x.0 a x.2).1 in
@@ -189,8 +189,8 @@ rules_ascend p =
     ))
 
 -- THE LAW
-pub reported_apart : (settings : Settings) (files : List File) → Rising files → Ascends Differ (reported_issues (asked_of settings) files)
-reported_apart settings files rising =
+pub reported_disjoint : (settings : Settings) (files : List File) → Rising files → Ascends Differ (reported_issues (asked_of settings) files)
+reported_disjoint settings files rising =
     let used = all_references files in
     flat_ascends (λ rule. flat_map (issues_in (asked_of settings) used rule) files) (λ r s. rank r < rank s) Differ
-    (λ rule. of_rule (asked_of settings) used rule files rising) (rules_apart (asked_of settings) used files) (rules_of settings.rules) (rules_ascend (holds settings.rules))
+    (λ rule. of_rule (asked_of settings) used rule files rising) (rules_disjoint (asked_of settings) used files) (rules_of settings.rules) (rules_ascend (holds settings.rules))

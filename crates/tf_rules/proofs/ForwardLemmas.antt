@@ -119,8 +119,8 @@ module _ (tokens : List Lexeme) where
     source = rise_from from mid to (quotes (module_source ts (attributes_in ts is)) ++ named (of_items ts is)) h r.source;
   }
 
-  apart : (from to : ℕ) (ds es : List (Declaration ℕ)) → Rise from (named ds ++ named es) to → Rise from (named (ds ++ es)) to
-  apart from to ds es h = subst (λ (ns : List ℕ). Rise from ns to) (sym (flat_map-append numbers_of ds es)) h
+  disjoint : (from to : ℕ) (ds es : List (Declaration ℕ)) → Rise from (named ds ++ named es) to → Rise from (named (ds ++ es)) to
+  disjoint from to ds es h = subst (λ (ns : List ℕ). Rise from ns to) (sym (flat_map-append numbers_of ds es)) h
 
   declared_rise : (from to kind : ℕ) (is : List Item) (names : List (List ℕ)) (o : Option Declarer) → from ≤ kind → IsRising tokens (kind + 1) is to → Rise from (named (by_declarer ts kind names (attributes_in ts is) o ++ of_items ts is)) to
   declared_rise from to kind is names None h r = rise_from from (kind + 1) to (named (of_items ts is)) (omega (arith, h)) r.items
@@ -146,7 +146,7 @@ module _ (tokens : List Lexeme) where
   block_rises from to kind is names h r = by (bytes_eq (text_of ts kind) (codes "locals")) (is_empty names)
     where
       by : (a b : Bool) → Rise from (named (cond a (cond b (map of_local (attributes_in ts is)) []) (by_declarer ts kind names (attributes_in ts is) (declarer (text_of ts kind))) ++ of_items ts is)) to
-      by true true = apart from to (map of_local (attributes_in ts is)) (of_items ts is) (rise_from from (kind + 1) to (named (map of_local (attributes_in ts is)) ++ named (of_items ts is)) (omega (arith, h)) r.locals)
+      by true true = disjoint from to (map of_local (attributes_in ts is)) (of_items ts is) (rise_from from (kind + 1) to (named (map of_local (attributes_in ts is)) ++ named (of_items ts is)) (omega (arith, h)) r.locals)
       by true false = rise_from from (kind + 1) to (named (of_items ts is)) (omega (arith, h)) r.items
       by false b = declared_rise from to kind is names (declarer (text_of ts kind)) h r
 

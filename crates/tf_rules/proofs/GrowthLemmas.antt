@@ -122,11 +122,11 @@ index_few t [] = by (is kind.Ident t.kind)
     by : (a : Bool) → 0 + bit (a && false) ≤ bit (is kind.Dot t.kind) + 0
     by true = omega arith
     by false = omega arith
-index_few t (n ∷ rest) = by (is kind.Dot t.kind) (is kind.Number n.kind) (is kind.Ident t.kind) (names_next (n ∷ rest)) (apart t.kind)
+index_few t (n ∷ rest) = by (is kind.Dot t.kind) (is kind.Number n.kind) (is kind.Ident t.kind) (names_next (n ∷ rest)) (disjoint t.kind)
   where
-    apart : (k : Kind) → is kind.Dot k ≡ true → is kind.Ident k ≡ false
-    apart kind.Dot e = refl
-    apart _ e = absurd (true≢false (sym e))
+    disjoint : (k : Kind) → is kind.Dot k ≡ true → is kind.Ident k ≡ false
+    disjoint kind.Dot e = refl
+    disjoint _ e = absurd (true≢false (sym e))
 
     by : (d m i b : Bool) → (d ≡ true → i ≡ false) → bit (d && m) + bit (i && b) ≤ bit d + bit b
     by true true true b h = absurd (true≢false (h refl))

@@ -51,9 +51,9 @@ module _ (cost : List Item → ℕ) (weigh : Numbered → ℕ) (counted : IsCoun
   onto_weighs t [] = omega arith
   onto_weighs t (p ∷ ps) = omega arith
 
-  pieces_weigh : (depth : ℕ) (ts : List Numbered) → all_weigh (segments depth ts) ≤ weight weigh ts
-  pieces_weigh depth [] = omega arith
-  pieces_weigh depth (t ∷ ts) = by (is Newline t.kind && is_closed depth) (pieces_weigh (deepen depth t.kind) ts)
+  segments_weigh : (depth : ℕ) (ts : List Numbered) → all_weigh (segments depth ts) ≤ weight weigh ts
+  segments_weigh depth [] = omega arith
+  segments_weigh depth (t ∷ ts) = by (is Newline t.kind && is_closed depth) (segments_weigh (deepen depth t.kind) ts)
     where
       by : (b : Bool) → all_weigh (segments (deepen depth t.kind) ts) ≤ weight weigh ts
           → all_weigh (cond b ([] ∷ segments (deepen depth t.kind) ts) (onto t (segments (deepen depth t.kind) ts))) ≤ weigh t + weight weigh ts
@@ -76,7 +76,7 @@ module _ (cost : List Item → ℕ) (weigh : Numbered → ℕ) (counted : IsCoun
           weight_filter weigh (λ t. nat_lt (t.number + 1) (block_end rest)) (after_brace rest),
         )
 
-    item_costs : (piece : List Numbered) → cost (item_of inner level piece) ≤ weight weigh piece
+    item_costs : (segment : List Numbered) → cost (item_of inner level segment) ≤ weight weigh segment
     item_costs [] = omega (arith, counted.none)
     item_costs (kind ∷ []) = omega (arith, block_costs kind [])
     item_costs (name ∷ second ∷ rest) = by (is Assign second.kind) refl (block_costs name (second ∷ rest))
@@ -92,4 +92,4 @@ module _ (cost : List Item → ℕ) (weigh : Numbered → ℕ) (counted : IsCoun
 
   pub items_weigh : (n level : ℕ) → Costs (items n level)
   items_weigh zero level ts = omega (arith, counted.none)
-  items_weigh (suc n) level ts = omega (arith, all_cost (items n (level + 1)) (items_weigh n (level + 1)) level (segments 0 ts), pieces_weigh 0 ts)
+  items_weigh (suc n) level ts = omega (arith, all_cost (items n (level + 1)) (items_weigh n (level + 1)) level (segments 0 ts), segments_weigh 0 ts)

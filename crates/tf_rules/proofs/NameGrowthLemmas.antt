@@ -18,8 +18,8 @@ use Rattle.hcl_grammar.specs.Verdict.{IsAccepted}
 use Rattle.hcl_grammar.specs.declared.item.Item.{Item}
 use Rattle.hcl_grammar.specs.declared.item.Item.TheVariants as item
 use Rattle.hcl_grammar.specs.declared.item.Label.{Label}
-use Rattle.label_laws.proofs.NamePlaceLemmas.{IsApart, apart, apart_on, begins_dot, follows_dot, first, is_apart}
-use Rattle.label_laws.proofs.PieceTurnLemmas.{AllGood, Good}
+use Rattle.label_laws.proofs.NamePlaceLemmas.{IsDisjoint, disjoint, disjoint_on, begins_dot, follows_dot, first, is_disjoint}
+use Rattle.label_laws.proofs.SegmentTurnLemmas.{AllGood, Good}
 use Rattle.label_laws.proofs.PlainLabelLemmas.{file_good}
 use Rattle.tf_facts.specs.Declarations.{Declaration, SourceAt, declarations}
 use Rattle.tf_facts.specs.References.{variable_blocks, references}
@@ -39,21 +39,21 @@ literal ts = length (first_literal ts)
 
 module _ (all : List Numbered) where
   abbrev own_weight : ℕ → ℕ
-  own_weight n = cond (first (drop n (apart false all))) (length (text_of all n) + literal (drop (n + 1) all)) 0
+  own_weight n = cond (first (drop n (disjoint false all))) (length (text_of all n) + literal (drop (n + 1) all)) 0
 
-  apart_weighs : (n : ℕ) → IsApart all n → own_weight n ≡ length (text_of all n) + literal (drop (n + 1) all)
-  apart_weighs n h = ap (λ b. cond b (length (text_of all n) + literal (drop (n + 1) all)) 0) h
+  disjoint_weighs : (n : ℕ) → IsDisjoint all n → own_weight n ≡ length (text_of all n) + literal (drop (n + 1) all)
+  disjoint_weighs n h = ap (λ b. cond b (length (text_of all n) + literal (drop (n + 1) all)) 0) h
 
-  label_weighs : (l : Label) → IsApart all l.first → length (label_text all l) ≤ own_weight l.first
+  label_weighs : (l : Label) → IsDisjoint all l.first → length (label_text all l) ≤ own_weight l.first
   label_weighs l h = by (l.first == l.last)
     where
       by : (b : Bool) → length (cond b (text_of all l.first) (first_literal (drop (l.first + 1) all))) ≤ own_weight l.first
-      by true = omega (arith, apart_weighs l.first h)
-      by false = omega (arith, apart_weighs l.first h)
+      by true = omega (arith, disjoint_weighs l.first h)
+      by false = omega (arith, disjoint_weighs l.first h)
 
   item_weighs : (i : Item) → Good all i → Weighs all own_weight i
   item_weighs (item.Label l) h = label_weighs l h.1
-  item_weighs (item.Attribute level name first end) h = omega (arith, apart_weighs name h)
+  item_weighs (item.Attribute level name first end) h = omega (arith, disjoint_weighs name h)
   item_weighs (item.Block level kind end) h = tt
 
   all_weigh : (is : List Item) → AllGood all is → AllWeigh all own_weight is
@@ -104,13 +104,13 @@ literal_here t ts = by (is kind.Lit t.kind)
 -- ---- all tokens
 
 module _ (all : List Numbered) where
-  pub all_few : (n : ℕ) (dot : Bool) (ts : List Lexeme) → drop n all ≡ numbered_from n ts → drop n (apart false all) ≡ apart dot (numbered_from n ts) → Solid ts
+  pub all_few : (n : ℕ) (dot : Bool) (ts : List Lexeme) → drop n all ≡ numbered_from n ts → drop n (disjoint false all) ≡ disjoint dot (numbered_from n ts) → Solid ts
       → weight (weigh (own_weight all)) (numbered_from n ts) + (dotted dot (significant (numbered_from n ts)) + literal (numbered_from n ts)) ≤ text_bytes ts
   all_few n dot [] here beside_ solid = omega arith
   all_few n dot (t ∷ ts) here marks solid =
       omega (
         arith,
-        all_few (n + 1) (follows_dot dot t.kind) ts there (apart_on all n dot it more marks) solid.1,
+        all_few (n + 1) (follows_dot dot t.kind) ts there (disjoint_on all n dot it more marks) solid.1,
         weighs,
         one_token t.kind dot (begins_dot (significant more)) (length t.text) (literal more) solid.0,
         dotted_here dot it more,
@@ -129,8 +129,8 @@ module _ (all : List Numbered) where
       weighs : own_weight all n ≡ as_name dot (begins_dot (significant more)) t.kind (length t.text + literal more)
       weighs =
           ap (λ b. cond (first b) (length (text_of all n) + literal (drop (n + 1) all)) 0) marks
-          ∙ ap (λ r. cond (is_apart dot t.kind more) (length (first_text r) + literal (drop (n + 1) all)) 0) here
-          ∙ ap (λ r. cond (is_apart dot t.kind more) (length t.text + literal r) 0) there
+          ∙ ap (λ r. cond (is_disjoint dot t.kind more) (length (first_text r) + literal (drop (n + 1) all)) 0) here
+          ∙ ap (λ r. cond (is_disjoint dot t.kind more) (length t.text + literal r) 0) there
 
 -- ---- the stored texts
 

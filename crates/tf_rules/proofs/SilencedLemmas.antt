@@ -15,7 +15,7 @@ use Rattle.rule_set.specs.RuleSets.{holds, rules_of}
 use Rattle.tf_rules.specs.Inner.Entries.{issue_of, issues_of}
 use Rattle.tf_rules.specs.Inner.StoredViews.{stored_comment}
 use Rattle.tf_rules.specs.Inner.SilencedLines.{is_in_set, is_on, same_line, silenced_at}
-use Rattle.tf_rules.specs.declared.entry.Entry.{Entry}
+use Rattle.tf_rules.specs.declared.entry.IssueEntry.{IssueEntry}
 use Rattle.tf_rules.specs.declared.stored.StoredComment.{StoredComment}
 use Rattle.rule_set.specs.declared.rule.Rule.{Rule}
 use Rattle.rule_set.specs.declared.rule.Rule.TheVariants.{CommentSyntax, DeprecatedIndex, DeprecatedInterpolation, DocumentedOutputs, DocumentedVariables, ModulePinnedSource, ModuleVersion, NamingConvention, TypedVariables, UnusedDeclarations}
@@ -160,7 +160,7 @@ pub filter_all : {X : Type 0} (p : X → Bool) → ((x : X) → p x ≡ true) �
 filter_all p h [] = refl
 filter_all p h (x ∷ xs) = ap (λ b. cond b (x ∷ filter p xs) (filter p xs)) (h x) ∙ ap (λ r. x ∷ r) (filter_all p h xs)
 
-pub shown_more : (p : Issue → Bool) (xs : List Entry) (i : ℕ) (x : Entry) → i < length xs → x ≡ get_or xs i x
+pub shown_more : (p : Issue → Bool) (xs : List IssueEntry) (i : ℕ) (x : IssueEntry) → i < length xs → x ≡ get_or xs i x
     → filter p (issues_of (take i xs)) ++ filter p (issue_of x ∷ []) ≡ filter p (issues_of (take (i + 1) xs))
 shown_more p xs i x less at =
     sym (filter-append p (issues_of (take i xs)) (issue_of x ∷ []))

@@ -11,7 +11,7 @@ use Rattle.std.proofs.lemmas.List.Sums.{sum_by-cons}
 use Rattle.tf_rules.specs.Ordered.{Member, SameMembers, BeforeAll, Ascends}
 use Rattle.tf_rules.specs.Issues.{Asked, File, Issue, Key, key_of, Precedes, Before, IsReport, issues}
 use Rattle.tf_rules.specs.Inner.Entries.{entry_cmp, issue_of, issues_of}
-use Rattle.tf_rules.specs.declared.entry.Entry.{Entry}
+use Rattle.tf_rules.specs.declared.entry.IssueEntry.{IssueEntry}
 use Rattle.tf_rules.proofs.ReportLemmas.{in_turn}
 
 -- ---- keys
@@ -67,9 +67,9 @@ few (x ∷ xs) h k = by (same_key k (key_of x)) refl (few xs h.1 k)
 same_self : (a : Key) → same_key a a ≡ true
 same_self a = and_from ((a.file == a.file) && (a.token == a.token)) (a.rank == a.rank) (and_from (a.file == a.file) (a.token == a.token) (eq-eqb a.file a.file refl) (eq-eqb a.token a.token refl)) (eq-eqb a.rank a.rank refl)
 
-apart_from : (x : Issue) (xs : List Issue) → hits (key_of x) xs ≡ 0 → BeforeAll Differ x xs
-apart_from x [] h = tt
-apart_from x (y ∷ ys) h = by (same_key (key_of x) (key_of y)) refl (apart_from x ys)
+disjoint_from : (x : Issue) (xs : List Issue) → hits (key_of x) xs ≡ 0 → BeforeAll Differ x xs
+disjoint_from x [] h = tt
+disjoint_from x (y ∷ ys) h = by (same_key (key_of x) (key_of y)) refl (disjoint_from x ys)
   where
     both : hits (key_of x) (y ∷ ys) ≡ hit (key_of x) y + hits (key_of x) ys
     both = sum_by-cons (hit (key_of x)) y ys
@@ -84,7 +84,7 @@ spread (x ∷ xs) h =
     let own : hit (key_of x) x ≡ 1 = hit_is (key_of x) x true (same_self (key_of x)) in
     let both : hits (key_of x) (x ∷ xs) ≡ hit (key_of x) x + hits (key_of x) xs = sum_by-cons (hit (key_of x)) x xs in
     let most : hits (key_of x) (x ∷ xs) ≤ 1 = h (key_of x) in (
-      apart_from x xs (omega (arith, own, both, most)),
+      disjoint_from x xs (omega (arith, own, both, most)),
       spread xs (λ k. omega (arith, h k, sum_by-cons (hit k) x xs)),
     )
 
@@ -99,8 +99,8 @@ cmp_less m n h = ap (λ b. cond b Less (cond (m == n) Equal Greater)) (lt-ltb m 
 cmp_equal : (m n : ℕ) → m ≡ n → nat_cmp m n ≡ Equal
 cmp_equal m n e = ap (λ b. cond b Less (cond (m == n) Equal Greater)) (le-ltb m n (omega (arith, e))) ∙ ap (λ b. cond b Equal Greater) (eq-eqb m n e)
 
-is_before : (a b : Entry) → is_lt (entry_cmp b a) ≡ false → Differ (issue_of a) (issue_of b) → Before (issue_of a) (issue_of b)
-is_before a b first apart = by_file (cases_order (key_of (issue_of a)).file (key_of (issue_of b)).file)
+is_before : (a b : IssueEntry) → is_lt (entry_cmp b a) ≡ false → Differ (issue_of a) (issue_of b) → Before (issue_of a) (issue_of b)
+is_before a b first disjoint = by_file (cases_order (key_of (issue_of a)).file (key_of (issue_of b)).file)
   where
     x : Key
     x = key_of (issue_of a)
@@ -112,7 +112,7 @@ is_before a b first apart = by_file (cases_order (key_of (issue_of a)).file (key
     after o e less = true≢false (sym less ∙ ap is_lt (sym e) ∙ first)
 
     by_rank : x.file ≡ y.file → x.token ≡ y.token → (x.rank ≡ y.rank) ⊎ ((x.rank < y.rank) ⊎ (y.rank < x.rank)) → Precedes x y
-    by_rank f t (inl e) = absurd (true≢false (sym (and_from ((x.file == y.file) && (x.token == y.token)) (x.rank == y.rank) (and_from (x.file == y.file) (x.token == y.token) (eq-eqb x.file y.file f) (eq-eqb x.token y.token t)) (eq-eqb x.rank y.rank e)) ∙ apart))
+    by_rank f t (inl e) = absurd (true≢false (sym (and_from ((x.file == y.file) && (x.token == y.token)) (x.rank == y.rank) (and_from (x.file == y.file) (x.token == y.token) (eq-eqb x.file y.file f) (eq-eqb x.token y.token t)) (eq-eqb x.rank y.rank e)) ∙ disjoint))
     by_rank f t (inr (inl h)) = inr (f, inr (t, h))
     by_rank f t (inr (inr h)) =
         absurd (after Less (
@@ -137,12 +137,12 @@ through : (x y : Issue) (zs : List Issue) → Before x y → BeforeAll Before y 
 through x y [] h k = tt
 through x y (z ∷ zs) h k = (in_turn (key_of x) (key_of y) (key_of z) h k.0, through x y zs h k.1)
 
-tail_sorted : (x : Entry) (xs : List Entry) → IsSorted entry_cmp (x ∷ xs) → IsSorted entry_cmp xs
+tail_sorted : (x : IssueEntry) (xs : List IssueEntry) → IsSorted entry_cmp (x ∷ xs) → IsSorted entry_cmp xs
 tail_sorted x xs s k d low high =
     let e : suc (k + 1) ≡ suc k + 1 = omega arith in
     ap (λ n. is_lt (entry_cmp (get_or (x ∷ xs) n d) (get_or xs k d))) e ∙ s (suc k) d (omega arith) (omega (arith, high))
 
-sorted_ascends : (xs : List Entry) → IsSorted entry_cmp xs → Ascends Differ (issues_of xs) → Ascends Before (issues_of xs)
+sorted_ascends : (xs : List IssueEntry) → IsSorted entry_cmp xs → Ascends Differ (issues_of xs) → Ascends Before (issues_of xs)
 sorted_ascends [] s h = tt
 sorted_ascends (x ∷ []) s h = (tt, tt)
 sorted_ascends (x ∷ y ∷ ys) s h =
@@ -212,12 +212,12 @@ module _ {X : Type 0} where
           by false r = r
 
 -- THE LAW: sorted entries of issues with different keys, without the silenced ones, are the ordered list
-pub is_report : (asked : Asked) (files : List File) (p : Issue → Bool) (found : List Issue) (entries sorted : List Entry) → issues asked files ≡ filter p found → Ascends Differ found
+pub is_report : (asked : Asked) (files : List File) (p : Issue → Bool) (found : List Issue) (entries sorted : List IssueEntry) → issues asked files ≡ filter p found → Ascends Differ found
     → IsPermutation found (issues_of entries) → IsPermutation entries sorted → IsSorted entry_cmp sorted → IsReport asked files (filter p (issues_of sorted))
-is_report asked files p found entries sorted is apart listed_issue_of permutation order =
+is_report asked files p found entries sorted is disjoint listed_issue_of permutation order =
     let moved : IsPermutation found (issues_of sorted) = IsPermutation-trans found (issues_of entries) (issues_of sorted) listed_issue_of (IsPermutation-map issue_of entries sorted permutation) in
     let P : List Issue → Type 0 = λ is. SameMembers is (filter p (issues_of sorted)) in
     record {
       members = subst P (sym is) (filter_members p found (issues_of sorted) (permuted_members found (issues_of sorted) moved));
-      ordered = filter_ascends p Before (issues_of sorted) (sorted_ascends sorted order (differ_permuted found (issues_of sorted) moved apart));
+      ordered = filter_ascends p Before (issues_of sorted) (sorted_ascends sorted order (differ_permuted found (issues_of sorted) moved disjoint));
     }

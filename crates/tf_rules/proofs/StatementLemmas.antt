@@ -6,7 +6,7 @@ use Rattle.std.specs.Borrow.{Bor}
 use Rattle.std.specs.List.{concat}
 use Rattle.tf_rules.specs.Answers.{listed_issue, text_of_parts}
 use Rattle.tf_rules.specs.Inner.Entries.{shown_of, text_of}
-use Rattle.tf_rules.specs.declared.entry.Entry.{Entry}
+use Rattle.tf_rules.specs.declared.entry.IssueEntry.{IssueEntry}
 use Rattle.tf_rules.specs.declared.message_parts.MessageParts.{MessageParts}
 
 pub text_more : (xs : List (Bor (List ℕ))) (i : ℕ) (d : Bor (List ℕ)) (old new : List ℕ) → i < length xs → new ≡ old ++ (get_or xs i d).now → old ≡ concat (map (λ text. text.now) (take i xs))
@@ -23,5 +23,5 @@ pub told_by_name : (front kind quote name of rest : List ℕ) → front ≡ kind
 told_by_name front kind quote name of rest e f = ap₂ (λ a b. a ++ (b ++ rest)) e f ∙ append_assoc kind quote (of ++ rest)
 
 -- an entry in a list is the issue as it is shown
-pub listed_is : (e : Entry) (p : MessageParts) → text_of_parts p ≡ text_of e.statement → listed_issue (record { file = e.at.file; at = e.at.at; rule = e.rule; message = p }) ≡ shown_of e
+pub listed_is : (e : IssueEntry) (p : MessageParts) → text_of_parts p ≡ text_of e.statement → listed_issue (record { file = e.at.file; at = e.at.at; rule = e.rule; message = p }) ≡ shown_of e
 listed_is e p same = ap (λ m. record { file = e.at.file; at = e.at.at; rule = e.rule; message = m }) same

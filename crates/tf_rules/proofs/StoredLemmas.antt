@@ -15,7 +15,7 @@ use Rattle.tf_facts.specs.Facts.{facts_of}
 use Rattle.tf_rules.specs.Issues.{Asked, File, Place, tokens_of, place_in, all_references, all_comments, comment_at, is_silenced, issues_in, reported_issues, issues}
 use Rattle.tf_rules.specs.Stored.{Stored, no_facts, with_file, stored_of, facts_at, issue_at}
 use Rattle.tf_rules.specs.StoredIssues.{reported_of_stored, issues_of_stored}
-use Rattle.tf_rules.proofs.FindingLemmas.{map-map, map-flat_map, flat_map_same, finding_at, findings-at, findings-both, SameTexts, findings_same}
+use Rattle.tf_rules.proofs.FindingLemmas.{map-map, map-flat_map, flat_map_same, finding_at, findings-at, findings-append_facts, SameTexts, findings_same}
 use Rattle.rule_set.specs.declared.rule.Rule.{Rule}
 use Rattle.rule_set.specs.declared.rule.Rule.TheVariants.{CommentSyntax, DeprecatedIndex, DeprecatedInterpolation, DocumentedOutputs, DocumentedVariables, ModulePinnedSource, ModuleVersion, NamingConvention, TypedVariables, UnusedDeclarations}
 use Rattle.tf_rules.specs.declared.naming.Naming.{Naming}
@@ -84,7 +84,7 @@ found_kept : (naming : Naming) (used : List (List ℕ)) (rule : Rule) (kept : St
 found_kept naming used rule kept [] = sym (append-nil (findings naming used kept.facts rule))
 found_kept naming used rule kept (file ∷ files) =
     found_kept naming used rule (with_file kept file) files
-    ∙ ap (λ r. r ++ flat_map (found_in naming used rule) files) (findings-both naming used kept.facts (facts_at (place_in file) (facts_of (tokens_of file))) rule)
+    ∙ ap (λ r. r ++ flat_map (found_in naming used rule) files) (findings-append_facts naming used kept.facts (facts_at (place_in file) (facts_of (tokens_of file))) rule)
     ∙ append_assoc (findings naming used kept.facts rule) (found_in naming used rule file) (flat_map (found_in naming used rule) files)
 
 none_found : (naming : Naming) (used : List (List ℕ)) (rule : Rule) → findings naming used no_facts.facts rule ≡ []

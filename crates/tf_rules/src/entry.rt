@@ -28,7 +28,7 @@ pub struct Finding<'f> {
 
 /// An issue, with the number of its token.
 #[derive(Clone, Copy)]
-pub struct Entry<'f> {
+pub struct IssueEntry<'f> {
     pub at: TokenPlace,
     pub rule: Rule,
     pub statement: Statement<'f>,

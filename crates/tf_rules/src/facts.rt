@@ -14,7 +14,7 @@ ghost use Rattle.rule_set.specs.RuleSets.{holds, rules_of};
 ghost use Rattle.tf_rules.specs.Inner.Entries.{declared_rules, issues_by, issues_declared, issues_of};
 ghost use Rattle.tf_rules.specs.Inner.StoredFacts.{stored_facts, with_found};
 
-use crate::entry::Entry;
+use crate::entry::IssueEntry;
 use crate::findings::{push_comments, push_declarations, push_places};
 use crate::issue::Issue;
 use crate::issue_list::IssueList;
@@ -178,7 +178,7 @@ impl Facts {
     fn push_slash_comments<'f>(
         &'f self,
         settings: &Settings,
-        entries: &mut Vec<Entry<'f>>,
+        entries: &mut Vec<IssueEntry<'f>>,
     ) -> Result<(), AllocError>
         ensures { OnOk result (issues_of entries.new.items ≡ issues_of entries.old.items
             ++ issues_by settings.now self.now Rule.CommentSyntax) }
@@ -193,7 +193,7 @@ impl Facts {
     fn push_indexes<'f>(
         &'f self,
         settings: &Settings,
-        entries: &mut Vec<Entry<'f>>,
+        entries: &mut Vec<IssueEntry<'f>>,
     ) -> Result<(), AllocError>
         ensures { OnOk result (issues_of entries.new.items ≡ issues_of entries.old.items
             ++ issues_by settings.now self.now Rule.DeprecatedIndex) }
@@ -213,7 +213,7 @@ impl Facts {
     fn push_interpolations<'f>(
         &'f self,
         settings: &Settings,
-        entries: &mut Vec<Entry<'f>>,
+        entries: &mut Vec<IssueEntry<'f>>,
     ) -> Result<(), AllocError>
         ensures { OnOk result (issues_of entries.new.items ≡ issues_of entries.old.items
             ++ issues_by settings.now self.now Rule.DeprecatedInterpolation) }
@@ -233,7 +233,7 @@ impl Facts {
     fn push_declared<'f>(
         &'f self,
         settings: &Settings,
-        entries: &mut Vec<Entry<'f>>,
+        entries: &mut Vec<IssueEntry<'f>>,
     ) -> Result<(), AllocError>
         ensures { OnOk result (issues_of entries.new.items
             ≡ issues_of entries.old.items ++ flat_map
@@ -253,12 +253,12 @@ impl Facts {
 
     /// The issues of all requested rules, silenced or not: first by rules, then by declarations. They are sorted
     /// afterwards, so any order is right, and this one is nearly sorted.
-    fn reported_entries<'f>(&'f self, settings: &Settings) -> Result<Vec<Entry<'f>>, AllocError>
+    fn reported_entries<'f>(&'f self, settings: &Settings) -> Result<Vec<IssueEntry<'f>>, AllocError>
         ensures { IfOk result (λ entries. IsPermutation (flat_map (λ rule. map (issue_at rule)
             (findings settings.now.naming self.now.references self.now.facts rule))
             (rules_of settings.now.rules)) (issues_of entries.items)) }
     {
-        let mut entries: Vec<Entry<'f>> = Vec::new(self.alloc);
+        let mut entries: Vec<IssueEntry<'f>> = Vec::new(self.alloc);
         self.push_slash_comments(settings, &mut entries)?;
         self.push_indexes(settings, &mut entries)?;
         self.push_interpolations(settings, &mut entries)?;

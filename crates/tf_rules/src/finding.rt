@@ -12,7 +12,7 @@ ghost use Rattle.tf_facts.specs.Declarations.{is_kind};
 ghost use Rattle.tf_facts.specs.Found.{source};
 ghost use Rattle.std.specs.Option.{option_map};
 
-use crate::entry::{Entry, Statement};
+use crate::entry::{IssueEntry, Statement};
 use crate::naming::{Naming, matches_naming};
 use crate::settings::Settings;
 use crate::statement::last_label;
@@ -36,7 +36,7 @@ fn is_variable(kind: DeclarationKind) -> bool
 /// Pushes a message about a place.
 #[inline(always)]
 fn push_message<'f>(
-    entries: &mut Vec<Entry<'f>>,
+    entries: &mut Vec<IssueEntry<'f>>,
     rule: Rule,
     at: TokenPlace,
     statement: Statement<'f>,
@@ -45,7 +45,7 @@ fn push_message<'f>(
         ≡ issues_of entries.old.items ++ issue_at rule
         (record { at = place_of at; message = text_of statement.entry }) ∷ []) }
 {
-    entries.push(Entry {
+    entries.push(IssueEntry {
         at,
         rule,
         statement,
@@ -56,7 +56,7 @@ fn push_message<'f>(
 /// Pushes that a declaration lacks an attribute, if it does. The rest of the text begins with the quote after its name.
 #[inline(always)]
 fn push_lacking<'f>(
-    entries: &mut Vec<Entry<'f>>,
+    entries: &mut Vec<IssueEntry<'f>>,
     rule: Rule,
     is_lacking: bool,
     declaration: &'f StoredDeclaration,
@@ -81,7 +81,7 @@ fn push_lacking<'f>(
 
 /// Pushes that a module's source is not pinned, if it isn't.
 fn push_unpinned_by<'f>(
-    entries: &mut Vec<Entry<'f>>,
+    entries: &mut Vec<IssueEntry<'f>>,
     rule: Rule,
     declaration: &'f StoredDeclaration,
     found: StoredSource,
@@ -111,7 +111,7 @@ fn push_unpinned_by<'f>(
 
 #[inline(always)]
 fn push_unpinned<'f>(
-    entries: &mut Vec<Entry<'f>>,
+    entries: &mut Vec<IssueEntry<'f>>,
     rule: Rule,
     declaration: &'f StoredDeclaration,
 ) -> Result<(), AllocError>
@@ -139,7 +139,7 @@ fn from_registry(found: Option<StoredSource>) -> bool
 /// Pushes that a name doesn't have the naming, if it doesn't.
 #[inline(always)]
 fn push_misnamed<'f>(
-    entries: &mut Vec<Entry<'f>>,
+    entries: &mut Vec<IssueEntry<'f>>,
     naming: Naming,
     rule: Rule,
     declaration: &'f StoredDeclaration,
@@ -233,7 +233,7 @@ fn is_unused(
 /// Pushes that nothing refers to a declaration, if nothing does.
 #[inline(always)]
 fn push_unused<'f>(
-    entries: &mut Vec<Entry<'f>>,
+    entries: &mut Vec<IssueEntry<'f>>,
     used: &TextSet,
     rule: Rule,
     declaration: &'f StoredDeclaration,
@@ -264,7 +264,7 @@ fn push_finding<'f>(
     rule: Rule,
     declaration: &'f StoredDeclaration,
     text: &mut String,
-    entries: &mut Vec<Entry<'f>>,
+    entries: &mut Vec<IssueEntry<'f>>,
 ) -> Result<(), AllocError>
     ensures { OnOk result (issues_of entries.new.items
         ≡ issues_of entries.old.items ++ map (issue_at rule)
@@ -322,7 +322,7 @@ fn push_if_requested<'f>(
     rule: Rule,
     declaration: &'f StoredDeclaration,
     text: &mut String,
-    entries: &mut Vec<Entry<'f>>,
+    entries: &mut Vec<IssueEntry<'f>>,
 ) -> Result<(), AllocError>
     ensures { OnOk result (issues_of entries.new.items ≡ issues_of entries.old.items
         ++ issues_if_asked inputs.now.settings.now inputs.now.used.now
@@ -350,7 +350,7 @@ pub fn push_findings<'f>(
     inputs: &Inputs<'_>,
     declaration: &'f StoredDeclaration,
     text: &mut String,
-    entries: &mut Vec<Entry<'f>>,
+    entries: &mut Vec<IssueEntry<'f>>,
 ) -> Result<(), AllocError>
     ensures { OnOk result (issues_of entries.new.items ≡ issues_of entries.old.items
         ++ issues_declared inputs.now.settings.now inputs.now.used.now

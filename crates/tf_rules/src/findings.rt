@@ -7,7 +7,7 @@ ghost use Rattle.tf_rules.specs.Stored.{issue_at};
 ghost use Rattle.tf_rules.specs.Inner.Entries.{issues_of, finding_listed, issues_declared};
 ghost use Rattle.tf_rules.specs.Inner.StoredViews.{stored_comment, stored_declaration, place_of};
 
-use crate::entry::{Entry, Finding, Statement};
+use crate::entry::{IssueEntry, Finding, Statement};
 use crate::finding::{Inputs, push_findings};
 use crate::settings::Settings;
 use crate::stored::{StoredComment, StoredDeclaration, TokenPlace};
@@ -17,7 +17,7 @@ use tf_facts::TextSet;
 
 /// Pushes a finding, if there is one.
 fn push_found<'f>(
-    entries: &mut Vec<Entry<'f>>,
+    entries: &mut Vec<IssueEntry<'f>>,
     rule: Rule,
     found: Option<Finding<'f>>,
 ) -> Result<(), AllocError>
@@ -27,7 +27,7 @@ fn push_found<'f>(
     let Some(found) = found else {
         return Ok(());
     };
-    entries.push(Entry {
+    entries.push(IssueEntry {
         at: found.at,
         rule,
         statement: found.statement,
@@ -51,7 +51,7 @@ fn slash_comment_finding(comment: StoredComment) -> Option<Finding<'static>>
 /// Pushes the findings about comments.
 pub fn push_comments(
     comments: &[StoredComment],
-    entries: &mut Vec<Entry<'_>>,
+    entries: &mut Vec<IssueEntry<'_>>,
 ) -> Result<(), AllocError>
     ensures { OnOk result (issues_of entries.new.items
         ≡ issues_of entries.old.items ++ map (issue_at Rule.CommentSyntax)
@@ -69,7 +69,7 @@ pub fn push_places(
     rule: Rule,
     text: &'static str,
     places: &[TokenPlace],
-    entries: &mut Vec<Entry<'_>>,
+    entries: &mut Vec<IssueEntry<'_>>,
 ) -> Result<(), AllocError>
     ensures { OnOk result (issues_of entries.new.items
         ≡ issues_of entries.old.items ++ map (issue_at rule)
@@ -92,7 +92,7 @@ pub fn push_declarations<'f>(
     settings: &Settings,
     used: &TextSet,
     declarations: &'f [StoredDeclaration],
-    entries: &mut Vec<Entry<'f>>,
+    entries: &mut Vec<IssueEntry<'f>>,
 ) -> Result<(), AllocError>
     ensures { OnOk result (issues_of entries.new.items
         ≡ issues_of entries.old.items ++ flat_map (issues_declared settings.now used.now)

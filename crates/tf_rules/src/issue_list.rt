@@ -4,13 +4,13 @@ ghost use Rattle.std.specs.Prelude.{◌≡◌, ◌<◌, ◌==◌, length, map, s
 ghost use Rattle.tf_rules.specs.Answers.{listed_issue};
 ghost use Rattle.tf_rules.specs.Inner.Entries.{shown_of};
 
-use crate::entry::Entry;
+use crate::entry::IssueEntry;
 use crate::listed_issue::ListedIssue;
 use crate::statement::message_parts;
 use std::marker::Model;
 
 /// The entry of this number.
-fn entry_at<'f>(entries: &[Entry<'f>], i: usize) -> Entry<'f>
+fn entry_at<'f>(entries: &[IssueEntry<'f>], i: usize) -> IssueEntry<'f>
     requires { i < length entries.now }
     ensures { slice_get entries.now i ≡ Some result }
 {
@@ -19,7 +19,7 @@ fn entry_at<'f>(entries: &[Entry<'f>], i: usize) -> Entry<'f>
 
 /// An entry as a list gives it.
 #[inline(always)]
-fn listed_issue_of<'f>(entry: Entry<'f>) -> ListedIssue<'f>
+fn listed_issue_of<'f>(entry: IssueEntry<'f>) -> ListedIssue<'f>
     ensures { listed_issue result ≡ shown_of entry.entry }
 {
     ListedIssue {
@@ -33,7 +33,7 @@ fn listed_issue_of<'f>(entry: Entry<'f>) -> ListedIssue<'f>
 /// The issues of a module in order. Their messages are in parts, which are texts of the stored facts.
 #[derive(Drop)]
 pub struct IssueList<'f> {
-    entries: Vec<Entry<'f>>,
+    entries: Vec<IssueEntry<'f>>,
 }
 
 impl<'f> Model for IssueList<'f> {
@@ -48,7 +48,7 @@ impl<'f> Model for IssueList<'f> {
 
 impl<'f> IssueList<'f> {
     /// The issues of these entries.
-    pub(crate) fn new(entries: Vec<Entry<'f>>) -> IssueList<'f>
+    pub(crate) fn new(entries: Vec<IssueEntry<'f>>) -> IssueList<'f>
         ensures { result ≡ map shown_of entries.entry.items }
     {
         IssueList { entries }

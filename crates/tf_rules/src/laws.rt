@@ -11,7 +11,7 @@ ghost use Rattle.tf_rules.specs.Growth.{entries, name_bytes};
 ghost use Rattle.tf_rules.specs.Stored.{Stored, stored_of, with_file};
 ghost use Rattle.tf_rules.specs.StoredIssues.{issues_of_stored};
 
-pub use tf_facts::laws::variable_blocks_apart;
+pub use tf_facts::laws::variable_blocks_are_disjoint;
 
 /// The stored facts of files and one more are a function of the stored facts of the files, and of that one.
 pub fn stored_of_more()

@@ -9,7 +9,7 @@ ghost use Rattle.tf_rules.specs.Inner.StoredViews.{stored_comment};
 ghost use Rattle.tf_rules.specs.Inner.SilencedLines.{AreSilenced, silenced_at};
 ghost use Rattle.rule_set.specs.declared.rule.Rule.{Rule};
 
-use crate::entry::Entry;
+use crate::entry::IssueEntry;
 use crate::stored::StoredComment;
 use indexmap::IndexMap;
 use rule_set::{RuleSet, rules_of_both};
@@ -72,7 +72,7 @@ pub fn silenced_lines(
 }
 
 /// Whether an issue is silenced, on its own line or by a comment on the line above.
-fn is_silenced(lines: &SilencedLines, entry: &Entry<'_>) -> bool
+fn is_silenced(lines: &SilencedLines, entry: &IssueEntry<'_>) -> bool
     ensures { (comments : List (Comment Place)) → AreSilenced lines.now comments
         → result ≡ is_silenced comments (issue_of entry.now) }
 {
@@ -88,9 +88,9 @@ fn is_silenced(lines: &SilencedLines, entry: &Entry<'_>) -> bool
 
 /// Pushes an entry, unless it is silenced.
 fn push_unsilenced<'f>(
-    entry: Entry<'f>,
+    entry: IssueEntry<'f>,
     lines: &SilencedLines,
-    shown: &mut Vec<Entry<'f>>,
+    shown: &mut Vec<IssueEntry<'f>>,
 ) -> Result<(), AllocError>
     ensures { (comments : List (Comment Place)) → AreSilenced lines.now comments
         → OnOk result (issues_of shown.new.items
@@ -107,9 +107,9 @@ fn push_unsilenced<'f>(
 /// The entries that aren't silenced, in room for all.
 fn without_silenced<'f>(
     alloc: Global,
-    entries: &[Entry<'f>],
+    entries: &[IssueEntry<'f>],
     lines: &SilencedLines,
-) -> Result<Vec<Entry<'f>>, AllocError>
+) -> Result<Vec<IssueEntry<'f>>, AllocError>
     ensures { (comments : List (Comment Place)) → AreSilenced lines.now comments
         → IfOk result (λ shown. issues_of shown.items
         ≡ filter (λ i. not (is_silenced comments i)) (issues_of entries.now)) }
@@ -125,9 +125,9 @@ fn without_silenced<'f>(
 /// entries are the list itself.
 pub fn shown_entries<'f>(
     alloc: Global,
-    entries: Vec<Entry<'f>>,
+    entries: Vec<IssueEntry<'f>>,
     lines: &SilencedLines,
-) -> Result<Vec<Entry<'f>>, AllocError>
+) -> Result<Vec<IssueEntry<'f>>, AllocError>
     ensures { (comments : List (Comment Place)) → AreSilenced lines.now comments
         → IfOk result (λ shown. issues_of shown.items
         ≡ filter (λ i. not (is_silenced comments i)) (issues_of entries.entry.items)) }

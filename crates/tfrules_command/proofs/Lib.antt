@@ -1,7 +1,7 @@
 pub mod ListLemmas
 pub mod NameLemmas
 pub mod PageLemmas
-pub mod ReportPieceLemmas
+pub mod ReportPartLemmas
 pub mod AskedRuleLemmas
 pub mod OptionRowLemmas
 pub mod GatherLemmas

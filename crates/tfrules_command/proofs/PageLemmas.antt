@@ -109,7 +109,7 @@ text_written before now after first page text false f is none g t =
     subst (λ l. TookBy f before after l) (append-nil text) (subst (λ l. TookBy f before after (l ++ (text ++ []))) none (g [] after f last))
 text_written before now after first page text true f is none g t = absurd (cc)
 
--- ---- a message in pieces
+-- ---- a message in parts
 
 pub named_tail : (front name rest after_message : List ℕ) → front ++ (name ++ (rest ++ (after_message ++ []))) ≡ (front ++ (name ++ rest)) ++ after_message
 named_tail front name rest after_message =

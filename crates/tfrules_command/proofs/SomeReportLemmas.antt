@@ -11,7 +11,7 @@ use Rattle.rule_set.specs.declared.rule.Rule.{Rule}
 use Rattle.rule_set.specs.declared.rule.Rule.TheVariants.{CommentSyntax, DeprecatedIndex, DeprecatedInterpolation, DocumentedOutputs, DocumentedVariables, ModulePinnedSource, ModuleVersion, NamingConvention, TypedVariables, UnusedDeclarations}
 use Rattle.rule_set.specs.declared.rule_set.RuleSet.{RuleSet}
 use Rattle.tf_rules.specs.declared.settings.Settings.{Settings}
-use Rattle.tf_rules.proofs.DistinctLemmas.{reported_apart}
+use Rattle.tf_rules.proofs.DistinctLemmas.{reported_disjoint}
 use Rattle.tf_rules.proofs.ReportLemmas.{in_turn}
 use Rattle.tf_rules.proofs.SortLemmas.{Differ, filter_ascends, same_key}
 use Rattle.tfrules_command.proofs.ListLemmas.{filter_same}
@@ -132,6 +132,6 @@ settings_of p asked is =
 pub some_report : (p : Rule → Bool) (asked : Asked) (files : List File) → filter p all_rules ≡ asked.rules → Rising files → (report : List Issue) × IsReport asked files report
 some_report p asked files is rising =
     let settings = settings_of p asked is in
-    let apart : Ascends Differ (reported_issues asked files) = subst (λ (a : Asked). Ascends Differ (reported_issues a files)) settings.1 (reported_apart settings.0 files rising) in
+    let apart : Ascends Differ (reported_issues asked files) = subst (λ (a : Asked). Ascends Differ (reported_issues a files)) settings.1 (reported_disjoint settings.0 files rising) in
     let s = sorted (issues asked files) (filter_ascends (λ i. not (is_silenced (all_comments files) i)) Differ (reported_issues asked files) apart) in
     (s.0, record { members = s.2; ordered = s.1 })

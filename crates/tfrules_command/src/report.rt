@@ -95,8 +95,8 @@ fn after_message(rule: Rule) -> &'static str
     }
 }
 
-/// Writes `:LINE:COLUMN` so that it ends with the array, and returns where it begins. As one piece of the line it takes
-/// less than its four parts would, since each piece is copied by a call.
+/// Writes `:LINE:COLUMN` so that it ends with the array, and returns where it begins. As one part of the line it takes
+/// less than its four parts would, since each part is copied by a call.
 fn write_place(at: Position, room: &mut [u8; PLACE]) -> usize
     ensures within { result ≤ PLACE }
     ensures written { drop result room.new ≡ place_words at }
@@ -108,16 +108,16 @@ fn write_place(at: Position, room: &mut [u8; PLACE]) -> usize
     line - 1
 }
 
-/// Writes the pieces in turn, up to the first write that fails.
-fn write_each<O: ByteSink>(out: &mut O, pieces: &[&[u8]]) -> Result<(), WriteFault>
+/// Writes the parts in turn, up to the first write that fails.
+fn write_each<O: ByteSink>(out: &mut O, parts: &[&[u8]]) -> Result<(), WriteFault>
     requires { O.failed out.old ≡ false }
     ensures took { Took (writer O.ByteSink out.old out.new)
-        (concat (map (λ piece. piece.now) pieces.now)) }
+        (concat (map (λ part. part.now) parts.now)) }
     ensures failed { O.failed out.new ≡ is_err result }
     ensures flushes { O.flushes out.new ≡ O.flushes out.old }
 {
-    for piece in pieces {
-        if let Err(fault) = write_fully(out, piece) {
+    for part in parts {
+        if let Err(fault) = write_fully(out, part) {
             return Err(fault);
         }
     }
@@ -137,14 +137,14 @@ fn push_part(page: &mut Page, part: &[u8]) -> Result<(), CapacityError>
     page.try_extend_from_slice(part)
 }
 
-/// Appends the pieces to the waiting bytes, or none of them if there is no room for all.
-fn hold(page: &mut Page, pieces: &[&[u8]]) -> bool
+/// Appends the parts to the waiting bytes, or none of them if there is no room for all.
+fn hold(page: &mut Page, parts: &[&[u8]]) -> bool
     ensures { Holds result page.old.items page.new.items
-        (concat (map (λ piece. piece.now) pieces.now)) }
+        (concat (map (λ part. part.now) parts.now)) }
 {
     let before = page.len();
-    for piece in pieces {
-        if let Err(_) = push_part(page, piece) {
+    for part in parts {
+        if let Err(_) = push_part(page, part) {
             page.truncate(before);
             return false;
         }
@@ -167,30 +167,30 @@ fn send<O: ByteSink>(out: &mut O, page: &mut Page) -> Result<(), WriteFault>
     Ok(())
 }
 
-/// Writes the pieces after the waiting bytes, or lets them wait too. Pieces that no page can hold are written one by
+/// Writes the parts after the waiting bytes, or lets them wait too. Parts that no page can hold are written one by
 /// one.
 fn write_parts<O: ByteSink>(
     out: &mut O,
     page: &mut Page,
-    pieces: &[&[u8]],
+    parts: &[&[u8]],
 ) -> Result<(), WriteFault>
     requires { O.failed out.old ≡ false }
     ensures goes { GoesOut (O.failed out.new) (O.taken out.old)
         (O.taken out.new) page.old.items page.new.items
-        (concat (map (λ piece. piece.now) pieces.now)) }
+        (concat (map (λ part. part.now) parts.now)) }
     ensures failed { O.failed out.new ≡ is_err result }
     ensures flushes { O.flushes out.new ≡ O.flushes out.old }
 {
-    if hold(page, pieces) {
+    if hold(page, parts) {
         return Ok(());
     }
     if let Err(fault) = send(out, page) {
         return Err(fault);
     }
-    if hold(page, pieces) {
+    if hold(page, parts) {
         return Ok(());
     }
-    write_each(out, pieces)
+    write_each(out, parts)
 }
 
 /// Writes the line of a message.

@@ -14,32 +14,32 @@ static WRITE_FAILED: &[u8] = b"tfrules: error: write failed\n";
 // More calls of one device than any run here makes.
 const CALLS: usize = 1_000;
 
-// A run, its files in the order of their opens, and its result if nothing fails, with the pieces in which it writes its
+// A run, its files in the order of their opens, and its result if nothing fails, with the parts in which it writes its
 // report.
 #[derive(Clone, Copy)]
 struct Row<'a> {
     words: &'a [&'a str],
     files: Files<'a>,
-    pieces: &'a [&'a str],
+    parts: &'a [&'a str],
     shown: Shown<'a>,
 }
 
-// The bytes of this many good calls of a report that is written piece by piece.
+// The bytes of this many good calls of a report that is written part by part.
 fn report_front(
     rt: &impl Abort,
     alloc: Global,
-    pieces: &[&str],
+    parts: &[&str],
     calls: usize,
     most: usize,
 ) -> Vec<u8> {
     let mut front = Vec::new(alloc);
     let mut left = calls;
-    for piece in pieces {
-        for part in piece.as_bytes().chunks(most.max(1)) {
+    for part in parts {
+        for chunk in part.as_bytes().chunks(most.max(1)) {
             if left == 0 {
                 return front;
             }
-            front.extend_from_slice(part).expect(rt, "memory");
+            front.extend_from_slice(chunk).expect(rt, "memory");
             left = left.saturating_sub(1);
         }
     }
@@ -166,8 +166,8 @@ fn report_after(
 ) -> Vec<u8> {
     match kind {
         Kind::Opening | Kind::Read(_) => Vec::new(alloc),
-        Kind::Write => report_front(rt, alloc, row.pieces, good, most),
-        Kind::Flush => join(rt, alloc, row.pieces),
+        Kind::Write => report_front(rt, alloc, row.parts, good, most),
+        Kind::Flush => join(rt, alloc, row.parts),
     }
 }
 
@@ -268,7 +268,7 @@ const FAULTY: Module = &[
 
 const ONE: Module = &[("a.tf", b"a = 1\n")];
 
-// Words and a module, the pieces of the report, the message and the status, and the calls with one byte each and with many.
+// Words and a module, the parts of the report, the message and the status, and the calls with one byte each and with many.
 static RUNS: [(Words, Module, &[&str], &[u8], u8, Counts, Counts); 9] = [
     // reports
     (
@@ -359,12 +359,12 @@ static RUNS: [(Words, Module, &[&str], &[u8], u8, Counts, Counts); 9] = [
 
 #[test]
 fn each_call_fails(rt: HostRuntime) {
-    for (words, files, pieces, message, status, one, many) in &RUNS {
-        let report = join(&rt, rt.alloc(), pieces);
+    for (words, files, parts, message, status, one, many) in &RUNS {
+        let report = join(&rt, rt.alloc(), parts);
         let row = Row {
             words,
             files,
-            pieces,
+            parts,
             shown: (&report, message, *status),
         };
         fail_each(&rt, rt.alloc(), &row, 1, *one);
@@ -379,7 +379,7 @@ fn each_write_of_the_usage_fails(rt: HostRuntime) {
     let row = Row {
         words: &["tfrules"],
         files: ONE,
-        pieces: &[],
+        parts: &[],
         shown: (b"", USAGE.as_bytes(), 1),
     };
     fail_each(&rt, rt.alloc(), &row, 1, (0, 0, 0, 0, 146, 146));

@@ -14,8 +14,8 @@ use Rattle.tree_format.specs.declared.tally.Tally.{Tally}
 use Rattle.tree_format.specs.declared.outcome.Outcome.{Outcome}
 use Rattle.tree_format.specs.declared.mode.Mode.{Mode}
 use Rattle.command_line.proofs.WriterLemmas.{took_after, took_front}
-use Rattle.tree_command.specs.Ends.{Formats, IsPartOf, last_words, words_at_end}
-use Rattle.tree_command.specs.Line.{Part}
+use Rattle.tree_command.specs.Ends.{Formats, IsSelected, last_words, words_at_end}
+use Rattle.tree_command.specs.Line.{Selection}
 
 either_false : (f g : Bool) → g ≡ false → (f || g) ≡ f
 either_false true g e = refl
@@ -87,17 +87,17 @@ status_kept true s s' e ne h = ne e
 status_kept false s s' e ne h = ne (e ∙ h)
 
 -- over files, with a device; the walk changed no file and asked for no replacement
-module _ (shows quiet : Bool) (mode : Mode) (part : Part) (paths : List Name) (files mid : Files) (was walked : Faults) (asked asked' : Asked) (after : State) (found : List Found) (same : mid ≡ files) (still : asked' ≡ asked)
-    (finds : IsPartOf files was walked part paths found) where
+module _ (shows quiet : Bool) (mode : Mode) (selection : Selection) (paths : List Name) (files mid : Files) (was walked : Faults) (asked asked' : Asked) (after : State) (found : List Found) (same : mid ≡ files) (still : asked' ≡ asked)
+    (finds : IsSelected files was walked selection paths found) where
   formats_from : (end : End) → IsRun shows mode found (last_words quiet mode end.out.failed) (record { files = mid; faults = walked; asked = asked' }) after end
       → (end.status ≢ 4 → All (λ f. Settled mode (mid.told (mid.real f.name.items)) (after.files.told (mid.real f.name.items))) found)
       → ((name : Name) → All (λ f. name ≢ mid.real f.name.items) found → after.files.told name ≡ mid.told name)
-      → Formats shows quiet mode part paths (record { files = files; faults = was; asked = asked }) after end
+      → Formats shows quiet mode selection paths (record { files = files; faults = was; asked = asked }) after end
   formats_from end run done untouched =
-      subst (λ (f : Files). Formats shows quiet mode part paths (record { files = f; faults = was; asked = asked }) after end) same (record {
+      subst (λ (f : Files). Formats shows quiet mode selection paths (record { files = f; faults = was; asked = asked }) after end) same (record {
         found = found;
         walked = walked;
-        finds = subst (λ (f : Files). IsPartOf f was walked part paths found) (sym same) finds;
+        finds = subst (λ (f : Files). IsSelected f was walked selection paths found) (sym same) finds;
         run = subst (λ (q : Asked). IsRun shows mode found (last_words quiet mode end.out.failed) (record { files = mid; faults = walked; asked = q }) after end) still run;
         done = done;
         untouched = untouched;
@@ -107,7 +107,7 @@ module _ (shows quiet : Bool) (mode : Mode) (part : Part) (paths : List Name) (f
       (done : s ≢ 4 → All (λ f. Settled mode (mid.told (mid.real f.name.items)) (after.files.told (mid.real f.name.items))) found)
       (untouched : (name : Name) → All (λ f. name ≢ mid.real f.name.items) found → after.files.told name ≡ mid.told name) where
     -- standard error failed, so no last message is written
-    pub formats_stopped : err.failed ≡ true → Formats shows quiet mode part paths (record { files = files; faults = was; asked = asked }) after (record { out = out; err = err; status = 4 })
+    pub formats_stopped : err.failed ≡ true → Formats shows quiet mode selection paths (record { files = files; faults = was; asked = asked }) after (record { out = out; err = err; status = 4 })
     formats_stopped bad =
         formats_from (record { out = out; err = err; status = 4 })
         (run_stopped shows mode found (record { files = mid; faults = walked; asked = asked' }) after out err s run.0 (last_words quiet mode out.failed) bad)
@@ -115,7 +115,7 @@ module _ (shows quiet : Bool) (mode : Mode) (part : Part) (paths : List Name) (f
 
     -- the last message is written
     pub formats_finished : (fin : Writer) (s' : ℕ) → err.failed ≡ false → fin.before ≡ err.before → TookBy fin.failed err.after fin.after (words_at_end quiet mode out.failed tally)
-        → s' ≡ (if out.failed || fin.failed then 4 else s) → Formats shows quiet mode part paths (record { files = files; faults = was; asked = asked }) after (record { out = out; err = fin; status = s' })
+        → s' ≡ (if out.failed || fin.failed then 4 else s) → Formats shows quiet mode selection paths (record { files = files; faults = was; asked = asked }) after (record { out = out; err = fin; status = s' })
     formats_finished fin s' good before took status =
         formats_from (record { out = out; err = fin; status = s' })
         (run_said shows mode found (record { files = mid; faults = walked; asked = asked' }) after out err s run.0 (last_words quiet mode out.failed) fin s' good before

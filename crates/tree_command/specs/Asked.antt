@@ -1,10 +1,10 @@
 -- The request in the code's options, as the definitions have it.
 use Rattle.std.specs.Prelude.{Result, Ok, Err, map}
 use Rattle.file_tree.specs.Choices.{choice_view}
-use Rattle.tree_command.specs.Line.{Request, Given, Part}
+use Rattle.tree_command.specs.Line.{Request, Given, Selection}
 use Rattle.tree_command.specs.declared.options.Given.{Given as GivenWords}
 use Rattle.tree_command.specs.declared.options.TreeOptions.{TreeOptions}
-use Rattle.tree_command.specs.declared.part.Part.{Part as PartOfFiles}
+use Rattle.tree_command.specs.declared.selection.Selection.{Selection as CodeSelection}
 use Rattle.tree_command.specs.declared.usage.Usage.{Usage}
 
 abbrev pub given_of : GivenWords → Given
@@ -24,5 +24,5 @@ result_request (Ok o) = Ok (request_of o)
 result_request (Err usage) = Err usage
 
 -- the view of a part of the files
-abbrev pub part_view : PartOfFiles → Part
-part_view part = record { shard = part.shard; chosen = choice_view part.choice }
+abbrev pub selection_view : CodeSelection → Selection
+selection_view selection = record { shard = selection.shard; chosen = choice_view selection.choice }

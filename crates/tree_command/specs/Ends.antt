@@ -15,7 +15,7 @@ use Rattle.tree_format.specs.declared.outcome.Outcome.{Outcome}
 use Rattle.tree_format.specs.declared.tally.Tally.{Tally}
 use Rattle.tree_command.specs.Formatter.{formatter}
 use Rattle.tree_command.specs.FormatterWords.{formatter_words}
-use Rattle.tree_command.specs.Line.{Request, Part, request_of_texts, part_of}
+use Rattle.tree_command.specs.Line.{Request, Selection, request_of_texts, selection_of}
 use Rattle.tree_words.specs.Line.{others_in, texts_in}
 use Rattle.tree_words.specs.Paths.{paths_of_input, paths_of_line}
 use Rattle.tree_words.specs.Shards.{picked_of}
@@ -36,19 +36,19 @@ last_words quiet mode out_failed answers = words_at_end quiet mode out_failed (t
 
 -- the found names are those that these paths stand for, without links to files that are found under another name as
 -- well, and as far as the part takes them; a name that can't be looked at is among them because a call failed
-abbrev pub IsPartOf : Files → Faults → Faults → Part → List Name → List Found → Type 0
-IsPartOf files was walked part paths found =
-    (all : List Found) × Finds files part.chosen paths all
-    × AreReal files part.chosen paths was walked all
-    × ((once : List Found) × KeepsOnce all once × (found ≡ picked_of part.shard once))
+abbrev pub IsSelected : Files → Faults → Faults → Selection → List Name → List Found → Type 0
+IsSelected files was walked selection paths found =
+    (all : List Found) × Finds files selection.chosen paths all
+    × AreReal files selection.chosen paths was walked all
+    × ((once : List Found) × KeepsOnce all once × (found ≡ picked_of selection.shard once))
 
 -- THE FILES WERE FOUND that these paths stand for, and then each was looked at. If messages are read on a terminal, the
 -- lines of faults are shown.
-pub record Formats (shows quiet : Bool) (mode : Mode) (part : Part) (paths : List Name)
+pub record Formats (shows quiet : Bool) (mode : Mode) (selection : Selection) (paths : List Name)
     (before after : State) (end : End) : Type 0 where
   pub found : List Found
   pub walked : Faults  -- the faults of calls up to the end of the walk
-  pub finds : IsPartOf before.files before.faults walked part paths found
+  pub finds : IsSelected before.files before.faults walked selection paths found
   pub run : IsRun shows mode found (last_words quiet mode end.out.failed)
       (record before { faults = walked }) after end
   -- unless something failed, each file that was found is settled
@@ -65,25 +65,25 @@ SaysOnly row before after end =
     (after.files ≡ before.files) × (after.asked ≡ before.asked) × Shows formatter row end
 
 -- memory ran out before a file was looked at, or the files were formatted
-abbrev pub FormatsOr : Bool → Bool → Mode → Part → List Name → State → State → End → Type 0
-FormatsOr shows quiet mode part paths before after end =
+abbrev pub FormatsOr : Bool → Bool → Mode → Selection → List Name → State → State → End → Type 0
+FormatsOr shows quiet mode selection paths before after end =
     SaysOnly (out_of_memory formatter) before after end
-    ⊎ Formats shows quiet mode part paths before after end
+    ⊎ Formats shows quiet mode selection paths before after end
 
 -- memory ran out before a file was looked at, or the files that the names of the line stand for were formatted
-abbrev pub FormatsNamed : Bool → Bool → Mode → Part → List Name → State → State → End → Type 0
-FormatsNamed shows quiet mode part names before after end =
-    FormatsOr shows quiet mode part (paths_of_line names) before after end
+abbrev pub FormatsNamed : Bool → Bool → Mode → Selection → List Name → State → State → End → Type 0
+FormatsNamed shows quiet mode selection names before after end =
+    FormatsOr shows quiet mode selection (paths_of_line names) before after end
 
 -- memory ran out before a file was looked at, or a read of standard input failed, or the files were formatted that its
 -- names stand for; its bytes are `input`, if it tells them
-abbrev pub ReadsAndFormats : Bool → Bool → Mode → Part → Bool → Option (List ℕ) → State → State
+abbrev pub ReadsAndFormats : Bool → Bool → Mode → Selection → Bool → Option (List ℕ) → State → State
     → End → Type 0
-ReadsAndFormats shows quiet mode part failed input before after end =
+ReadsAndFormats shows quiet mode selection failed input before after end =
     SaysOnly (out_of_memory formatter) before after end
     ⊎ (((failed ≡ true) × SaysOnly read_failed before after end)
     ⊎ ((failed ≡ false) × (bytes : List ℕ) × Tells input bytes
-    × Formats shows quiet mode part (paths_of_input bytes) before after end))
+    × Formats shows quiet mode selection (paths_of_input bytes) before after end))
 
 -- ---- runs that look at no file
 
@@ -118,16 +118,16 @@ ShowsUsage texts usage end =
 -- ---- all runs
 
 -- the end of a run with this request
-abbrev pub EndsBy : Bool → Bool → Bool → Mode → Part → List Name → Bool → Option (List ℕ) → State
+abbrev pub EndsBy : Bool → Bool → Bool → Mode → Selection → List Name → Bool → Option (List ℕ) → State
     → State → End → Type 0
-EndsBy shows true quiet mode part names failed input before after end =
-    ReadsAndFormats shows quiet mode part failed input before after end
-EndsBy shows false quiet mode part names failed input before after end =
-    FormatsNamed shows quiet mode part names before after end
+EndsBy shows true quiet mode selection names failed input before after end =
+    ReadsAndFormats shows quiet mode selection failed input before after end
+EndsBy shows false quiet mode selection names failed input before after end =
+    FormatsNamed shows quiet mode selection names before after end
 
 abbrev pub EndsByRequest : Bool → Request → Bool → Option (List ℕ) → State → State → End → Type 0
 EndsByRequest shows asking failed input before after end =
-    EndsBy shows asking.given.null asking.given.quiet asking.mode (part_of asking)
+    EndsBy shows asking.given.null asking.given.quiet asking.mode (selection_of asking)
     asking.given.names failed input before after end
 
 abbrev pub EndsFor : Bool → List Text → Result Request Usage → Bool → Option (List ℕ) → State

@@ -35,12 +35,12 @@ pub record Request : Type 0 where
   pub given : Given
 
 -- the files that a line chooses, among those that its names stand for
-pub record Part : Type 0 where
+pub record Selection : Type 0 where
   pub shard : Option Shard
   pub chosen : Chosen
 
-abbrev pub part_of : Request → Part
-part_of asking =
+abbrev pub selection_of : Request → Selection
+selection_of asking =
     record { shard = asking.shard; chosen = chosen_by asking.given.any_name asking.given.excluded }
 
 -- ---- the command

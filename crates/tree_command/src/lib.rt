@@ -4,6 +4,6 @@
 
 mod formatter_words;
 pub mod options;
-pub mod part;
+pub mod selection;
 pub mod run;
 pub mod usage;

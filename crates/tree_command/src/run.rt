@@ -3,8 +3,8 @@
 ghost use Rattle.std.specs.Prelude.{◌≡◌, ◌||◌, ℕ, List, false, IfOk, Some, if◌then◌else◌, map};
 ghost use Rattle.command_line.specs.Rows.{Shows, Took, end_of_streams, writer};
 ghost use Rattle.file_tree.specs.Unchanged.{Unchanged};
-ghost use Rattle.tree_command.specs.Ends.{EndsByRequest, FormatsNamed, FormatsOr, IsEnd, IsEndOf, IsPartOf, ReadsAndFormats, ShowsUsage, words_at_end};
-ghost use Rattle.tree_command.specs.Asked.{request_of, part_view};
+ghost use Rattle.tree_command.specs.Ends.{EndsByRequest, FormatsNamed, FormatsOr, IsEnd, IsEndOf, IsSelected, ReadsAndFormats, ShowsUsage, words_at_end};
+ghost use Rattle.tree_command.specs.Asked.{request_of, selection_view};
 ghost use Rattle.tree_command.specs.Formatter.{formatter};
 ghost use Rattle.tree_command.specs.Line.{request_of_texts, request_of_words, mode_of_texts, mode_of_words, reads_names};
 ghost use Rattle.tree_command.specs.declared.usage.Usage.TheVariants.{BadLine};
@@ -14,7 +14,7 @@ ghost use Rattle.tree_format.specs.States.{state_of};
 
 use crate::formatter_words::formatter_words;
 use crate::options::{TreeOptions, options};
-use crate::part::{Part, part_of};
+use crate::selection::{Selection, selection_of};
 use crate::usage::{BAD_JOBS, BAD_PART, HELP, NAMES_TWICE, TWO_MODES, Usage, VERSION};
 use command_line::{Program, Streams};
 use file_tree::once::each_file_once;
@@ -28,7 +28,7 @@ use tree_format::run::{Ran, run_over};
 use tree_format::tally::tell_tally;
 use tree_words::operands::{operands_in, operands_of, read_names};
 use tree_words::pick::pick;
-use tree_words::words::{Line, words_of};
+use tree_words::words::{CommandLine, words_of};
 use tree_words::wrong::bad_line_text;
 
 /// The status of a run in which something failed.
@@ -50,20 +50,20 @@ fn formatter() -> Program
 
 /// The files that these names stand for, without links to files that are found under another name as well, as far as
 /// the part takes them.
-fn find_part<T: Tree>(
+fn find_selected<T: Tree>(
     alloc: Global,
-    part: Part<'_>,
+    selection: Selection<'_>,
     operands: &[&[u8]],
     tree: &mut T,
 ) -> Result<Vec<Found>, AllocError>
     ensures unchanged { Unchanged T.Tree tree.old tree.new }
     ensures finds { IfOk result
-        (λ found. IsPartOf (T.files tree.old) (T.faults tree.old) (T.faults tree.new)
-        (part_view part.entry) (map (λ operand. operand.now) operands.now) found.items) }
+        (λ found. IsSelected (T.files tree.old) (T.faults tree.old) (T.faults tree.new)
+        (selection_view selection.entry) (map (λ operand. operand.now) operands.now) found.items) }
 {
-    let found = find(alloc, part.choice, operands, tree)?;
+    let found = find(alloc, selection.choice, operands, tree)?;
     let found = each_file_once(alloc, found)?;
-    pick(alloc, found, part.shard)
+    pick(alloc, found, selection.shard)
 }
 
 /// What a run is to do.
@@ -73,7 +73,7 @@ struct Job<'p> {
     quiet: bool,
     mode: Mode,
     /// The part of the files that it takes.
-    part: Part<'p>,
+    selection: Selection<'p>,
 }
 
 /// Writes the last message of a run, and returns its status.
@@ -108,12 +108,12 @@ fn run<T: WritableTree, P: Progress, O: ByteSink, E: ByteSink>(
     ensures kept { (name : List ℕ)
         → MayBecome job.entry.mode ((T.files tree.old).told name) ((T.files tree.new).told name) }
     ensures ends { FormatsOr (P.shows progress.old) job.entry.quiet job.entry.mode
-        (part_view job.entry.part)
+        (selection_view job.entry.selection)
         (map (λ operand. operand.now) operands.now) (state_of T.Tree tree.old)
         (state_of T.Tree tree.new)
         (end_of_streams O.ByteSink E.ByteSink streams.old streams.new result) }
 {
-    match find_part(alloc, job.part, operands, tree) {
+    match find_selected(alloc, job.selection, operands, tree) {
         Ok(found) => {
             let ran = run_over(alloc, job.mode, found.as_slice(), tree, progress, streams);
             progress.end();
@@ -143,7 +143,7 @@ fn run_null<T: WritableTree, P: Progress, R: ByteSource, O: ByteSink, E: ByteSin
     ensures kept { (name : List ℕ)
         → MayBecome job.entry.mode ((T.files tree.old).told name) ((T.files tree.new).told name) }
     ensures ends { ReadsAndFormats (P.shows progress.old) job.entry.quiet job.entry.mode
-        (part_view job.entry.part)
+        (selection_view job.entry.selection)
         (R.failed input.new) (R.left input.old)
         (state_of T.Tree tree.old) (state_of T.Tree tree.new)
         (end_of_streams O.ByteSink E.ByteSink streams.old streams.new result) }
@@ -177,7 +177,7 @@ fn run_named<T: WritableTree, P: Progress, O: ByteSink, E: ByteSink>(
     ensures kept { (name : List ℕ)
         → MayBecome job.entry.mode ((T.files tree.old).told name) ((T.files tree.new).told name) }
     ensures ends { FormatsNamed (P.shows progress.old) job.entry.quiet job.entry.mode
-        (part_view job.entry.part)
+        (selection_view job.entry.selection)
         (map (λ name. name.now) names.now) (state_of T.Tree tree.old) (state_of T.Tree tree.new)
         (end_of_streams O.ByteSink E.ByteSink streams.old streams.new result) }
 {
@@ -255,7 +255,7 @@ fn run_request<T: WritableTree, P: Progress, R: ByteSource, O: ByteSink, E: Byte
     let job = Job {
         quiet: given.quiet,
         mode: options.mode,
-        part: part_of(options),
+        selection: selection_of(options),
     };
     if given.null {
         return run_null(alloc, job, input, tree, progress, streams);
@@ -267,7 +267,7 @@ fn run_request<T: WritableTree, P: Progress, R: ByteSource, O: ByteSink, E: Byte
 #[tactic(auto, using(tree_format::proofs::KeptFormatLemmas::safe_same, tree_format::proofs::KeptFormatLemmas::safe_kept))]
 fn run_line<'w, T: WritableTree, P: Progress, R: ByteSource, O: ByteSink, E: ByteSink>(
     alloc: Global,
-    line: Line<'w>,
+    line: CommandLine<'w>,
     tree: &mut T,
     progress: &mut P,
     input: &mut R,
@@ -332,7 +332,7 @@ pub fn program<T: WritableTree, P: Progress, R: ByteSource, O: ByteSink, E: Byte
     let Ok(words) = words_of(alloc, "tffmt-all", words) else {
         return streams.tell_out_of_memory(&formatter());
     };
-    let line = Line {
+    let line = CommandLine {
         texts: words.texts.as_slice(),
         others: words.others.as_slice(),
     };

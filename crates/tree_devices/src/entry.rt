@@ -35,7 +35,7 @@ impl<'a> Stands<'a> {
 
 /// A name with its entry. A folder has no slash at its end, and the current one no name.
 #[derive(Clone, Copy, Debug)]
-pub struct Entry<'a> {
+pub struct MemoryEntry<'a> {
     pub name: &'a [u8],
     pub stands: Stands<'a>,
 }

@@ -7,7 +7,7 @@ ghost use Rattle.file_tree.specs.declared.fault.TreeFault.TheVariants.{Missing};
 ghost use Rattle.tree_devices.specs.MemoryFiles.{files_in, kind_told, known_in, listing_told, real_in, text_in};
 
 use crate::calls::{Calls, Failures, Step};
-use crate::entry::{Entry, Stands};
+use crate::entry::{MemoryEntry, Stands};
 use crate::known::Known;
 use crate::memory_reader::MemoryReader;
 use crate::stored::Stored;
@@ -26,7 +26,7 @@ pub struct MemoryTree<'a> {
     alloc: Global,
     /// The full path of the current folder, without a `/` at its end.
     current: &'a [u8],
-    entries: &'a [Entry<'a>],
+    entries: &'a [MemoryEntry<'a>],
     known: Vec<Known>,
     files: Vec<Stored>,
     links: Vec<Stored>,
@@ -130,7 +130,7 @@ impl<'a> MemoryTree<'a> {
     /// A tree with these entries, whose current folder is the top of all.
     pub fn new(
         alloc: Global,
-        entries: &'a [Entry<'a>],
+        entries: &'a [MemoryEntry<'a>],
         failures: Failures,
     ) -> Result<MemoryTree<'a>, AllocError> {
         let mut tree = MemoryTree {
@@ -156,7 +156,7 @@ impl<'a> MemoryTree<'a> {
     pub fn new_in(
         alloc: Global,
         current: &'a [u8],
-        entries: &'a [Entry<'a>],
+        entries: &'a [MemoryEntry<'a>],
         failures: Failures,
     ) -> Result<MemoryTree<'a>, AllocError> {
         let mut tree = MemoryTree::new(alloc, entries, failures)?;
@@ -209,7 +209,7 @@ impl<'a> MemoryTree<'a> {
     }
 
     /// Keeps the answers for an entry: for its name, and for a folder also for the name with a slash.
-    fn learn(&mut self, entry: &Entry<'_>) -> Result<(), AllocError> {
+    fn learn(&mut self, entry: &MemoryEntry<'_>) -> Result<(), AllocError> {
         self.keep_answers(entry.name)?;
         if entry.name.is_empty() {
             return self.keep_answers(b"./");

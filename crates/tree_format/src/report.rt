@@ -18,16 +18,16 @@ use hcl_scan::{ByteSink, Failed, Fault};
 use itoa::Buffer;
 
 /// Writes a name, quoted as in messages, and then the parts.
-fn write_named<S: ByteSink>(sink: &mut S, name: &[u8], pieces: &[&[u8]]) -> Result<(), Failed>
+fn write_named<S: ByteSink>(sink: &mut S, name: &[u8], parts: &[&[u8]]) -> Result<(), Failed>
     requires { S.failed sink.old ≡ false }
     ensures took { Took (writer S.ByteSink sink.old sink.new)
-        (shown_name name.now ++ concat (map (λ piece. piece.now) pieces.now)) }
+        (shown_name name.now ++ concat (map (λ part. part.now) parts.now)) }
     ensures failed { S.failed sink.new ≡ is_err result }
 {
     if write_quoted(sink, name).is_err() {
         return Err(Failed);
     }
-    write_parts(sink, pieces)
+    write_parts(sink, parts)
 }
 
 /// Writes `NAME: TEXT`.

@@ -27,13 +27,13 @@ use Rattle.tree_lint.specs.Verdicts.{CanBeRead, HaveFound, IsVerdict, Linted, St
 use Rattle.tree_lint.specs.declared.counts.Ended.{Ended}
 use Rattle.tree_lint.specs.declared.kept.KeptRefusals.{KeptRefusals}
 use Rattle.tree_lint.specs.declared.policy.Policy.{Policy}
-use Rattle.tree_lint.specs.declared.run.Task.{Task}
+use Rattle.tree_lint.specs.declared.run.ModuleTask.{ModuleTask}
 use Rattle.tree_lint.specs.declared.stop.Stop.{Stop}
 use Rattle.tree_lint.specs.declared.written.Terminals.{Terminals}
 use Rattle.tree_lint.proofs.KeptLemmas.{keeps_none}
 use Rattle.tree_lint.proofs.PartedLemmas.{nothing_parted}
 
-pub shows_as : (task : Task) (m : Module) (P Q : Verdict → Type 0) (out err : Writer) (before after : KeptRefusals) (ended : Ended) → ((v : Verdict) → P v → Q v) → Shows task m P out err before after ended → Shows task m Q out err before after ended
+pub shows_as : (task : ModuleTask) (m : Module) (P Q : Verdict → Type 0) (out err : Writer) (before after : KeptRefusals) (ended : Ended) → ((v : Verdict) → P v → Q v) → Shows task m P out err before after ended → Shows task m Q out err before after ended
 shows_as task m P Q out err before after ended h s = record { verdict = s.verdict; holds = h s.verdict s.holds; output = s.output; message = s.message; kept = s.kept; exit = s.exit; issues = s.issues; shown = s.shown }
 
 -- a writer that isn't called took an empty text
@@ -41,7 +41,7 @@ pub untouched : (f : Bool) (a : Option (List ℕ)) → f ≡ false → TookBy f 
 untouched false a e = appends_nothing a
 untouched true a e = absurd (cc)
 
-module _ (task : Task) (m : Module) (out err : Writer) (before after : KeptRefusals) (ended : Ended) where
+module _ (task : ModuleTask) (m : Module) (out err : Writer) (before after : KeptRefusals) (ended : Ended) where
   refused_all : (refusals : List Refusal) (text : List ℕ) → out.failed ≡ false → out.after ≡ out.before → TookBy err.failed err.before err.after text → text ≡ flat_map refusal_line refusals → KeepsAll before after refusals → ended ≡ refused_end
       → Shows task m (λ v. v ≡ Err refusals) out err before after ended
   refused_all refusals text good same took is keeps e = record {
@@ -153,7 +153,7 @@ none_shown : (form : Option Form) (texts : List (List ℕ)) → false ≡ has_ou
 none_shown Option.None texts = refl
 none_shown (Option.Some form) texts = refl
 
-pub shows_nothing : (task : Task) (m : Module) (out err : Writer) (before : KeptRefusals) (linted : Linted) → linted ≡ none linted.texts → out.failed ≡ false → out.after ≡ out.before → err.failed ≡ false → err.after ≡ err.before
+pub shows_nothing : (task : ModuleTask) (m : Module) (out err : Writer) (before : KeptRefusals) (linted : Linted) → linted ≡ none linted.texts → out.failed ≡ false → out.after ≡ out.before → err.failed ≡ false → err.after ≡ err.before
     → Shows task m (HasOrNoMemory m linted) out err before before (record { status = 0; issues = 0; is_shown = false })
 shows_nothing task m out err before linted e good same fine still = subst (λ l. Shows task m (HasOrNoMemory m l) out err before before (record { status = 0; issues = 0; is_shown = false })) (sym e)
     (shown task m out err before before (record { status = 0; issues = 0; is_shown = false }) (none linted.texts) [] [] (subst (λ a. TookBy out.failed out.before a []) (sym same) (untouched out.failed out.before good)) (none_output task.manner.form task.manner.terminals.out m task.is_after linted.texts)

@@ -17,7 +17,7 @@ use crate::kept::KeptRefusals;
 use crate::linted::Linted;
 use crate::module_lines::ModuleLines;
 use crate::refusal::{Refusal, tell_comment, tell_refusal};
-use crate::run::Task;
+use crate::run::ModuleTask;
 use crate::shown::Shown;
 use crate::terminal::show_lines;
 use command_line::{Streams, write_parts};
@@ -129,7 +129,7 @@ pub(crate) fn refuse<E: ByteSink>(
 /// Writes the report of issues, with quoted names of the files.
 fn show_text<O: ByteSink>(
     alloc: Global,
-    task: Task,
+    task: ModuleTask,
     one: &Module,
     linted: Linted<'_, '_>,
     out: &mut O,
@@ -173,7 +173,7 @@ fn show_form<O: ByteSink>(
 /// Writes the result for a module, as a report or in a form.
 fn show_linted<O: ByteSink>(
     alloc: Global,
-    task: Task,
+    task: ModuleTask,
     one: &Module,
     linted: Linted<'_, '_>,
     out: &mut O,
@@ -214,7 +214,7 @@ fn tell_comments<E: ByteSink>(
 /// Shows the result for a module, unless it is empty.
 fn show_some<O: ByteSink, E: ByteSink>(
     alloc: Global,
-    task: Task,
+    task: ModuleTask,
     one: &Module,
     linted: Linted<'_, '_>,
     streams: &mut Streams<O, E>,
@@ -242,7 +242,7 @@ fn show_some<O: ByteSink, E: ByteSink>(
 /// Shows the result for a module.
 pub(crate) fn show<O: ByteSink, E: ByteSink>(
     alloc: Global,
-    task: Task,
+    task: ModuleTask,
     one: &Module,
     linted: Linted<'_, '_>,
     streams: &mut Streams<O, E>,

@@ -26,7 +26,7 @@ use tfrules_command::file_names::MAX_FILES;
 
 /// How to lint and to show a module.
 #[derive(Clone, Copy, Debug, PartialEq, Eq)]
-pub(crate) struct Task {
+pub(crate) struct ModuleTask {
     /// The policy by which it is linted.
     pub policy: Policy,
     pub manner: Manner,
@@ -37,7 +37,7 @@ pub(crate) struct Task {
 /// Lints the files of a module, which can all be looked at and aren't too many.
 fn lint_files<T: Tree + Drop, O: ByteSink, E: ByteSink>(
     alloc: Global,
-    task: Task,
+    task: ModuleTask,
     one: &Module,
     files: &mut ModuleTree<T>,
     streams: &mut Streams<O, E>,
@@ -73,7 +73,7 @@ fn lint_files<T: Tree + Drop, O: ByteSink, E: ByteSink>(
 /// Lints one module.
 fn lint_one<T: Tree + Drop, O: ByteSink, E: ByteSink>(
     alloc: Global,
-    task: Task,
+    task: ModuleTask,
     one: &Module,
     files: &mut ModuleTree<T>,
     streams: &mut Streams<O, E>,
@@ -169,7 +169,7 @@ fn run_all<T: Tree + Drop, O: ByteSink, E: ByteSink>(
     let mut counts = Counts::new();
     let mut kept = KeptRefusals::new(alloc, manner.form.is_some());
     for one in modules {
-        let task = Task {
+        let task = ModuleTask {
             policy: one.policy,
             manner,
             is_after: has_output,

@@ -8,7 +8,7 @@ use hcl_scan::ByteSink;
 use std::alloc::Global;
 use std::process::Abort;
 use tree_devices::calls::Step;
-use tree_devices::entry::{Entry, Stands};
+use tree_devices::entry::{MemoryEntry, Stands};
 
 static READ_FAILED: &[u8] = b"tffmt-all: error: read failed\n";
 
@@ -63,7 +63,7 @@ fn expected_run(
     }
 }
 
-fn old_bytes(entry: &Entry<'static>) -> Option<&'static [u8]> {
+fn old_bytes(entry: &MemoryEntry<'static>) -> Option<&'static [u8]> {
     match entry.stands {
         Stands::File(bytes) | Stands::Busy(bytes) | Stands::Same(bytes, _) => Some(bytes),
         _ => None,
@@ -71,7 +71,7 @@ fn old_bytes(entry: &Entry<'static>) -> Option<&'static [u8]> {
 }
 
 // The expected bytes of a file after looks at these lines.
-fn wanted_bytes(lines: &[Line], entry: &Entry<'static>) -> Option<&'static [u8]> {
+fn wanted_bytes(lines: &[Line], entry: &MemoryEntry<'static>) -> Option<&'static [u8]> {
     for line in lines {
         if let Said::Written(name, bytes) = line.said {
             if name == entry.name {

@@ -7,7 +7,7 @@ use hcl_scan::{ByteSource, MemorySink, MemorySource};
 use std::alloc::{AllocError, Global};
 use tree_command::run::program;
 use tree_devices::calls::{Failures, STEADY};
-use tree_devices::entry::Entry;
+use tree_devices::entry::MemoryEntry;
 use tree_devices::memory_tree::MemoryTree;
 use tree_format::outcome::Outcome;
 use tree_format::progress::Progress;
@@ -115,7 +115,7 @@ pub fn run<'a>(
     alloc: Global,
     words: &[&str],
     names: &[u8],
-    entries: &'a [Entry<'a>],
+    entries: &'a [MemoryEntry<'a>],
     devices: &Devices,
 ) -> Result<Ended<'a>, AllocError> {
     let words = words_as_bytes(alloc, words)?;
@@ -127,7 +127,7 @@ pub fn run_bytes<'a>(
     alloc: Global,
     words: &[&[u8]],
     names: &[u8],
-    entries: &'a [Entry<'a>],
+    entries: &'a [MemoryEntry<'a>],
     devices: &Devices,
 ) -> Result<Ended<'a>, AllocError> {
     let mut tree = MemoryTree::new(alloc, entries, devices.tree)?;

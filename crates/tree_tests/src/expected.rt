@@ -150,9 +150,9 @@ impl Writer {
         }
     }
 
-    fn put_all(&mut self, rt: &impl Abort, pieces: &[&[u8]]) {
-        for piece in pieces {
-            self.push_chunks(rt, piece);
+    fn put_all(&mut self, rt: &impl Abort, parts: &[&[u8]]) {
+        for part in parts {
+            self.push_chunks(rt, part);
         }
     }
 }

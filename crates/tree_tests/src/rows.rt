@@ -3,7 +3,7 @@
 use crate::compared::Words;
 use crate::expected::{Lines, Said};
 use file_tree::fault::TreeFault;
-use tree_devices::entry::{Entry, Stands};
+use tree_devices::entry::{MemoryEntry, Stands};
 
 /// The output of a run that looks at no file, on both streams, and its status.
 pub type Text = (&'static str, &'static str, u8);
@@ -13,7 +13,7 @@ pub type Text = (&'static str, &'static str, u8);
 pub struct Row {
     pub words: Words,
     pub input: &'static [u8],
-    pub entries: &'static [Entry<'static>],
+    pub entries: &'static [MemoryEntry<'static>],
     /// No file can be made beside another.
     pub making: bool,
     /// Files are overwritten if none can replace them.
@@ -25,48 +25,48 @@ pub struct Row {
 }
 
 /// Four files that are taken; one is formatted and one is reached by a link.
-pub const SMALL: &[Entry<'static>] = &[
-    Entry {
+pub const SMALL: &[MemoryEntry<'static>] = &[
+    MemoryEntry {
         name: b"",
         stands: Stands::Folder,
     },
-    Entry {
+    MemoryEntry {
         name: b"link.tf",
         stands: Stands::Link(b"in/c"),
     },
-    Entry {
+    MemoryEntry {
         name: b"b.tf",
         stands: Stands::File(b"b=1\n"),
     },
-    Entry {
+    MemoryEntry {
         name: b"notes.txt",
         stands: Stands::File(b"n=1\n"),
     },
-    Entry {
+    MemoryEntry {
         name: b".hidden",
         stands: Stands::Folder,
     },
-    Entry {
+    MemoryEntry {
         name: b"in",
         stands: Stands::Folder,
     },
-    Entry {
+    MemoryEntry {
         name: b"in/deep",
         stands: Stands::Folder,
     },
-    Entry {
+    MemoryEntry {
         name: b"in/deep/d.tfvars",
         stands: Stands::File(b"d=1\n"),
     },
-    Entry {
+    MemoryEntry {
         name: b"in/c",
         stands: Stands::File(b"c=1\n"),
     },
-    Entry {
+    MemoryEntry {
         name: b"a.tf",
         stands: Stands::File(b"a = 1\n"),
     },
-    Entry {
+    MemoryEntry {
         name: b"pipe.tf",
         stands: Stands::Pipe,
     },
@@ -111,40 +111,40 @@ const SHOWN: Lines = &[
 ];
 
 /// Files of every kind.
-const MIXED: &[Entry<'static>] = &[
-    Entry {
+const MIXED: &[MemoryEntry<'static>] = &[
+    MemoryEntry {
         name: b"",
         stands: Stands::Folder,
     },
-    Entry {
+    MemoryEntry {
         name: b"gone.tf",
         stands: Stands::Gone,
     },
-    Entry {
+    MemoryEntry {
         name: b"dead.tf",
         stands: Stands::Link(b"nowhere"),
     },
-    Entry {
+    MemoryEntry {
         name: b"busy.tf",
         stands: Stands::Busy(b"b=1\n"),
     },
-    Entry {
+    MemoryEntry {
         name: b"bad.tf",
         stands: Stands::File(b"a=\n"),
     },
-    Entry {
+    MemoryEntry {
         name: b"in",
         stands: Stands::Folder,
     },
-    Entry {
+    MemoryEntry {
         name: b"in/\xff.tf",
         stands: Stands::File(b"x=1\n"),
     },
-    Entry {
+    MemoryEntry {
         name: b"in/good.tf",
         stands: Stands::File(b"g=1\n"),
     },
-    Entry {
+    MemoryEntry {
         name: b"linked",
         stands: Stands::Link(b"in"),
     },

@@ -13,7 +13,7 @@ use hcl_scan::SINK_ROOM;
 use std::alloc::Global;
 use std::process::Abort;
 use tree_command::usage::HELP;
-use tree_devices::entry::{Entry, Stands};
+use tree_devices::entry::{MemoryEntry, Stands};
 
 // Runs with a row's words and tree, and checks the result.
 fn shows(rt: &impl Abort, alloc: Global, row: &Row) {
@@ -173,11 +173,11 @@ fn a_large_file_is_written(rt: HostRuntime) {
     let old = repeat_text(&rt, rt.alloc(), b"a=1\n", 20_000);
     let new = repeat_text(&rt, rt.alloc(), b"a = 1\n", 20_000);
     let entries = [
-        Entry {
+        MemoryEntry {
             name: b"",
             stands: Stands::Folder,
         },
-        Entry {
+        MemoryEntry {
             name: b"a.tf",
             stands: Stands::File(old.as_slice()),
         },
@@ -194,7 +194,7 @@ fn shows_bytes(
     rt: &impl Abort,
     alloc: Global,
     words: &[&[u8]],
-    entries: &[Entry<'_>],
+    entries: &[MemoryEntry<'_>],
     (out, err, status): (&[u8], &[u8], u8),
 ) {
     let run = run_bytes(alloc, words, b"", entries, &at_all().devices).expect(rt, "memory");
@@ -226,20 +226,20 @@ fn a_name_that_is_not_utf8_is_told(rt: HostRuntime) {
 }
 
 // Files whose names are quoted, or have a blank.
-static ODD: [Entry<'static>; 4] = [
-    Entry {
+static ODD: [MemoryEntry<'static>; 4] = [
+    MemoryEntry {
         name: b"",
         stands: Stands::Folder,
     },
-    Entry {
+    MemoryEntry {
         name: b"a\n+++ b\\\".tf",
         stands: Stands::File(b"a=1\n"),
     },
-    Entry {
+    MemoryEntry {
         name: b"b c.tf",
         stands: Stands::File(b"a=1\n"),
     },
-    Entry {
+    MemoryEntry {
         name: b"d\x1b\x7f.tf",
         stands: Stands::File(b"=\n"),
     },
@@ -307,7 +307,7 @@ fn a_check_may_show_differences(rt: HostRuntime) {
 // If nothing is found, the run says so, unless it is to be quiet.
 #[test]
 fn no_files_are_told(rt: HostRuntime) {
-    let empty = [Entry {
+    let empty = [MemoryEntry {
         name: b"",
         stands: Stands::Folder,
     }];
@@ -319,32 +319,32 @@ fn no_files_are_told(rt: HostRuntime) {
 }
 
 // A file of two names, and links to it under either.
-static LINKED: [Entry<'static>; 7] = [
-    Entry {
+static LINKED: [MemoryEntry<'static>; 7] = [
+    MemoryEntry {
         name: b"",
         stands: Stands::Folder,
     },
-    Entry {
+    MemoryEntry {
         name: b"b.tf",
         stands: Stands::File(b"a=1\n"),
     },
-    Entry {
+    MemoryEntry {
         name: b"c.tf",
         stands: Stands::Same(b"a=1\n", b"b.tf"),
     },
-    Entry {
+    MemoryEntry {
         name: b"a.tf",
         stands: Stands::Link(b"c.tf"),
     },
-    Entry {
+    MemoryEntry {
         name: b"d.tf",
         stands: Stands::Link(b"notes"),
     },
-    Entry {
+    MemoryEntry {
         name: b"e.tf",
         stands: Stands::Link(b"notes"),
     },
-    Entry {
+    MemoryEntry {
         name: b"notes",
         stands: Stands::File(b"n=1\n"),
     },
@@ -382,12 +382,12 @@ fn links_may_be_named(rt: HostRuntime) {
 }
 
 // A file that is refused because of its second line.
-static REFUSED: [Entry<'static>; 2] = [
-    Entry {
+static REFUSED: [MemoryEntry<'static>; 2] = [
+    MemoryEntry {
         name: b"",
         stands: Stands::Folder,
     },
-    Entry {
+    MemoryEntry {
         name: b"bad.tf",
         stands: Stands::File(b"a = 1\n\tb = ]\n"),
     },

@@ -17,7 +17,7 @@ pub struct Words<'a> {
 
 /// The words of a line, as slices.
 #[derive(Clone, Copy, Debug)]
-pub struct Line<'w> {
+pub struct CommandLine<'w> {
     /// The words that are texts, the program's name first.
     pub texts: &'w [&'w str],
     /// The words that aren't UTF-8.

@@ -5,12 +5,12 @@ use Rattle.hcl_tokens.specs.Scanned.{Scanned}
 use Rattle.hcl_layout.specs.Inner.LineGaps.{len_with_blanks}
 
 -- each token begins at the end of the one before it, or later
-abbrev pub AreApart : ℕ → List Lexeme → Type 0
-AreApart from [] = Unit {0}
-AreApart from (t ∷ ts) = (from ≤ t.start) × AreApart (t.start + length t.text) ts
+abbrev pub AreDisjoint : ℕ → List Lexeme → Type 0
+AreDisjoint from [] = Unit {0}
+AreDisjoint from (t ∷ ts) = (from ≤ t.start) × AreDisjoint (t.start + length t.text) ts
 
 pub record IsBounded (s : Scanned) : Type 0 where
   pub text : length s.text ≤ 2 ^ 22
   pub tokens : length s.tokens ≤ 2 ^ 22
   pub blanks : len_with_blanks s.tokens ≤ 2 ^ 23
-  pub apart : AreApart 0 s.tokens
+  pub disjoint : AreDisjoint 0 s.tokens

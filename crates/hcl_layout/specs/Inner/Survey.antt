@@ -11,7 +11,7 @@ use Rattle.hcl_grammar.specs.Items.{deepen}
 use Rattle.hcl_layout.specs.Inner.Depths.{BalancedFrom, depth_after}
 use Rattle.std.specs.Prelude.{option_map, slice_get, ◌-◌}
 use Rattle.hcl_layout.specs.declared.line.Line.{Line as LineRead}
-use Rattle.hcl_layout.specs.declared.line.Seen.{Seen}
+use Rattle.hcl_layout.specs.declared.line.LineState.{LineState}
 
 -- the state after a token of a line: how many were passed, the depth, whether an inline comment held a newline, the
 -- place of the trailing comment and the depth before it, and the place of the first sign and the depth before it
@@ -110,11 +110,11 @@ pub record IsLine (ts : List Lexeme) (at d : ℕ) (f : LineFacts) : Type 0 where
 -- ---- by token numbers
 
 -- the depth before the comment
-abbrev pub body_of : Seen → ℕ → ℕ
+abbrev pub body_of : LineState → ℕ → ℕ
 body_of s depth = if is_some s.comment then s.body_depth else depth
 
 -- the state for the tokens of a line from its first up to a number, with the depth there
-abbrev pub survey_of : Seen → ℕ → ℕ → ℕ → Survey
+abbrev pub survey_of : LineState → ℕ → ℕ → ℕ → Survey
 survey_of s depth first number = record {
   len = number - first;
   depth = depth;
@@ -136,23 +136,23 @@ facts_in l = record {
 }
 
 -- the sign that was seen, if it begins a cell
-abbrev pub seen_cell : Seen → ℕ → Option ℕ
+abbrev pub seen_cell : LineState → ℕ → Option ℕ
 seen_cell s depth = cell_if (not s.multiline && (s.sign_depth == body_of s depth)) s.assign
 
 -- only whether the first token holds a newline
-abbrev pub seen_at_start : Bool → Seen
+abbrev pub seen_at_start : Bool → LineState
 seen_at_start multiline = record { assign = None; sign_depth = 0; comment = None; body_depth = 0; multiline = multiline }
 
 -- another token was passed
-abbrev pub Notes : Seen → ℕ → ℕ → Lexeme → Seen → Type 0
+abbrev pub Notes : LineState → ℕ → ℕ → Lexeme → LineState → Type 0
 Notes old number depth t new = (first : ℕ) → first ≤ number → survey_of new depth first (number + 1) ≡ survey_step (survey_of old depth first number) t
 
 -- the token of that number was passed
-abbrev pub NotesAt : List Lexeme → Seen → ℕ → ℕ → Seen → Type 0
+abbrev pub NotesAt : List Lexeme → LineState → ℕ → ℕ → LineState → Type 0
 NotesAt ts old number depth new = (t : Lexeme) → slice_get ts number ≡ Some t → Notes old number depth t new
 
 -- the first token was passed
-abbrev pub NotesFirst : List Lexeme → ℕ → ℕ → Seen → ℕ → Type 0
+abbrev pub NotesFirst : List Lexeme → ℕ → ℕ → LineState → ℕ → Type 0
 NotesFirst ts first before seen depth = (t : Lexeme) → slice_get ts first ≡ Some t → survey_of seen depth first (first + 1) ≡ survey_start before t
 
 -- the tokens from one number up to another were passed; none is a cell, tears one or ends the line
@@ -161,7 +161,7 @@ pub record PassesSteps (ts : List Lexeme) (from before number depth : ℕ) : Typ
   pub within : number ≤ length ts
   pub balanced : BalancedFrom depth (drop number ts)
   pub low : depth ≤ max_open
-  pub same : (seen : Seen) (first : ℕ) → first ≤ from → survey_from (survey_of seen before first from) (drop from ts) ≡ survey_from (survey_of seen depth first number) (drop number ts)
+  pub same : (seen : LineState) (first : ℕ) → first ≤ from → survey_from (survey_of seen before first from) (drop from ts) ≡ survey_from (survey_of seen depth first number) (drop number ts)
 
 -- the token there needs a closer look
 abbrev pub AsksMore : List Lexeme → ℕ → Type 0

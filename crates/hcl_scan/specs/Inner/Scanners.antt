@@ -14,7 +14,7 @@ use Rattle.hcl_scan.specs.declared.stack.Opener as kept
 use Rattle.hcl_scan.specs.declared.stack.Opener.TheVariants.{Heredoc}
 use Rattle.hcl_scan.specs.declared.stack.Opened.{Opened}
 use Rattle.hcl_scan.specs.declared.scanner.Scanner.{Scanner}
-use Rattle.hcl_scan.specs.declared.scanner.Stopped.{Stopped}
+use Rattle.hcl_scan.specs.declared.scanner.FaultAt.{FaultAt}
 
 -- the state of the reading
 abbrev pub state_of : Scanner → State
@@ -70,7 +70,7 @@ pub record Moves (s : Scanner) (e : TokenEntry) (next : Scanner) : Type 0 where
   pub further : s.at < next.at
 
 -- the reading ends here, with this fault
-pub record IsStopped (s : Scanner) (fault : Stopped) : Type 0 where
+pub record IsStopped (s : Scanner) (fault : FaultAt) : Type 0 where
   pub lacks : Lacks (state_of s) fault.kind
   pub at : fault.at ≡ fault_offset (state_of s) fault.kind
   pub boundary : IsCharBoundary s.text.now fault.at

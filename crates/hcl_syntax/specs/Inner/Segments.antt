@@ -1,4 +1,4 @@
--- Pieces of items by token numbers, as the code finds them.
+-- Segments of items by token numbers, as the code finds them.
 use Rattle.std.specs.Prelude.{◌≡◌, ◌<◌, ◌≤◌, ℕ, ◌+◌, ◌-◌, ◌&&◌, ◌||◌, Bool, true, Some, slice_get, List, [], ◌∷◌, drop, take, length, get_or, reverse, not, if◌then◌else◌}
 use Rattle.hcl_tokens.specs.Kinds.{is}
 use Rattle.hcl_tokens.specs.declared.token.Kind.TheVariants as kind
@@ -40,15 +40,15 @@ first_len depth (t ∷ ts) =
 abbrev pub newline_from : List Lexeme → ℕ → ℕ → ℕ
 newline_from tokens depth n = n + first_len depth (drop n tokens)
 
--- a piece can begin after a token of this kind
+-- a segment can begin after a token of this kind
 abbrev pub leads : Kind → Bool
 leads k = is kind.Newline k || is kind.BraceOpen k
 
--- a piece can begin at the token of this number: it is the first, or one that leads is before it
+-- a segment can begin at the token of this number: it is the first, or one that leads is before it
 abbrev pub CanBegin : List Lexeme → ℕ → Type 0
 CanBegin tokens i = (n : ℕ) (t : Lexeme) → i ≡ n + 1 → slice_get tokens n ≡ Some t → leads t.kind ≡ true
 
--- the table has this number for each token at which a piece can begin, and for the end
+-- the table has this number for each token at which a segment can begin, and for the end
 pub record AreEnds (tokens : List Lexeme) (ends : List ℕ) : Type 0 where
   pub len : length ends ≡ length tokens + 1
   pub each : (i : ℕ) → i ≤ length tokens → CanBegin tokens i → get_or ends i 0 ≡ newline_from tokens 0 i

@@ -1,6 +1,6 @@
 use Rattle.hcl_scan.proofs.SideBySideLemmas.{besides}
 use Rattle.layout_laws.proofs.OlderScanLemmas.{scanned_older, scanned_too}
-use Rattle.layout_laws.proofs.OlderRunLemmas.{accepted_apart, accepted_too}
+use Rattle.layout_laws.proofs.OlderRunLemmas.{accepted_disjoint, accepted_too}
 use Rattle.layout_laws.proofs.OlderPrintLemmas.{print_same}
 use Rattle.layout_laws.proofs.older_files.Goals as goal
 
@@ -8,6 +8,6 @@ pub returns : goal.returns
 returns c = λ text ts was accepted.
     let older = scanned_older text ts was in
     let is = accepted_too ts older accepted in
-    let apart = accepted_apart ts is in
-    let scans = scanned_too text ts was apart in
-    (scans, is, print_same ts (besides text ts scans) older apart)
+    let disjoint = accepted_disjoint ts is in
+    let scans = scanned_too text ts was disjoint in
+    (scans, is, print_same ts (besides text ts scans) older disjoint)

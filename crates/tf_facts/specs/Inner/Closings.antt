@@ -8,8 +8,8 @@ use Rattle.hcl_grammar.specs.Numbered.{is_passed_over}
 use Rattle.hcl_tokens.specs.Lexemes.{Lexeme}
 use Rattle.tf_facts.specs.Patterns.{begins_with_close, after_closer}
 use Rattle.tf_facts.specs.Inner.Seen.{seen_from}
-use Rattle.tf_facts.specs.declared.part.Part.{Part}
-use Rattle.tf_facts.specs.declared.part.Part.TheVariants as part
+use Rattle.tf_facts.specs.declared.role.Role.{Role}
+use Rattle.tf_facts.specs.declared.role.Role.TheVariants as part
 
 -- the significant tokens from a number on begin with a closing quote
 abbrev pub quote_from : List Lexeme → ℕ → Bool
@@ -24,8 +24,8 @@ abbrev pub AreAhead : List Lexeme → List Bool → ℕ → Type 0
 AreAhead tokens ahead n = (depth : ℕ) → get_or (reverse ahead) depth false ≡ closes_before_quote tokens depth n
 
 -- the part of a token's kind in the walk that finds patterns
-abbrev pub part_of : Kind → Part
-part_of k =
+abbrev pub role_of : Kind → Role
+role_of k =
     if is kind.LineComment k then part.LineComment
     else if is_passed_over k then part.PassedOver
     else if is kind.Dot k then part.Dot

@@ -4,7 +4,7 @@ use Rattle.hcl_tokens.specs.Kinds.{is}
 use Rattle.hcl_tokens.specs.declared.token.Kind.TheVariants.{Dot, Ident}
 use Rattle.hcl_tokens.specs.Lexemes.{Lexeme}
 use Rattle.hcl_grammar.specs.Numbered.{Numbered, is_passed_over, numbered_from, significant}
-use Rattle.tf_facts.specs.declared.seen.Seen.{Seen}
+use Rattle.tf_facts.specs.declared.seen.SeenToken.{SeenToken}
 
 abbrev pub seen_from : List Lexeme → ℕ → List Numbered
 seen_from tokens n = significant (numbered_from n (drop n tokens))
@@ -13,11 +13,11 @@ seen_from tokens n = significant (numbered_from n (drop n tokens))
 abbrev pub number_of : ℕ → Lexeme → Numbered
 number_of n t = record { number = n; kind = t.kind; text = t.text }
 
-abbrev pub numbered_of : Seen → Numbered
+abbrev pub numbered_of : SeenToken → Numbered
 numbered_of t = record { number = t.number; kind = t.kind; text = t.text.now }
 
 -- the token is the first significant one from a number on
-pub record IsNextSeen (tokens : List Lexeme) (from : ℕ) (t : Seen) : Type 0 where
+pub record IsNextSeen (tokens : List Lexeme) (from : ℕ) (t : SeenToken) : Type 0 where
   pub first : seen_from tokens from ≡ numbered_of t ∷ seen_from tokens (t.number + 1)
   pub within : t.number < length tokens
   pub small : t.number + 1 < 2 ^ 64

@@ -11,7 +11,7 @@ use Rattle.tf_facts.specs.Inner.Seen.{numbered_of}
 use Rattle.tf_facts.specs.declared.value.Body.{Body}
 use Rattle.tf_facts.specs.declared.value.Value.{Value}
 use Rattle.tf_facts.specs.declared.value.Plain.{Plain}
-use Rattle.tf_facts.specs.declared.seen.Seen.{Seen}
+use Rattle.tf_facts.specs.declared.seen.SeenToken.{SeenToken}
 
 abbrev pub in_value : Numbered → Bool
 in_value t = not (is_comment t.kind) && not (is Newline t.kind)
@@ -21,7 +21,7 @@ abbrev pub values : List Lexeme → ℕ → ℕ → List Numbered
 values tokens from to = filter in_value (take (to - from) (drop from (number_tokens tokens)))
 
 -- the token is the first of the value's tokens in this range
-pub record IsFirstValue (tokens : List Lexeme) (from to : ℕ) (t : Seen) : Type 0 where
+pub record IsFirstValue (tokens : List Lexeme) (from to : ℕ) (t : SeenToken) : Type 0 where
   pub first : values tokens from to ≡ numbered_of t ∷ values tokens (t.number + 1) to
   pub within : t.number < to
 

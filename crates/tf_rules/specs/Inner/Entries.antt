@@ -16,7 +16,7 @@ use Rattle.tf_rules.specs.Stored.{Stored, issue_at}
 use Rattle.tf_rules.specs.declared.settings.Settings.{Settings}
 use Rattle.tf_rules.specs.Naming.{naming_text}
 use Rattle.tf_rules.specs.Inner.StoredViews.{stored_declaration, stored_names, place_of}
-use Rattle.tf_rules.specs.declared.entry.Entry.{Entry}
+use Rattle.tf_rules.specs.declared.entry.IssueEntry.{IssueEntry}
 use Rattle.tf_rules.specs.declared.entry.Finding.{Finding}
 use Rattle.tf_rules.specs.declared.entry.Statement.{Statement}
 use Rattle.tf_rules.specs.declared.entry.Statement.TheVariants.{Fixed, About, DefaultBranch, Misnamed, Unused}
@@ -34,14 +34,14 @@ text_of (DefaultBranch d branch) = findings.about (stored_declaration d.now) (co
 text_of (Misnamed d naming) = findings.kind_text d.now.kind ++ (codes " name" ++ findings.quoting (last_of (stored_names d.now.names)) (codes " must match " ++ naming_text naming))
 text_of (Unused d) = findings.kind_text d.now.kind ++ findings.both_quoted (stored_names d.now.names) (codes " is declared but not used")
 
-abbrev pub issue_of : Entry → Issue
+abbrev pub issue_of : IssueEntry → Issue
 issue_of e = record { place = place_of e.at; rule = e.rule; message = text_of e.statement }
 
-abbrev pub issues_of : List Entry → List Issue
+abbrev pub issues_of : List IssueEntry → List Issue
 issues_of entries = map issue_of entries
 
 -- the issue of an entry, as it is shown
-abbrev pub shown_of : Entry → shown.Issue
+abbrev pub shown_of : IssueEntry → shown.Issue
 shown_of e = shown_issue (issue_of e)
 
 -- a list of one finding or none
@@ -50,7 +50,7 @@ finding_listed None = []
 finding_listed (Some f) = record { at = place_of f.at; message = text_of f.statement } ∷ []
 
 -- the order by file, then token, then the name of the rule
-abbrev pub entry_cmp : Entry → Entry → Ordering
+abbrev pub entry_cmp : IssueEntry → IssueEntry → Ordering
 entry_cmp a b = ordering_then (ordering_then (nat_cmp a.at.file b.at.file) (nat_cmp a.at.token b.at.token)) (nat_cmp (rank a.rule) (rank b.rule))
 
 -- ---- the reports, rule by rule and declaration by declaration

@@ -13,7 +13,7 @@ use Rattle.tree_lint.specs.Verdicts.{Linted, Verdict, no_memory}
 use Rattle.tree_lint.specs.declared.counts.Ended.{Ended}
 use Rattle.tree_lint.specs.declared.kept.KeptRefusals.{KeptRefusals}
 use Rattle.tree_lint.specs.declared.linted.Linted as code
-use Rattle.tree_lint.specs.declared.run.Task.{Task}
+use Rattle.tree_lint.specs.declared.run.ModuleTask.{ModuleTask}
 
 -- the view of the result for a module
 abbrev pub linted_view : code.Linted → Linted
@@ -23,7 +23,7 @@ abbrev pub is_nothing : Linted → Bool
 is_nothing l = (length l.issues == 0) && (length l.comments == 0)
 
 -- a verdict with this property is shown, and its refusals are kept
-pub record Shows (task : Task) (m : Module) (P : Verdict → Type 0) (out err : Writer) (before after : KeptRefusals) (ended : Ended) : Type 0 where
+pub record Shows (task : ModuleTask) (m : Module) (P : Verdict → Type 0) (out err : Writer) (before after : KeptRefusals) (ended : Ended) : Type 0 where
   pub verdict : Verdict
   pub holds : P verdict
   pub output : Took out (verdict_output task.manner task.is_after m verdict)

@@ -14,7 +14,7 @@ returns c =
     let all : with_lines 0 (lines ts) no_extent ≡ c.loop-at.extent = i.same ∙ ap (λ l. with_lines c.loop-at.depth (lines l) c.loop-at.extent) rest in
     omega (
       arith,
-      print_within ts c.requires.balanced c.len-count.ensures.bounded.apart,
+      print_within ts c.requires.balanced c.len-count.ensures.bounded.disjoint,
       ap (λ (e : Extent). e.passed + room_taken e) all,
       c.len_bound.ensures.bound,
     )

@@ -8,4 +8,4 @@ returns c told =
     let rest = drop c.args.place c.args.text.now in
     let size : (c.args.place + length marker) - c.args.place ≡ length marker = omega arith in
     let long : length (take (length marker) rest) ≡ length marker = length-take-le (length marker) rest (omega (arith, length-drop c.args.place c.args.text.now, c.requires.within)) in
-    sym (starts_other (take (length marker) rest) marker long (λ e. c.are_told_apart.ensures told (ap (λ n. take n rest) size ∙ e)) ∙ starts_taken rest marker)
+    sym (starts_other (take (length marker) rest) marker long (λ e. c.are_different.ensures told (ap (λ n. take n rest) size ∙ e)) ∙ starts_taken rest marker)

@@ -1,6 +1,6 @@
 use Rattle.std.proofs.Common.{◌∙◌, ◌+◌, ◌-◌, ◌<◌, ◌≡◌, ◌∷◌, ◌++◌, [], List, ℕ, ap, length, refl, replicate, set, subst, sym, arith}
 use Rattle.hcl_syntax.specs.Inner.Segments.{AreNewlinesAhead}
-use Rattle.hcl_syntax.proofs.PieceEndLemmas.{IsFilled, filled, fills, found, last_first, starts_filled}
+use Rattle.hcl_syntax.proofs.SegmentEndLemmas.{IsFilled, filled, fills, found, last_first, starts_filled}
 use Rattle.hcl_syntax.proofs.segment_end.newlines.Goals as goal
 
 pub loop-next-init : goal.loop-next-init

@@ -1,5 +1,5 @@
 use Rattle.std.proofs.Common.{[], ◌∷◌, ◌++◌}
-use Rattle.hcl_syntax.proofs.PieceEndLemmas.{IsFilled}
+use Rattle.hcl_syntax.proofs.SegmentEndLemmas.{IsFilled}
 use Rattle.hcl_syntax.proofs.segment_end.newlines.Given as goal
 
 abbrev pub invariant-loop-next : goal.invariant-loop-next

@@ -2,7 +2,7 @@ use Rattle.std.proofs.Common.{◌∙◌, ap, sym, cond}
 use Rattle.hcl_tokens.specs.Kinds.{is}
 use Rattle.hcl_tokens.specs.Balanced.{nesting}
 use Rattle.hcl_tokens.specs.declared.token.Kind.TheVariants as kind
-use Rattle.hcl_syntax.proofs.PieceEndLemmas.{closes_is, neither_is, opens_is, top_closes, top_flat, top_opens}
+use Rattle.hcl_syntax.proofs.SegmentEndLemmas.{closes_is, neither_is, opens_is, top_closes, top_flat, top_opens}
 use Rattle.hcl_syntax.proofs.segment_end.pass.Goals as goal
 
 pub returns-then-not-changes_depth : goal.returns-then-not-changes_depth

@@ -1,7 +1,7 @@
 use Rattle.std.proofs.Common.{◌∙◌, ap, min, ◌≡◌, arith}
 use Rattle.hcl_syntax.specs.Inner.Segments.{newline_from}
 use Rattle.hcl_syntax.proofs.OutlineLemmas.{items_begin, items_step, items_step_alone}
-use Rattle.hcl_syntax.proofs.PieceEndLemmas.{next_begins}
+use Rattle.hcl_syntax.proofs.SegmentEndLemmas.{next_begins}
 use Rattle.hcl_syntax.proofs.segments.+push_items.Goals as goal
 
 pub loop-start-init : goal.loop-start-init

@@ -1,6 +1,6 @@
 use Rattle.std.proofs.Common.{◌∙◌, arith, sym}
 use Rattle.hcl_tokens.specs.Scanned.{lexeme}
-use Rattle.hcl_syntax.proofs.PieceEndLemmas.{brace_begins}
+use Rattle.hcl_syntax.proofs.SegmentEndLemmas.{brace_begins}
 use Rattle.hcl_syntax.proofs.SoughtLemmas.{brace_here, brace_past}
 use Rattle.hcl_syntax.proofs.LabelLemmas.{labels_brace, labels_more}
 use Rattle.hcl_syntax.proofs.segments.push_labels.Goals as goal

@@ -1,7 +1,7 @@
 use Rattle.std.proofs.Common.{◌∙◌, sym}
 use Rattle.std.proofs.lemmas.Result.{IfOk-weaker}
 use Rattle.hcl_syntax.specs.Inner.Bodies.{PushesBlock, PushesSegment}
-use Rattle.hcl_syntax.proofs.ItemPieceLemmas.{puts_alone, puts_labelled}
+use Rattle.hcl_syntax.proofs.ItemSegmentLemmas.{puts_alone, puts_labelled}
 use Rattle.hcl_syntax.proofs.segments.push_segment.Goals as goal
 
 pub returns-in_default-first_word : goal.returns-in_default-first_word

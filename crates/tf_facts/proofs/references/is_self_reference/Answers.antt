@@ -15,5 +15,5 @@ returns-then-next-blocks c = sym (none_left c.args.blocks.now c.args.next c.args
 pub returns : goal.returns
 returns c =
     c.begins_before.ensures
-    ∙ decides c.args.blocks.now c.args.next c.args.number c.block_at-block.result c.in-Variable.name.now c.block_at-block.ensures (c.requires.ahead c.block_at-block.result c.block_at-block.ensures) c.requires.apart c.requires.passed
+    ∙ decides c.args.blocks.now c.args.next c.args.number c.block_at-block.result c.in-Variable.name.now c.block_at-block.ensures (c.requires.ahead c.block_at-block.result c.block_at-block.ensures) c.requires.disjoint c.requires.passed
     ∙ ap (λ r. is_self_reference (map block_view c.args.blocks.now) c.args.number (spelling_of r)) (sym c.in-Variable.is)

@@ -2,7 +2,7 @@ use Rattle.std.proofs.Common.{◌≡◌, ◌∙◌, List, ap, filter, not, subst
 use Rattle.std.specs.Prelude.{IfOk}
 use Rattle.tf_rules.specs.Issues.{is_silenced}
 use Rattle.tf_rules.specs.Inner.Entries.{issues_of}
-use Rattle.tf_rules.specs.declared.entry.Entry.{Entry}
+use Rattle.tf_rules.specs.declared.entry.IssueEntry.{IssueEntry}
 use Rattle.tf_rules.proofs.SilencedLemmas.{filter_all, none_silenced, unsilenced}
 use Rattle.tf_rules.proofs.silenced.shown_entries.Goals as goal
 
@@ -14,4 +14,4 @@ returns-then-is_empty c = λ comments are.
 
 pub returns : goal.returns
 returns c = λ comments are.
-    subst (λ (es : List Entry). IfOk c.without_silenced.result (λ shown. issues_of shown.items ≡ filter (λ i. not (is_silenced comments i)) (issues_of es))) c.as_slice.ensures.value (c.without_silenced.ensures comments are)
+    subst (λ (es : List IssueEntry). IfOk c.without_silenced.result (λ shown. issues_of shown.items ≡ filter (λ i. not (is_silenced comments i)) (issues_of es))) c.as_slice.ensures.value (c.without_silenced.ensures comments are)

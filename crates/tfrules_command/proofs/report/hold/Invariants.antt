@@ -2,5 +2,5 @@ use Rattle.std.proofs.Common.{◌≡◌, ◌++◌, map, take}
 use Rattle.std.specs.List.{concat}
 use Rattle.tfrules_command.proofs.report.hold.Given as goal
 
-abbrev pub invariant-loop-piece : goal.invariant-loop-piece
-invariant-loop-piece l = l.page.items ≡ l.fn.page.items ++ concat (map (λ piece. piece.now) (take l.piece-index l.pieces))
+abbrev pub invariant-loop-part : goal.invariant-loop-part
+invariant-loop-part l = l.page.items ≡ l.fn.page.items ++ concat (map (λ part. part.now) (take l.part-index l.parts))

@@ -1,5 +1,5 @@
 use Rattle.std.proofs.Common.{◌≤◌, arith, length}
-use Rattle.tfrules_command.proofs.ReportPieceLemmas.{retold}
+use Rattle.tfrules_command.proofs.ReportPartLemmas.{retold}
 use Rattle.command_line.proofs.WriterLemmas.{took_all, took_part}
 use Rattle.tfrules_command.proofs.report.send.Goals as goal
 

@@ -1,4 +1,4 @@
-use Rattle.tfrules_command.proofs.ReportPieceLemmas.{flushed_after, report_is, retold}
+use Rattle.tfrules_command.proofs.ReportPartLemmas.{flushed_after, report_is, retold}
 use Rattle.command_line.proofs.WriterLemmas.{all_taken}
 use Rattle.tfrules_command.proofs.report.show_issues.Goals as goal
 

@@ -1,5 +1,5 @@
 use Rattle.std.proofs.Common.{◌∙◌, ◌<◌, ◌≤◌, ℕ, arith, refl}
-use Rattle.command_line.proofs.WriterLemmas.{goes_on, goes_wrong, piece_here, took_part}
+use Rattle.command_line.proofs.WriterLemmas.{goes_on, goes_wrong, part_here, took_part}
 use Rattle.tfrules_command.proofs.report.write_each.Goals as goal
 
 no_longer : (a b : ℕ) → a < b → a ≤ b
@@ -7,13 +7,13 @@ no_longer a b h = omega (arith, h)
 
 pub returns-in-Err-clause-took : goal.returns-in-Err-clause-took
 returns-in-Err-clause-took g c =
-    goes_wrong _ _ _ _ _ _ _ _ (piece_here c.args.pieces.now c.loop-piece.piece-index _ _ c.loop-piece-test.true refl) c.in-Err.ensures.failed
-    (took_part _ _ _ _ c.in-Err.fault.written c.in-Err.ensures.failed (no_longer _ _ c.in-Err.ensures.written) c.in-Err.ensures.err) c.loop-piece.invariant.1
+    goes_wrong _ _ _ _ _ _ _ _ (part_here c.args.parts.now c.loop-part.part-index _ _ c.loop-part-test.true refl) c.in-Err.ensures.failed
+    (took_part _ _ _ _ c.in-Err.fault.written c.in-Err.ensures.failed (no_longer _ _ c.in-Err.ensures.written) c.in-Err.ensures.err) c.loop-part.invariant.1
 
-pub loop-piece-preserved : goal.loop-piece-preserved
-loop-piece-preserved g c = (
+pub loop-part-preserved : goal.loop-part-preserved
+loop-part-preserved g c = (
   c.in_default.ensures.failed,
-  goes_on _ _ _ _ _ _ _ (piece_here c.args.pieces.now c.loop-piece.piece-index _ _ c.loop-piece-test.true refl)
-      c.in_default.ensures.ok c.loop-piece.invariant.1,
-  c.in_default.ensures.flushes ∙ c.loop-piece.invariant.2,
+  goes_on _ _ _ _ _ _ _ (part_here c.args.parts.now c.loop-part.part-index _ _ c.loop-part-test.true refl)
+      c.in_default.ensures.ok c.loop-part.invariant.1,
+  c.in_default.ensures.flushes ∙ c.loop-part.invariant.2,
 )

@@ -2,7 +2,7 @@ use Rattle.std.proofs.Common.{◌∙◌, ap, refl}
 use Rattle.tf_rules.specs.Answers.{listed_issue}
 use Rattle.tfrules_command.specs.Inner.Parts.{opening_words}
 use Rattle.tfrules_command.proofs.PageLemmas.{goes_as}
-use Rattle.tfrules_command.proofs.ReportPieceLemmas.{line_is}
+use Rattle.tfrules_command.proofs.ReportPartLemmas.{line_is}
 use Rattle.tfrules_command.proofs.report.write_issue.Goals as goal
 
 pub returns-clause-goes : goal.returns-clause-goes

@@ -4,7 +4,7 @@ use Rattle.std.specs.List.{flat_map}
 use Rattle.tf_rules.specs.Answers.{listed_issue}
 use Rattle.tfrules_command.specs.Report.{issue_line}
 use Rattle.tfrules_command.proofs.PageLemmas.{all_gone, one_fails, one_goes}
-use Rattle.tfrules_command.proofs.ReportPieceLemmas.{line_here}
+use Rattle.tfrules_command.proofs.ReportPartLemmas.{line_here}
 use Rattle.tfrules_command.proofs.report.write_issues.Goals as goal
 
 pub returns-in-Err-clause-goes : goal.returns-in-Err-clause-goes

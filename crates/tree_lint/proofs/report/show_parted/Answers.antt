@@ -1,6 +1,6 @@
 use Rattle.std.proofs.Common.{◌∷◌, [], refl, sym}
 use Rattle.command_line.proofs.WriterLemmas.{goes_on, took_front, took_less}
-use Rattle.tfrules_command.proofs.ReportPieceLemmas.{retold}
+use Rattle.tfrules_command.proofs.ReportPartLemmas.{retold}
 use Rattle.tree_lint.specs.Inner.Showing.{linted_view}
 use Rattle.tree_lint.specs.Runs.{report_of}
 use Rattle.tree_lint.proofs.PartedLemmas.{none_reported, parted_report}

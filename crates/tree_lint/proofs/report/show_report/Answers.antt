@@ -1,5 +1,5 @@
 use Rattle.std.proofs.Common.{ap, sym}
-use Rattle.tfrules_command.proofs.ReportPieceLemmas.{retold}
+use Rattle.tfrules_command.proofs.ReportPartLemmas.{retold}
 use Rattle.tree_lint.specs.Inner.Showing.{linted_view}
 use Rattle.tree_lint.specs.Runs.{report_of}
 use Rattle.tree_lint.proofs.report.show_report.Goals as goal

@@ -1,4 +1,4 @@
-use Rattle.tfrules_command.proofs.ReportPieceLemmas.{retold}
+use Rattle.tfrules_command.proofs.ReportPartLemmas.{retold}
 use Rattle.tree_lint.specs.Inner.Showing.{linted_view}
 use Rattle.tree_lint.proofs.ShownLemmas.{names_as}
 use Rattle.tree_lint.proofs.report.show_text.Goals as goal

@@ -5,7 +5,7 @@ use Rattle.comment_faults.specs.CommentFaults.{fault_view}
 use Rattle.comment_faults.specs.declared.fault.CommentFault.{CommentFault}
 use Rattle.command_line.proofs.WriterLemmas.{all_taken, goes_all, goes_on, goes_wrong}
 use Rattle.source_snippet.specs.Snippets.{snippet_if}
-use Rattle.tfrules_command.proofs.ReportPieceLemmas.{retold}
+use Rattle.tfrules_command.proofs.ReportPartLemmas.{retold}
 use Rattle.tree_lint.specs.Inner.Showing.{comment_refusal}
 use Rattle.tree_lint.specs.Runs.{comment_line}
 use Rattle.tree_lint.proofs.ShownLemmas.{comment_here}

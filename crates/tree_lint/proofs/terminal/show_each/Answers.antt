@@ -3,7 +3,7 @@ use Rattle.std.proofs.lemmas.List.{drop_all}
 use Rattle.std.specs.List.{flat_map}
 use Rattle.command_line.proofs.WriterLemmas.{all_taken, goes_all, goes_on, goes_wrong}
 use Rattle.tf_rules.specs.Answers.{listed_issue}
-use Rattle.tfrules_command.proofs.ReportPieceLemmas.{line_here, retold}
+use Rattle.tfrules_command.proofs.ReportPartLemmas.{line_here, retold}
 use Rattle.tree_lint.specs.Runs.{shown_issue}
 use Rattle.tree_lint.proofs.terminal.show_each.Goals as goal
 

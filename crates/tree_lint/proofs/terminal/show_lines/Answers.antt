@@ -1,7 +1,7 @@
 use Rattle.std.proofs.Common.{◌∙◌, ap, sym}
 use Rattle.command_line.proofs.WriterLemmas.{all_taken, took_after, took_front}
 use Rattle.tfrules_command.specs.Report.{issue_count}
-use Rattle.tfrules_command.proofs.ReportPieceLemmas.{retold}
+use Rattle.tfrules_command.proofs.ReportPartLemmas.{retold}
 use Rattle.tree_lint.specs.Runs.{shown_issue}
 use Rattle.tree_lint.proofs.PartedLemmas.{none_by, some_report}
 use Rattle.tree_lint.proofs.ShownLemmas.{untouched}

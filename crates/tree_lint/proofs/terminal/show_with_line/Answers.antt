@@ -1,6 +1,6 @@
 use Rattle.std.proofs.Common.{◌∙◌, append-nil, sym}
 use Rattle.command_line.proofs.WriterLemmas.{all_taken, took_after, took_front}
-use Rattle.tfrules_command.proofs.ReportPieceLemmas.{retold}
+use Rattle.tfrules_command.proofs.ReportPartLemmas.{retold}
 use Rattle.tree_lint.proofs.terminal.show_with_line.Goals as goal
 
 pub returns-then-is_err-clause-took : goal.returns-then-is_err-clause-took

@@ -1,5 +1,5 @@
 use Rattle.std.proofs.Common.{rules, ap, arith, length}
-use Rattle.hcl_layout.proofs.SizeLemmas.{scanned_apart, scanned_len_with_blanks}
+use Rattle.hcl_layout.proofs.SizeLemmas.{scanned_disjoint, scanned_len_with_blanks}
 use Rattle.hcl_layout.proofs.measured.Measured.new.Goals as goal
 
 pub invariant_of-result : goal.invariant_of-result
@@ -10,6 +10,6 @@ invariant_of-result c =
         text = omega (arith, c.text.ensures.is_text.small, ap length c.source.ensures.source);
         tokens = omega (arith, c.text.ensures.is_text.small, ap length c.source.ensures.source, c.len-count.ensures.len, c.len-count.ensures.small);
         blanks = omega (arith, scanned_len_with_blanks all.text all.tokens c.source.ensures.scanned, c.text.ensures.is_text.small, ap length c.source.ensures.source, c.len-count.ensures.len, c.len-count.ensures.small);
-        apart = scanned_apart all.text all.tokens c.source.ensures.scanned;
+        disjoint = scanned_disjoint all.text all.tokens c.source.ensures.scanned;
       },
     )

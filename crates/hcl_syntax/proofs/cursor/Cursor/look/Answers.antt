@@ -1,6 +1,6 @@
 use Rattle.std.proofs.Common.{arith, ap, length}
 use Rattle.hcl_syntax.specs.Inner.Cursors.{past_newlines}
-use Rattle.hcl_syntax.proofs.LookaheadLemmas.{length-shown}
+use Rattle.hcl_syntax.proofs.LookaheadLemmas.{length-past_newlines}
 use Rattle.hcl_syntax.proofs.cursor.Cursor.look.Goals as goal
 
 pub returns-clause-shorter : goal.returns-clause-shorter

@@ -1,4 +1,4 @@
--- The newlines ahead, token by token from right to left, and where pieces can begin.
+-- The newlines ahead, token by token from right to left, and where segments can begin.
 use Rattle.std.proofs.Common.{◌≡◌, ◌∙◌, ap, sym, refl, ℕ, suc, zero, ◌+◌, ◌-◌, ◌<◌, ◌≤◌, Bool, true, false, cond, min, ap₂, subst, true≢false, List, [], ◌∷◌, ◌++◌, drop, length, get_or, set, replicate, reverse, arith, ◌⊎◌, inl, inr, ◌≢◌}
 use Rattle.std.specs.Prelude.{Some, slice_get, ◌&&◌, ◌||◌}
 use Rattle.std.proofs.lemmas.List.{reverse-append, get_or-set_same, get_or-set_other, length-set, length-replicate, drop_all}
@@ -171,7 +171,7 @@ found [] n h = absurd (omega (arith, h))
 found (x ∷ ts) zero h = (x, refl)
 found (x ∷ ts) (suc n) h = found ts n (omega (arith, h))
 
--- after a token, it is filled where a piece can begin
+-- after a token, it is filled where a segment can begin
 pub record IsFilled (ts : List Lexeme) (ends ahead : List ℕ) (n : ℕ) : Type 0 where
   pub len : length ends ≡ length ts + 1
   pub within : n ≤ length ts
@@ -225,7 +225,7 @@ filled ts old ends ahead n x none top is h = record {
     by i below begins (inl e) = ap (λ k. get_or (set old 0 x) k 0) e ∙ get_or-set_same old 0 x 0 here ∙ top ∙ h.newlines_ahead 0 ∙ ap (λ k. newline_from ts 0 k) (start ∙ sym e)
     by i below begins (inr ne) = get_or-set_other old 0 i x 0 ne ∙ h.each i (omega (arith, start, ne)) below begins
 
--- ---- where a piece can begin
+-- ---- where a segment can begin
 
 stops_at : (depth : ℕ) (ts : List Lexeme) (t : Lexeme) → slice_get ts (first_len depth ts) ≡ Some t → is kind.Newline t.kind ≡ true
 stops_at depth [] t e = absurd (cc)
@@ -262,7 +262,7 @@ brace_leads _ e = absurd (true≢false (sym e))
 pub first_begins : (ts : List Lexeme) → CanBegin ts 0
 first_begins ts = λ n t e _. absurd (omega (arith, e))
 
--- after the end of a piece, before that of the current tokens
+-- after the end of a segment, before that of the current tokens
 pub next_begins : (ts : List Lexeme) (start to end : ℕ) → end ≡ min (newline_from ts 0 start) to → end < to → CanBegin ts (end + 1)
 next_begins ts start to end is less = λ n t e here.
     let same : n ≡ start + first_len 0 (drop start ts) = omega (arith, is, less, e) in

@@ -2,7 +2,7 @@
 
 /// What the walk does at a token. At a plain token it does nothing, but a pattern may need the token ahead.
 #[derive(Clone, Copy)]
-pub enum Part {
+pub enum Role {
     PassedOver,
     LineComment,
     Dot,

@@ -1,4 +1,4 @@
--- The items of tokens are those of their first piece, and then those of the rest.
+-- The items of tokens are those of their first segment, and then those of the rest.
 use Rattle.std.proofs.Common.{◌≡◌, ◌∙◌, ap, ap₂, sym, refl, true≢false, ℕ, suc, zero, ◌+◌, ◌-◌, ◌≤◌, ◌<◌, Bool, true, false, cond, not, min, List, [], ◌∷◌, ◌++◌, take, drop, arith, add-one, ◌⊎◌, inl, inr}
 use Rattle.std.specs.Prelude.{◌&&◌}
 use Rattle.std.specs.List.{flat_map}
@@ -19,7 +19,7 @@ use Rattle.hcl_syntax.proofs.WordRangeLemmas.{words_none}
 abbrev pub taken : ℕ → ℕ → List Lexeme → List Numbered
 taken n k xs = without_comments (take k (numbered_from n xs))
 
--- the pieces after the first, which ends before this many of the tokens
+-- the segments after the first, which ends before this many of the tokens
 abbrev later : ℕ → ℕ → ℕ → List Lexeme → List (List Numbered)
 later m zero n xs = []
 later m (suc k) n [] = []
@@ -51,12 +51,12 @@ newline_word : (d : ℕ) (k : Kind) → (is kind.Newline k && is_closed d) ≡ t
 newline_word d kind.Newline e = refl
 newline_word d _ e = absurd (true≢false (sym e))
 
-pub pieces_cut : (d k n : ℕ) (xs : List Lexeme) → segments d (taken n k xs) ≡ first_of_them (first_len d xs) k n xs ∷ later (first_len d xs) k n xs
-pieces_cut d zero n xs =
+pub segments_cut : (d k n : ℕ) (xs : List Lexeme) → segments d (taken n k xs) ≡ first_of_them (first_len d xs) k n xs ∷ later (first_len d xs) k n xs
+segments_cut d zero n xs =
     ap (λ r. segments d (without_comments r)) (take_zero (numbered_from n xs))
     ∙ ap (λ r. without_comments r ∷ []) (sym (ap (λ r. take (first_len d xs) r) (take_zero (numbered_from n xs)) ∙ take_none (first_len d xs)))
-pieces_cut d (suc k) n [] = refl
-pieces_cut d (suc k) n (x ∷ xs) = by (is_comment x.kind) (is kind.Newline x.kind && is_closed d) refl refl (pieces_cut (deepen d x.kind) k (n + 1) xs)
+segments_cut d (suc k) n [] = refl
+segments_cut d (suc k) n (x ∷ xs) = by (is_comment x.kind) (is kind.Newline x.kind && is_closed d) refl refl (segments_cut (deepen d x.kind) k (n + 1) xs)
   where
     F : ℕ
     F = first_len (deepen d x.kind) xs
@@ -100,33 +100,33 @@ take_take (suc m) zero (x ∷ xs) = sym (ap (λ j. take j (x ∷ xs)) (min_zero 
     min_zero j = omega arith
 take_take (suc m) (suc k) (x ∷ xs) = let s : min (suc m) (suc k) ≡ suc (min m k) = omega arith in ap (λ r. x ∷ r) (take_take m k xs) ∙ ap (λ j. take j (x ∷ xs)) (sym s)
 
--- the later pieces under a function that gives nothing for an empty list
-later_pieces : (f : List Numbered → List Item) → f [] ≡ [] → (m k n : ℕ) (xs : List Lexeme)
+-- the later segments under a function that gives nothing for an empty list
+later_segments : (f : List Numbered → List Item) → f [] ≡ [] → (m k n : ℕ) (xs : List Lexeme)
     → flat_map f (later m k n xs) ≡ flat_map f (segments 0 (taken (n + m + 1) (k - m - 1) (drop (m + 1) xs)))
-later_pieces f none m zero n xs =
+later_segments f none m zero n xs =
     let z : 0 - m - 1 ≡ 0 = omega arith in
     sym (ap (λ j. flat_map f (segments 0 (taken (n + m + 1) j (drop (m + 1) xs)))) z
     ∙ ap (λ r. flat_map f (segments 0 (without_comments r))) (take_zero (numbered_from (n + m + 1) (drop (m + 1) xs))) ∙ ap (λ r. r ++ []) none)
-later_pieces f none m (suc k) n [] =
+later_segments f none m (suc k) n [] =
     sym (ap (λ r. flat_map f (segments 0 (taken (n + m + 1) (suc k - m - 1) r))) (drop-nil {A = Lexeme} (m + 1)) ∙ ap (λ r. flat_map f (segments 0 (without_comments r))) (take_none (suc k - m - 1)) ∙ ap (λ r. r ++ []) none)
-later_pieces f none zero (suc k) n (x ∷ xs) =
+later_segments f none zero (suc k) n (x ∷ xs) =
     let a : n + 0 + 1 ≡ n + 1 = omega arith in
     let b : suc k - 0 - 1 ≡ k = omega arith in
     let c : 0 + 1 ≡ suc 0 = omega arith in
     ap₂ (λ i j. flat_map f (segments 0 (taken i j xs))) (sym a) (sym b) ∙ ap (λ j. flat_map f (segments 0 (taken (n + 0 + 1) (suc k - 0 - 1) (drop j (x ∷ xs))))) (sym c)
-later_pieces f none (suc m) (suc k) n (x ∷ xs) =
+later_segments f none (suc m) (suc k) n (x ∷ xs) =
     let a : n + suc m + 1 ≡ n + 1 + m + 1 = omega arith in
     let b : suc k - suc m - 1 ≡ k - m - 1 = omega arith in
     let c : suc m + 1 ≡ suc (m + 1) = omega arith in
-    later_pieces f none m k (n + 1) xs
+    later_segments f none m k (n + 1) xs
     ∙ ap₂ (λ i j. flat_map f (segments 0 (taken i j (drop (m + 1) xs)))) (sym a) (sym b)
     ∙ ap (λ j. flat_map f (segments 0 (taken (n + suc m + 1) (suc k - suc m - 1) (drop j (x ∷ xs))))) (sym c)
 
-pub first_piece : (f : List Numbered → List Item) → f [] ≡ [] → (ts : List Lexeme) (start to end : ℕ) → start < to → end ≡ min (newline_from ts 0 start) to
+pub first_segment : (f : List Numbered → List Item) → f [] ≡ [] → (ts : List Lexeme) (start to end : ℕ) → start < to → end ≡ min (newline_from ts 0 start) to
     → flat_map f (segments 0 (words ts start to)) ≡ f (words ts start end) ++ flat_map f (segments 0 (words ts (end + 1) to))
-first_piece f none ts start to end h is =
-    ap (flat_map f) (pieces_cut 0 (to - start) start xs)
-    ∙ ap₂ (λ x y. f x ++ y) one (later_pieces f none F (to - start) start xs ∙ rest (cases F (to - start)))
+first_segment f none ts start to end h is =
+    ap (flat_map f) (segments_cut 0 (to - start) start xs)
+    ∙ ap₂ (λ x y. f x ++ y) one (later_segments f none F (to - start) start xs ∙ rest (cases F (to - start)))
   where
     xs : List Lexeme
     xs = drop start ts

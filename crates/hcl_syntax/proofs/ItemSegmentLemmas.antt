@@ -1,4 +1,4 @@
--- The item of a piece, by its first two words.
+-- The item of a segment, by its first two words.
 use Rattle.std.proofs.Common.{◌≡◌, ◌∙◌, ap, sym, refl, ℕ, ◌+◌, false, cond, List, [], ◌∷◌, ◌++◌, arith}
 use Rattle.hcl_tokens.specs.Kinds.{is}
 use Rattle.hcl_tokens.specs.declared.token.Kind.TheVariants as kind
@@ -7,7 +7,7 @@ use Rattle.hcl_grammar.specs.Numbered.{Numbered, end_of}
 use Rattle.hcl_grammar.specs.Items.{block, item_of}
 use Rattle.hcl_syntax.specs.Inner.Segments.{IsFirst, words}
 use Rattle.hcl_syntax.specs.Inner.Bodies.{PushesBlock, PushesSegment}
-use Rattle.hcl_syntax.specs.declared.segments.Body.{Body}
+use Rattle.hcl_syntax.specs.declared.segments.BlockBody.{BlockBody}
 use Rattle.hcl_syntax.specs.declared.words.NumberedKind.{NumberedKind}
 use Rattle.hcl_grammar.specs.declared.item.Item.{Item}
 use Rattle.hcl_grammar.specs.declared.item.Item.TheVariants as item
@@ -15,7 +15,7 @@ use Rattle.hcl_grammar.specs.declared.item.Item.TheVariants as item
 abbrev head_of : NumberedKind → List ℕ → Numbered
 head_of w text = record { number = w.number; kind = w.kind; text = text }
 
-pub puts_alone : (ts : List Lexeme) (level from to : ℕ) (old new : List Item) (name : NumberedKind) (b : Body) → IsFirst ts from to name → words ts (name.number + 1) to ≡ [] → PushesBlock ts level name.number to old new b
+pub puts_alone : (ts : List Lexeme) (level from to : ℕ) (old new : List Item) (name : NumberedKind) (b : BlockBody) → IsFirst ts from to name → words ts (name.number + 1) to ≡ [] → PushesBlock ts level name.number to old new b
     → PushesSegment ts level from to old new b
 puts_alone ts level from to old new name b f none h = record {
   is = λ inner nothing.
@@ -28,7 +28,7 @@ puts_alone ts level from to old new name b f none h = record {
   begins = h.begins;
 }
 
-pub puts_labelled : (ts : List Lexeme) (level from to : ℕ) (old new : List Item) (name second : NumberedKind) (b : Body) → IsFirst ts from to name → IsFirst ts (name.number + 1) to second → is kind.Assign second.kind ≡ false
+pub puts_labelled : (ts : List Lexeme) (level from to : ℕ) (old new : List Item) (name second : NumberedKind) (b : BlockBody) → IsFirst ts from to name → IsFirst ts (name.number + 1) to second → is kind.Assign second.kind ≡ false
     → PushesBlock ts level name.number to old new b → PushesSegment ts level from to old new b
 puts_labelled ts level from to old new name second b f s plain h = record {
   is = λ inner nothing.

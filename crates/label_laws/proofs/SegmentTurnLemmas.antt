@@ -15,9 +15,9 @@ use Rattle.hcl_grammar.specs.Numbered.{Numbered, end_of}
 use Rattle.hcl_grammar.specs.declared.item.Item.{Item}
 use Rattle.hcl_grammar.specs.declared.item.Item.TheVariants as item
 use Rattle.hcl_grammar.specs.declared.item.Label.{Label}
-use Rattle.hcl_grammar.proofs.ItemOrderLemmas.{AllRise, Rises, pieces_rise, rises_wide}
+use Rattle.hcl_grammar.proofs.ItemOrderLemmas.{AllRise, Rises, segments_rise, rises_wide}
 use Rattle.label_laws.proofs.TurnLemmas.{Place, line, labelled, started, named, single, value, ended, level, inside, depth, may_end, may_stop, is_line, turn, goes, Goes, IsLeft, Turns, breaks, moves, turns, from_line, from_labels, from_quote, from_literal, from_start, from_name}
-use Rattle.label_laws.proofs.NamePlaceLemmas.{IsApart, is_name}
+use Rattle.label_laws.proofs.NamePlaceLemmas.{IsDisjoint, is_name}
 use Rattle.label_laws.proofs.TurnLemmas as at
 
 abbrev pub in_quotes : Place → Bool
@@ -35,7 +35,7 @@ Adjoins p n ts = in_quotes p ≡ true → Begins (n + 1) ts
 
 -- a token is the one of its number; if it names an item, no dot is beside it
 abbrev pub Stands : List Numbered → Place → Numbered → Type 0
-Stands all p t = (drop t.number all ≡ t ∷ drop (t.number + 1) all) × (is_name p t.kind ≡ true → IsApart all t.number)
+Stands all p t = (drop t.number all ≡ t ∷ drop (t.number + 1) all) × (is_name p t.kind ≡ true → IsDisjoint all t.number)
 
 -- the tokens lead from a place to another, and each place on the way meets the condition
 abbrev pub Leads : (all : List Numbered) → (Place → Type 0) → Place → List Numbered → Place → Type 0
@@ -55,31 +55,31 @@ abbrev pub Stops : ℕ → Place → Type 0
 Stops k end = (may_stop end ≡ true) × (depth end ≤ k)
 
 module _ (all : List Numbered) where
-  -- a piece from a place on
-  abbrev pub Piece : ℕ → Place → List Numbered → Type 0
-  Piece k p ts = (end : Place) × Leads all (Inside k) p ts end × Stops k end
+  -- a segment from a place on
+  abbrev pub Segment : ℕ → Place → List Numbered → Type 0
+  Segment k p ts = (end : Place) × Leads all (Inside k) p ts end × Stops k end
 
-  abbrev pub LinePieces : ℕ → List (List Numbered) → Type 0
-  LinePieces k [] = Unit {0}
-  LinePieces k (p ∷ ps) = Piece k (line k) p × LinePieces k ps
+  abbrev pub LineSegments : ℕ → List (List Numbered) → Type 0
+  LineSegments k [] = Unit {0}
+  LineSegments k (p ∷ ps) = Segment k (line k) p × LineSegments k ps
 
   -- the first from a place on, the others from the beginning of a line
-  abbrev pub Pieces : ℕ → Place → List (List Numbered) → Type 0
-  Pieces k p [] = ⊥
-  Pieces k p (x ∷ xs) = Piece k p x × LinePieces k xs
+  abbrev pub Segments : ℕ → Place → List (List Numbered) → Type 0
+  Segments k p [] = ⊥
+  Segments k p (x ∷ xs) = Segment k p x × LineSegments k xs
 
   level_depth : (p : Place) → level p ≤ depth p
   level_depth p = omega arith
 
-  -- ---- the pieces of lines
+  -- ---- the segments of lines
 
-  -- the tokens before the first piece of the rest
+  -- the tokens before the first segment of the rest
   put_front : (k : ℕ) (p q : Place) (t : Numbered) (ts : List Numbered) (ps : List (List Numbered)) → turn p t.kind ≡ Some q → Inside k q → Stands all p t
-      → ((x : List Numbered) → (xs : List (List Numbered)) → ps ≡ x ∷ xs → Adjoins q t.number x) → Pieces k q ps → Pieces k p (onto t ps)
+      → ((x : List Numbered) → (xs : List (List Numbered)) → ps ≡ x ∷ xs → Adjoins q t.number x) → Segments k q ps → Segments k p (onto t ps)
   put_front k p q t ts [] turned ok here next h = absurd h
   put_front k p q t ts (x ∷ xs) turned ok here next h = ((h.0.0, (q, turned, ok, here, next x xs refl, h.0.1), h.0.2), h.1)
 
-  -- the first piece begins like the tokens
+  -- the first segment begins like the tokens
   first_begins : (n d : ℕ) (ts x : List Numbered) (xs : List (List Numbered)) → Begins n ts → segments d ts ≡ x ∷ xs → Begins n x
   first_begins n d [] x xs h e = let f : [] ≡ x = cc in subst (λ r. Begins n r) f tt
   first_begins n d (t ∷ ts) x xs h e = by (is kind.Newline t.kind && is_closed d) (segments (deepen d t.kind) ts) e
@@ -96,7 +96,7 @@ module _ (all : List Numbered) where
       zero_of zero e = refl
       zero_of (suc n) e = absurd (true≢false (sym e))
 
-  pub cut : (k : ℕ) (p : Place) (ts : List Numbered) (end : Place) → k ≤ level p → Leads all (Within k) p ts end → Stops k end → Pieces k p (segments (depth p - k) ts)
+  pub cut : (k : ℕ) (p : Place) (ts : List Numbered) (end : Place) → k ≤ level p → Leads all (Within k) p ts end → Stops k end → Segments k p (segments (depth p - k) ts)
   cut k p [] end low leads stops = ((end, leads, stops), tt)
   cut k p (t ∷ ts) end low leads stops =
       by (is kind.Newline t.kind && is_closed (depth p - k)) refl (turns p t.kind q leads.1) (cut k q ts end leads.2 leads.5 stops)
@@ -119,10 +119,10 @@ module _ (all : List Numbered) where
       zero_of zero e = refl
       zero_of (suc n) e = absurd (true≢false (sym e))
 
-      broken : q ≡ line k → Pieces k q (segments (depth q - k) ts) → deepen (depth p - k) t.kind ≡ 0 → may_end p ≡ true → depth p ≤ k → Pieces k p ([] ∷ P)
+      broken : q ≡ line k → Segments k q (segments (depth q - k) ts) → deepen (depth p - k) t.kind ≡ 0 → may_end p ≡ true → depth p ≤ k → Segments k p ([] ∷ P)
       broken is rest flat ends low =
           let d : depth q - k ≡ 0 = ap (λ x. depth x - k) is ∙ (let z : (k + 0) - k ≡ 0 = omega arith in z) in
-          let more : Pieces k (line k) P = subst (λ x. Pieces k x P) is (subst (λ (n : ℕ). Pieces k q (segments n ts)) (d ∙ sym flat) rest) in
+          let more : Segments k (line k) P = subst (λ x. Segments k x P) is (subst (λ (n : ℕ). Segments k q (segments n ts)) (d ∙ sym flat) rest) in
           ((p, refl, (stops_there p ends, low)), lines P more)
         where
           stops_there : (p : Place) → may_end p ≡ true → may_stop p ≡ true
@@ -132,11 +132,11 @@ module _ (all : List Numbered) where
           stops_there (at.ended k) e = refl
           stops_there _ e = absurd (true≢false (sym e))
 
-          lines : (ps : List (List Numbered)) → Pieces k (line k) ps → LinePieces k ps
+          lines : (ps : List (List Numbered)) → Segments k (line k) ps → LineSegments k ps
           lines [] h = tt
           lines (x ∷ xs) h = h
 
-      by : (b : Bool) → (is kind.Newline t.kind && is_closed (depth p - k)) ≡ b → Turns p t.kind q → Pieces k q (segments (depth q - k) ts) → Pieces k p (cond b ([] ∷ P) (onto t P))
+      by : (b : Bool) → (is kind.Newline t.kind && is_closed (depth p - k)) ≡ b → Turns p t.kind q → Segments k q (segments (depth q - k) ts) → Segments k p (cond b ([] ∷ P) (onto t P))
       by true this (breaks nl flat ends to) rest =
           let n = newline (is kind.Newline t.kind) (is_closed (depth p - k)) this in
           let f = flat_all k p low n.1 in
@@ -149,7 +149,7 @@ module _ (all : List Numbered) where
           let high : k < level p = above (cases k) in
           let d : depth q - k ≡ deepen (depth p - k) t.kind = ap (λ x. depth x - k) to ∙ (let z : (level p + 0) - k ≡ depth p - k = omega (arith, flat) in z) ∙ sym (level_newline t.kind nl (depth p - k)) in
           put_front k p q t ts P leads.1 (leads.2, (λ i. subst (λ x. k < level x) (sym to) high)) leads.3 (λ x xs e i. first_begins (t.number + 1) (deepen (depth p - k) t.kind) ts x xs (leads.4 i) e)
-          (subst (λ (n : ℕ). Pieces k q (segments n ts)) d rest)
+          (subst (λ (n : ℕ). Segments k q (segments n ts)) d rest)
         where
           cases : (n : ℕ) → (k < level p) ⊎ (level p ≤ k)
           cases n = cases_lt k (level p)
@@ -162,12 +162,12 @@ module _ (all : List Numbered) where
       by false is (moves still g) rest =
           let d : depth q - k ≡ deepen (depth p - k) t.kind = ap (λ (n : ℕ). n - k) g.deep ∙ less t.kind g in
           put_front k p q t ts P leads.1 (leads.2, (λ i. absurd (true≢false (sym i ∙ g.no_line)))) leads.3 (λ x xs e i. first_begins (t.number + 1) (deepen (depth p - k) t.kind) ts x xs (leads.4 i) e)
-          (subst (λ (n : ℕ). Pieces k q (segments n ts)) d rest)
+          (subst (λ (n : ℕ). Segments k q (segments n ts)) d rest)
         where
           less : (x : Kind) → Goes p t.kind q → deepen (depth p) t.kind - k ≡ deepen (depth p - k) t.kind
           less x g = omega (arith, g.deep, low, leads.2)
 
-  -- ---- a block's body, in a piece
+  -- ---- a block's body, in a segment
 
   pub record Bodied (k : ℕ) (p : Place) (ts : List Numbered) : Type 0 where
     pub inner : List Numbered
@@ -178,7 +178,7 @@ module _ (all : List Numbered) where
     pub leads : Leads all (Within (suc k)) p inner end
     pub stops : Stops (suc k) end
 
-  -- at the end of a line the piece has no more tokens
+  -- at the end of a line the segment has no more tokens
   last : (k : ℕ) (ts : List Numbered) (end : Place) → Leads all (Inside k) (ended k) ts end → ts ≡ []
   last k [] end leads = refl
   last k (t ∷ ts) end leads = absurd (by (turns (ended k) t.kind leads.0 leads.1))
@@ -242,11 +242,11 @@ module _ (all : List Numbered) where
   -- ---- labels and names
 
   abbrev pub GoodLabel : Label → Type 0
-  GoodLabel l = (l.first < l.last → IsAsWritten (between_quotes all l) (label_text all l)) × IsApart all l.first
+  GoodLabel l = (l.first < l.last → IsAsWritten (between_quotes all l) (label_text all l)) × IsDisjoint all l.first
 
   abbrev pub Good : Item → Type 0
   Good (item.Label l) = GoodLabel l
-  Good (item.Attribute level name first end) = IsApart all name
+  Good (item.Attribute level name first end) = IsDisjoint all name
   Good (item.Block level kind end) = Unit {0}
 
   abbrev pub AllGood : List Item → Type 0
@@ -288,9 +288,9 @@ module _ (all : List Numbered) where
 
   as_written : (n m : ℕ) (u : Numbered) (x : List Numbered) (text : List ℕ) → m ≡ n + 1 ⊎ m ≡ n + 2 → drop (n + 1) all ≡ u ∷ drop (n + 2) all → take (m - (n + 1)) (u ∷ drop (n + 2) all) ≡ x → first_literal (u ∷ drop (n + 2) all) ≡ text
       → IsAsWritten x text → IsAsWritten (between_quotes all (record { first = n; last = m })) (label_text all (record { first = n; last = m }))
-  as_written n m u x text apart here taken first h =
+  as_written n m u x text disjoint here taken first h =
       subst (λ y. IsAsWritten y (label_text all (record { first = n; last = m }))) (sym (ap (λ r. take (m - (n + 1)) r) here ∙ taken))
-      (subst (λ y. IsAsWritten x y) (sym (ap (λ b. cond b (text_of all n) (first_literal (drop (n + 1) all))) (unequal n m apart) ∙ ap first_literal here ∙ first)) h)
+      (subst (λ y. IsAsWritten x y) (sym (ap (λ b. cond b (text_of all n) (first_literal (drop (n + 1) all))) (unequal n m disjoint) ∙ ap first_literal here ∙ first)) h)
 
   at_number : (u : Numbered) (n : ℕ) → u.number ≡ n + 1 → drop u.number all ≡ u ∷ drop (u.number + 1) all → drop (n + 1) all ≡ u ∷ drop (n + 2) all
   at_number u n e here = let more : u.number + 1 ≡ n + 2 = omega (arith, e) in ap (λ j. drop j all) (sym e) ∙ here ∙ ap (λ j. u ∷ drop j all) more
@@ -364,7 +364,7 @@ module _ (all : List Numbered) where
         from : (r : Place) → p ≡ r → turn r t.kind ≡ Some q
         from r e = subst (λ x. turn x t.kind ≡ Some q) e leads.1
 
-        named_by : (b : Bool) → p ≡ labelled k b → (is kind.Ident t.kind || is kind.QuoteOpen t.kind) ≡ true → IsApart all t.number
+        named_by : (b : Bool) → p ≡ labelled k b → (is kind.Ident t.kind || is kind.QuoteOpen t.kind) ≡ true → IsDisjoint all t.number
         named_by b e h = leads.3.1 (ap (λ r. is_name r t.kind) e ∙ h)
 
         one : (b : Bool) → p ≡ labelled k b → (b ≡ true → is kind.Assign t.kind ≡ false) → (Among q ts → Labels ts) → LabelTurn k b t.kind q → Labels (t ∷ ts)
@@ -443,7 +443,7 @@ module _ (all : List Numbered) where
   Begin k p = (p ≡ line k) ⊎ ((j : ℕ) × (k ≡ suc j) × (p ≡ started j))
 
   abbrev pub InnerGood : (List Numbered → List Item) → Type 0
-  InnerGood inner = (k : ℕ) (p : Place) (from to : ℕ) (ts : List Numbered) → Begin k p → Rises from ts to → Pieces k p (segments 0 ts) → AllGood (inner ts)
+  InnerGood inner = (k : ℕ) (p : Place) (from to : ℕ) (ts : List Numbered) → Begin k p → Rises from ts to → Segments k p (segments 0 ts) → AllGood (inner ts)
 
   module _ (inner : List Numbered → List Item) (good : InnerGood inner) (lev : ℕ) where
     nothing_good : AllGood (inner [])
@@ -461,10 +461,10 @@ module _ (all : List Numbered) where
             let b = bodied k (started k) (after_brace ts) end (omega arith) more stops in
             let is = body_is from to ts b.inner b.close rises b.is b.brace in
             let z : depth (started k) - suc k ≡ 0 = omega arith in
-            let ps : Pieces (suc k) (started k) (segments 0 b.inner) = subst (λ (n : ℕ). Pieces (suc k) (started k) (segments n b.inner)) z (cut (suc k) (started k) b.inner b.end (omega arith) b.leads b.stops) in
+            let ps : Segments (suc k) (started k) (segments 0 b.inner) = subst (λ (n : ℕ). Segments (suc k) (started k) (segments n b.inner)) z (cut (suc k) (started k) b.inner b.end (omega arith) b.leads b.stops) in
             subst (λ r. AllGood (inner r)) (sym is.0) (good (suc k) (started k) is.1.0 to b.inner (inr (k, refl, refl)) (rises_front is.1.0 to b.inner b.close is.1.1) ps)
 
-    -- the tokens after the first of a piece
+    -- the tokens after the first of a segment
     first_turn : (k : ℕ) (p q : Place) (t : Kind) → Begin k p → turn p t ≡ Some q → Inside k q → (q ≡ labelled k true) ⊎ ((j : ℕ) × (q ≡ named j))
     first_turn k p q t (inl e) turned ok = by k t q (subst (λ x. turn x t ≡ Some q) e turned) ok
       where
@@ -503,34 +503,34 @@ module _ (all : List Numbered) where
     named_turn j kind.Assign q e = refl
     named_turn j t q e = let n : None ≡ Some q = e in absurd (cc)
 
-    item_good : (k : ℕ) (p : Place) (from to : ℕ) (ts : List Numbered) → Begin k p → Rises from ts to → Piece k p ts → AllGood (item_of inner lev ts)
-    item_good k p from to [] begin rises piece = tt
-    item_good k p from to (name ∷ []) begin rises piece = (tt, nothing_good)
-    item_good k p from to (name ∷ second ∷ rest) begin rises piece = by (is kind.Assign second.kind) refl
+    item_good : (k : ℕ) (p : Place) (from to : ℕ) (ts : List Numbered) → Begin k p → Rises from ts to → Segment k p ts → AllGood (item_of inner lev ts)
+    item_good k p from to [] begin rises segment = tt
+    item_good k p from to (name ∷ []) begin rises segment = (tt, nothing_good)
+    item_good k p from to (name ∷ second ∷ rest) begin rises segment = by (is kind.Assign second.kind) refl
       where
-        leads : Leads all (Inside k) p (name ∷ second ∷ rest) piece.0
-        leads = piece.1
+        leads : Leads all (Inside k) p (name ∷ second ∷ rest) segment.0
+        leads = segment.1
 
         q : Place
         q = leads.0
 
         after : is kind.Assign second.kind ≡ false → (q ≡ labelled k true) ⊎ ((j : ℕ) × (q ≡ named j)) → AllGood (block inner lev name (second ∷ rest))
-        after unsign (inl e) = block_good k (name.number + 1) to name (second ∷ rest) piece.0 rises.1 unsign (subst (λ x. Leads all (Inside k) x (second ∷ rest) piece.0) e leads.5) piece.2
+        after unsign (inl e) = block_good k (name.number + 1) to name (second ∷ rest) segment.0 rises.1 unsign (subst (λ x. Leads all (Inside k) x (second ∷ rest) segment.0) e leads.5) segment.2
         after unsign (inr e) = absurd (true≢false (sym (named_turn e.0 second.kind leads.5.0 (subst (λ x. turn x second.kind ≡ Some leads.5.0) e.1 leads.5.1)) ∙ unsign))
 
         by : (b : Bool) → is kind.Assign second.kind ≡ b → AllGood (cond b (item.Attribute lev name.number (second.number + 1) (end_of (second ∷ rest)) ∷ []) (block inner lev name (second ∷ rest)))
         by true e = (leads.3.1 (first_names k p q name.kind begin leads.1 leads.2), tt)
         by false e = after e (first_turn k p q name.kind begin leads.1 leads.2)
 
-    lines_good : (k from to : ℕ) (ps : List (List Numbered)) → AllRise from ps to → LinePieces k ps → AllGood (flat_map (item_of inner lev) ps)
+    lines_good : (k from to : ℕ) (ps : List (List Numbered)) → AllRise from ps to → LineSegments k ps → AllGood (flat_map (item_of inner lev) ps)
     lines_good k from to [] rises h = tt
     lines_good k from to (x ∷ xs) rises h = good_both (item_of inner lev x) (flat_map (item_of inner lev) xs) (item_good k (line k) from rises.0 x (inl refl) rises.1 h.0) (lines_good k rises.0 to xs rises.2 h.1)
 
-    all_good : (k : ℕ) (p : Place) (from to : ℕ) (ps : List (List Numbered)) → Begin k p → AllRise from ps to → Pieces k p ps → AllGood (flat_map (item_of inner lev) ps)
+    all_good : (k : ℕ) (p : Place) (from to : ℕ) (ps : List (List Numbered)) → Begin k p → AllRise from ps to → Segments k p ps → AllGood (flat_map (item_of inner lev) ps)
     all_good k p from to [] begin rises h = tt
     all_good k p from to (x ∷ xs) begin rises h = good_both (item_of inner lev x) (flat_map (item_of inner lev) xs) (item_good k p from rises.0 x begin rises.1 h.0) (lines_good k rises.0 to xs rises.2 h.1)
 
   pub items_good : (n lev : ℕ) → InnerGood (items n lev)
   items_good zero lev k p from to ts begin rises h = tt
   items_good (suc n) lev k p from to ts begin rises h =
-      all_good (items n (lev + 1)) (items_good n (lev + 1)) lev k p from to (segments 0 ts) begin (pieces_rise 0 from to ts rises) h
+      all_good (items n (lev + 1)) (items_good n (lev + 1)) lev k p from to (segments 0 ts) begin (segments_rise 0 from to ts rises) h

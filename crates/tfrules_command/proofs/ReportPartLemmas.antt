@@ -1,4 +1,4 @@
--- Pieces that are written in turn.
+-- Parts that are written in turn.
 use Rattle.std.proofs.Common.{◌≡◌, ◌∙◌, ◌<◌, ◌≤◌, ◌+◌, ◌++◌, ◌∷◌, [], ℕ, Bool, true, false, List, Option, None, ap, ap₂, refl, append_assoc, arith, codes, drop, get_or, length, map, subst, sym, take}
 use Rattle.std.proofs.lemmas.List.{append-nil, map-append, take_all, take_more}
 use Rattle.std.proofs.lemmas.List.Folds.{concat-append}
@@ -13,17 +13,17 @@ use Rattle.tf_rules.specs.declared.issue.Issue.{Issue}
 use Rattle.tfrules_command.specs.Report.{issue_line, report}
 use Rattle.tfrules_command.specs.Inner.Parts.{closing_words, lines_of_report, opening_words, place_words}
 
--- another piece waits
-pub piece_more : (xs : List (Bor (List ℕ))) (i : ℕ) (d : Bor (List ℕ)) (text base old new : List ℕ) → i < length xs → text ≡ (get_or xs i d).now → new ≡ old ++ text → old ≡ base ++ concat (map (λ piece. piece.now) (take i xs))
-    → new ≡ base ++ concat (map (λ piece. piece.now) (take (i + 1) xs))
-piece_more xs i d text base old new lt is pushed so_far =
+-- another part waits
+pub part_more : (xs : List (Bor (List ℕ))) (i : ℕ) (d : Bor (List ℕ)) (text base old new : List ℕ) → i < length xs → text ≡ (get_or xs i d).now → new ≡ old ++ text → old ≡ base ++ concat (map (λ part. part.now) (take i xs))
+    → new ≡ base ++ concat (map (λ part. part.now) (take (i + 1) xs))
+part_more xs i d text base old new lt is pushed so_far =
     pushed
     ∙ ap₂ (λ a b. a ++ b) so_far (is ∙ sym (append-nil (get_or xs i d).now))
-    ∙ append_assoc base (concat (map (λ piece. piece.now) (take i xs))) ((get_or xs i d).now ++ [])
+    ∙ append_assoc base (concat (map (λ part. part.now) (take i xs))) ((get_or xs i d).now ++ [])
     ∙ ap (λ l. base ++ l)
-    (sym (concat-append (map (λ piece. piece.now) (take i xs)) ((get_or xs i d).now ∷ []))
-    ∙ ap concat (sym (map-append (λ piece. piece.now) (take i xs) (get_or xs i d ∷ [])))
-    ∙ ap (λ l. concat (map (λ piece. piece.now) l)) (sym (take_more xs i d lt)))
+    (sym (concat-append (map (λ part. part.now) (take i xs)) ((get_or xs i d).now ∷ []))
+    ∙ ap concat (sym (map-append (λ part. part.now) (take i xs) (get_or xs i d ∷ [])))
+    ∙ ap (λ l. concat (map (λ part. part.now) l)) (sym (take_more xs i d lt)))
 
 -- ---- the line of an issue
 
