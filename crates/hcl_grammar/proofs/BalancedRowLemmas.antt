@@ -8,7 +8,7 @@ use Rattle.hcl_tokens.proofs.OneReadingLemmas.{scan_bounded}
 use Rattle.hcl_grammar.specs.Classes.{class_at}
 use Rattle.hcl_grammar.specs.Verdict.{IsAccepted}
 use Rattle.hcl_tokens.specs.Balanced.{max_open, opener_count, closer_count, openers, closers, IsWithin, IsBalanced}
-use Rattle.hcl_grammar.proofs.OwedLemmas.{Shift}
+use Rattle.hcl_grammar.proofs.UnclosedLemmas.{Shift}
 use Rattle.hcl_grammar.proofs.MoveLemmas.{Shifts, accepted-shifts}
 
 -- how many of the open openers are neither quotes nor heredocs

@@ -1,4 +1,4 @@
-pub mod OwedLemmas
+pub mod UnclosedLemmas
 pub mod RowLemmas
 pub mod MoveLemmas
 pub mod BalancedRowLemmas

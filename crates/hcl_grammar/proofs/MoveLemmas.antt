@@ -13,8 +13,8 @@ use Rattle.hcl_grammar.specs.Classes.{class_of, lookaheads_from}
 use Rattle.hcl_grammar.specs.Grammar.{Symbol, directive, section_directive, Marked, ◌at◌, Action, none, nothing, reads, opens, closes, row}
 use Rattle.hcl_grammar.specs.Predictor.{max_directives, Effect, on, stop, effect, row_effect, next, run}
 use Rattle.hcl_grammar.specs.Verdict.{IsAccepted}
-use Rattle.hcl_grammar.proofs.OwedLemmas.{must_be_closed, owes_all, Shift, HaveNumbers, RowMoves}
-use Rattle.hcl_grammar.proofs.RowLemmas.{owes_all-append, numbers-append, shift-above, moves-row}
+use Rattle.hcl_grammar.proofs.UnclosedLemmas.{unclosed_in, unclosed_in_all, Shift, HaveNumbers, RowMoves}
+use Rattle.hcl_grammar.proofs.RowLemmas.{unclosed_in_all-append, numbers-append, shift-above, moves-row}
 
 -- P holds of the number in a refusal, if it has one
 abbrev pub Named : (ℕ → Type 0) → Refusal → Type 0
@@ -23,7 +23,7 @@ Named P UnexpectedEnd = Unit {0}
 Named P (TooDeep n) = P n
 
 abbrev pub EffectMoves : (ℕ → Type 0) → Effect → List Opener → Class → Type 0
-EffectMoves P (on o ss) a c = Shift c a (owes_all ss) × HaveNumbers P ss
+EffectMoves P (on o ss) a c = Shift c a (unclosed_in_all ss) × HaveNumbers P ss
 EffectMoves P (stop r) a c = Named P r
 
 -- the numbers of the first symbol alone, and of those after it
@@ -42,24 +42,24 @@ shift-dropped Seen c a h = cc
 shift-dropped Dropped Newline a h = refl
 shift-dropped Dropped _ a h = cc
 
-shift-after : (c : Class) (a : List Opener) (xs ss : List Marked) → Shift c a (owes_all xs) → Shift c (a ++ owes_all ss) (owes_all (xs ++ ss))
-shift-after c a xs ss h = subst (λ l. Shift c (a ++ owes_all ss) l) (sym (owes_all-append xs ss)) (shift-above c a (owes_all xs) (owes_all ss) h)
+shift-after : (c : Class) (a : List Opener) (xs ss : List Marked) → Shift c a (unclosed_in_all xs) → Shift c (a ++ unclosed_in_all ss) (unclosed_in_all (xs ++ ss))
+shift-after c a xs ss h = subst (λ l. Shift c (a ++ unclosed_in_all ss) l) (sym (unclosed_in_all-append xs ss)) (shift-above c a (unclosed_in_all xs) (unclosed_in_all ss) h)
 
 taken-moves : (P : ℕ → Type 0) (count : ℕ) (r : Action) (a : List Opener) (ss : List Marked) (passed : Effect) (t : Lookahead) → RowMoves P r a t.class → P t.number → HaveNumbers P ss →
-    EffectMoves P passed (owes_all ss) t.class → EffectMoves P (row_effect count r ss passed t) (a ++ owes_all ss) t.class
+    EffectMoves P passed (unclosed_in_all ss) t.class → EffectMoves P (row_effect count r ss passed t) (a ++ unclosed_in_all ss) t.class
 taken-moves P count none a ss passed t h p k q = p
-taken-moves P count nothing a ss passed t h p k q = subst (λ l. EffectMoves P passed (l ++ owes_all ss) t.class) h q
+taken-moves P count nothing a ss passed t h p k q = subst (λ l. EffectMoves P passed (l ++ unclosed_in_all ss) t.class) h q
 taken-moves P count (reads xs) a ss passed t h p k q = (shift-after t.class a xs ss h.0, numbers-append P xs ss h.1 k)
-taken-moves P count (opens n xs) a ss passed t h p k q = elim (nat_lt count max_directives) as (λ b. EffectMoves P (cond b (on (count + 1) (xs ++ ss)) (stop (TooDeep n))) (a ++ owes_all ss) t.class)
+taken-moves P count (opens n xs) a ss passed t h p k q = elim (nat_lt count max_directives) as (λ b. EffectMoves P (cond b (on (count + 1) (xs ++ ss)) (stop (TooDeep n))) (a ++ unclosed_in_all ss) t.class)
     [ true ↦ (shift-after t.class a xs ss h.0, numbers-append P xs ss h.1 k) | false ↦ h.2 ]
 taken-moves P count (closes xs) a ss passed t h p k q = (shift-after t.class a xs ss h.0, numbers-append P xs ss h.1 k)
 
 effect-by : (P : ℕ → Type 0) (count : ℕ) (s : Symbol) (m : Newlines) (ss : List Marked) (t : Lookahead) (b : Bool) → drops m t.class ≡ b → P t.number → HaveNumbers P (s at m ∷ ss) →
-    EffectMoves P (effect count ss t) (owes_all ss) t.class → EffectMoves P (cond b (on count (s at m ∷ ss)) (row_effect count (row s m t) ss (effect count ss t) t)) (must_be_closed s ++ owes_all ss) t.class
-effect-by P count s m ss t true e p h q = (shift-dropped m t.class (must_be_closed s ++ owes_all ss) e, h)
-effect-by P count s m ss t false e p h q = taken-moves P count (row s m t) (must_be_closed s) ss (effect count ss t) t (moves-row P s m t.number t.class p (first-number P s m ss h)) p (more-numbers P s m ss h) q
+    EffectMoves P (effect count ss t) (unclosed_in_all ss) t.class → EffectMoves P (cond b (on count (s at m ∷ ss)) (row_effect count (row s m t) ss (effect count ss t) t)) (unclosed_in s ++ unclosed_in_all ss) t.class
+effect-by P count s m ss t true e p h q = (shift-dropped m t.class (unclosed_in s ++ unclosed_in_all ss) e, h)
+effect-by P count s m ss t false e p h q = taken-moves P count (row s m t) (unclosed_in s) ss (effect count ss t) t (moves-row P s m t.number t.class p (first-number P s m ss h)) p (more-numbers P s m ss h) q
 
-pub effect-moves : (P : ℕ → Type 0) (count : ℕ) (ss : List Marked) (t : Lookahead) → P t.number → HaveNumbers P ss → EffectMoves P (effect count ss t) (owes_all ss) t.class
+pub effect-moves : (P : ℕ → Type 0) (count : ℕ) (ss : List Marked) (t : Lookahead) → P t.number → HaveNumbers P ss → EffectMoves P (effect count ss t) (unclosed_in_all ss) t.class
 effect-moves P count [] t p h = p
 effect-moves P count (s at m ∷ ss) t p h = effect-by P count s m ss t (drops m t.class) refl p h (effect-moves P count ss t p (more-numbers P s m ss h))
 
@@ -73,22 +73,22 @@ shift-trivia Trivia a h = refl
 shift-trivia _ a h = cc
 
 abbrev Fronts : List Lexeme → List Marked → Type 0
-Fronts ps ss = (b : List Opener) × Shifts ps (owes_all ss) b
+Fronts ps ss = (b : List Opener) × Shifts ps (unclosed_in_all ss) b
 
 next-shifts : (w : Effect) (a : List Opener) (n : ℕ) (t : Lexeme) (ps qs : List Lexeme) → EffectMoves (λ i. Unit {0}) w a (class_of t) → next w (λ o rest. run o rest (lookaheads_from (n + 1) (ps ++ qs))) ≡ None →
     ((o : ℕ) (ss : List Marked) → HaveNumbers (λ i. Unit {0}) ss → run o ss (lookaheads_from (n + 1) (ps ++ qs)) ≡ None → Fronts ps ss) → (b : List Opener) × Shifts (t ∷ ps) a b
-next-shifts (on o ss) a n t ps qs q e k = let w = k o ss q.1 e in (w.0, (owes_all ss, q.0, w.1))
+next-shifts (on o ss) a n t ps qs q e k = let w = k o ss q.1 e in (w.0, (unclosed_in_all ss, q.0, w.1))
 next-shifts (stop f) a n t ps qs q e k = absurd (let h : Some f ≡ None = e in cc)
 
 shifts-by : (count : ℕ) (ss : List Marked) (n : ℕ) (t : Lexeme) (ps qs : List Lexeme) (b : Bool) → is_trivia (class_of t) ≡ b → HaveNumbers (λ i. Unit {0}) ss →
     run count ss (cond b (lookaheads_from (n + 1) (ps ++ qs)) (record { class = class_of t; number = n } ∷ lookaheads_from (n + 1) (ps ++ qs))) ≡ None →
-    ((o : ℕ) (us : List Marked) → HaveNumbers (λ i. Unit {0}) us → run o us (lookaheads_from (n + 1) (ps ++ qs)) ≡ None → Fronts ps us) → (b : List Opener) × Shifts (t ∷ ps) (owes_all ss) b
+    ((o : ℕ) (us : List Marked) → HaveNumbers (λ i. Unit {0}) us → run o us (lookaheads_from (n + 1) (ps ++ qs)) ≡ None → Fronts ps us) → (b : List Opener) × Shifts (t ∷ ps) (unclosed_in_all ss) b
 unfolding run
-shifts-by count ss n t ps qs true is h e k = let w = k count ss h e in (w.0, (owes_all ss, shift-trivia (class_of t) (owes_all ss) is, w.1))
-shifts-by count ss n t ps qs false is h e k = next-shifts (effect count ss (record { class = class_of t; number = n })) (owes_all ss) n t ps qs (effect-moves (λ i. Unit {0}) count ss (record { class = class_of t; number = n }) tt h) e k
+shifts-by count ss n t ps qs true is h e k = let w = k count ss h e in (w.0, (unclosed_in_all ss, shift-trivia (class_of t) (unclosed_in_all ss) is, w.1))
+shifts-by count ss n t ps qs false is h e k = next-shifts (effect count ss (record { class = class_of t; number = n })) (unclosed_in_all ss) n t ps qs (effect-moves (λ i. Unit {0}) count ss (record { class = class_of t; number = n }) tt h) e k
 
 run-shifts : (count : ℕ) (ss : List Marked) (n : ℕ) (ps qs : List Lexeme) → HaveNumbers (λ i. Unit {0}) ss → run count ss (lookaheads_from n (ps ++ qs)) ≡ None → Fronts ps ss
-run-shifts count ss n [] qs h e = (owes_all ss, refl)
+run-shifts count ss n [] qs h e = (unclosed_in_all ss, refl)
 run-shifts count ss n (t ∷ ps) qs h e = shifts-by count ss n t ps qs (is_trivia (class_of t)) refl h e (λ o us q f. run-shifts o us (n + 1) ps qs q f)
 
 pub accepted-shifts : (ps qs : List Lexeme) → IsAccepted (ps ++ qs) → (b : List Opener) × Shifts ps [] b

@@ -9,11 +9,11 @@ use Rattle.hcl_grammar.specs.declared.expected.Terminal.{Terminal}
 use Rattle.hcl_grammar.specs.declared.expected.Terminal.TheVariants.{Name, InWord, IfWord, ForWord, Equals, Separator, FatArrow, CommaSign, Ellipses, Asterisk, EndParen, EndBracket, EndBrace, EndSequence, EndQuote, EndHeredoc}
 use Rattle.hcl_grammar.specs.declared.expected.Section.TheVariants.{InIf, InElse, InFor}
 use Rattle.hcl_grammar.specs.Grammar.{Symbol, the, file, rest, labels, label_literal, start, body, eol, expr, after_ident, path, after, step, index, tuple, tuple_next, tuple_item, tuple_if, names, object, separator, object_next, object_item, group, object_if, args, arg_next, parts, directive, inside, section_directive, Marked, ◌at◌, Action, none, nothing, reads, opens, closes, ◌then◌, shared_row, row_of}
-use Rattle.hcl_grammar.proofs.OwedLemmas.{awaits, must_be_closed, owes_all, Shift, HaveNumbers, RowMoves}
+use Rattle.hcl_grammar.proofs.UnclosedLemmas.{awaits, unclosed_in, unclosed_in_all, Shift, HaveNumbers, RowMoves}
 
-pub owes_all-append : (xs ys : List Marked) → owes_all (xs ++ ys) ≡ owes_all xs ++ owes_all ys
-owes_all-append [] ys = refl
-owes_all-append (s at m ∷ xs) ys = ap (λ l. must_be_closed s ++ l) (owes_all-append xs ys) ∙ sym (append_assoc (must_be_closed s) (owes_all xs) (owes_all ys))
+pub unclosed_in_all-append : (xs ys : List Marked) → unclosed_in_all (xs ++ ys) ≡ unclosed_in_all xs ++ unclosed_in_all ys
+unclosed_in_all-append [] ys = refl
+unclosed_in_all-append (s at m ∷ xs) ys = ap (λ l. unclosed_in s ++ l) (unclosed_in_all-append xs ys) ∙ sym (append_assoc (unclosed_in s) (unclosed_in_all xs) (unclosed_in_all ys))
 
 pub numbers-append : (P : ℕ → Type 0) (xs ys : List Marked) → HaveNumbers P xs → HaveNumbers P ys → HaveNumbers P (xs ++ ys)
 numbers-append P [] ys h k = k
@@ -38,10 +38,10 @@ shift-above QuoteClose a b z h = ap (λ l. l ++ z) h
 shift-above HeredocClose a b z h = ap (λ l. l ++ z) h
 shift-above c a b z h = ap (λ l. l ++ z) h
 
-shift-all : (c : Class) (a : List Opener) (xs ys : List Marked) → Shift c a (owes_all xs) → Shift c (a ++ owes_all ys) (owes_all (xs ++ ys))
-shift-all c a xs ys h = subst (λ l. Shift c (a ++ owes_all ys) l) (sym (owes_all-append xs ys)) (shift-above c a (owes_all xs) (owes_all ys) h)
+shift-all : (c : Class) (a : List Opener) (xs ys : List Marked) → Shift c a (unclosed_in_all xs) → Shift c (a ++ unclosed_in_all ys) (unclosed_in_all (xs ++ ys))
+shift-all c a xs ys h = subst (λ l. Shift c (a ++ unclosed_in_all ys) l) (sym (unclosed_in_all-append xs ys)) (shift-above c a (unclosed_in_all xs) (unclosed_in_all ys) h)
 
-pub moves-then : (P : ℕ → Type 0) (r : Action) (a : List Opener) (c : Class) (ys : List Marked) → RowMoves P r a c → HaveNumbers P ys → RowMoves P (r then ys) (a ++ owes_all ys) c
+pub moves-then : (P : ℕ → Type 0) (r : Action) (a : List Opener) (c : Class) (ys : List Marked) → RowMoves P r a c → HaveNumbers P ys → RowMoves P (r then ys) (a ++ unclosed_in_all ys) c
 moves-then P none a c ys h k = tt
 moves-then P nothing a c ys h k = tt
 moves-then P (reads xs) a c ys h k = (shift-all c a xs ys h.0, numbers-append P xs ys h.1 k)
@@ -49,7 +49,7 @@ moves-then P (opens n xs) a c ys h k = (shift-all c a xs ys h.0, numbers-append 
 moves-then P (closes xs) a c ys h k = (shift-all c a xs ys h.0, numbers-append P xs ys h.1 k)
 
 -- the rows that others begin with
-moves-shared : (P : ℕ → Type 0) (s : Symbol) (m : Newlines) (n : ℕ) (c : Class) → HaveNumbers P (s at m ∷ []) → RowMoves P (shared_row s m n c) (must_be_closed s) c
+moves-shared : (P : ℕ → Type 0) (s : Symbol) (m : Newlines) (n : ℕ) (c : Class) → HaveNumbers P (s at m ∷ []) → RowMoves P (shared_row s m n c) (unclosed_in s) c
 moves-shared P labels m n (Ident w) h = (refl, tt)
 moves-shared P labels m n QuoteOpen h = (refl, tt)
 moves-shared P labels m n BraceOpen h = (refl, tt)
@@ -94,7 +94,7 @@ moves-terminal P m n Ellipses Ellipsis = (refl, tt)
 moves-terminal P m n Asterisk Star = (refl, tt)
 moves-terminal P m n _ _ = tt
 
-pub moves-row : (P : ℕ → Type 0) (s : Symbol) (m : Newlines) (n : ℕ) (c : Class) → P n → HaveNumbers P (s at m ∷ []) → RowMoves P (row_of s m n c) (must_be_closed s) c
+pub moves-row : (P : ℕ → Type 0) (s : Symbol) (m : Newlines) (n : ℕ) (c : Class) → P n → HaveNumbers P (s at m ∷ []) → RowMoves P (row_of s m n c) (unclosed_in s) c
 moves-row P (the e) m n c p h = moves-terminal P m n e c
 moves-row P file m n Newline p h = (refl, tt)
 moves-row P file m n (Ident w) p h = (refl, tt)

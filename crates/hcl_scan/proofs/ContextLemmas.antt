@@ -29,11 +29,11 @@ heredoc_on_top (Bracket ∷ os) e = absurd (not_both Expression false refl e)
 heredoc_on_top (Paren ∷ os) e = absurd (not_both Expression false refl e)
 
 -- a quote on top is the one that must be closed first
-pub quote_owed : (opens : List Opener) → context opens ≡ Template true → unclosed_opener opens ≡ Some Quote
-quote_owed (Quote ∷ os) e = refl
-quote_owed (Heredoc ∷ os) e = absurd (let k : false ≡ true = ap is_quoted e in cc)
-quote_owed [] e = absurd (not_both Expression true refl e)
-quote_owed (Sequence ∷ os) e = absurd (not_both Expression true refl e)
-quote_owed (Brace ∷ os) e = absurd (not_both Expression true refl e)
-quote_owed (Bracket ∷ os) e = absurd (not_both Expression true refl e)
-quote_owed (Paren ∷ os) e = absurd (not_both Expression true refl e)
+pub quote_unclosed : (opens : List Opener) → context opens ≡ Template true → unclosed_opener opens ≡ Some Quote
+quote_unclosed (Quote ∷ os) e = refl
+quote_unclosed (Heredoc ∷ os) e = absurd (let k : false ≡ true = ap is_quoted e in cc)
+quote_unclosed [] e = absurd (not_both Expression true refl e)
+quote_unclosed (Sequence ∷ os) e = absurd (not_both Expression true refl e)
+quote_unclosed (Brace ∷ os) e = absurd (not_both Expression true refl e)
+quote_unclosed (Bracket ∷ os) e = absurd (not_both Expression true refl e)
+quote_unclosed (Paren ∷ os) e = absurd (not_both Expression true refl e)

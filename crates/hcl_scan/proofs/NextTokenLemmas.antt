@@ -9,7 +9,7 @@ use Rattle.hcl_tokens.specs.Neighbours.{same_close, stays}
 use Rattle.hcl_tokens.specs.Regapped.{without_gaps, text_with_gaps, touches, gap_fits, AllFit}
 use Rattle.hcl_tokens.specs.declared.token.Kind.{Kind}
 use Rattle.hcl_tokens.specs.declared.token.Kind.TheVariants.{LineComment, Ident, Number, Dot, Colon, Not, Assign, Less, Greater, Slash, Lit, InterpOpen, ControlOpen}
-use Rattle.hcl_scan.proofs.ContextLemmas.{is_quoted, not_both, heredoc_on_top, quote_owed}
+use Rattle.hcl_scan.proofs.ContextLemmas.{is_quoted, not_both, heredoc_on_top, quote_unclosed}
 use Rattle.hcl_scan.proofs.KindPlaceLemmas.{Side, expression, template, side}
 use Rattle.hcl_scan.proofs.TemplateLemmas.{Way, lit, interp, control, quote, way_template}
 use Rattle.hcl_scan.proofs.ElementLemmas.{are_elements-append}
@@ -92,7 +92,7 @@ literal_on s t next end r plain k ps run done parts = by ps run parts
     here = ap context opens_same ∙ spelled.0
 
     by : (ps : List (ℕ × Lexeme)) → Run next (without_gaps ps) end → AllFit s.after_dot t.kind ps → same_close r.rest (text_with_gaps ps) ≡ true
-    by [] run parts = absurd (let o = sym (quote_owed next.opens here) ∙ ap (λ (z : State). unclosed_opener z.opens) run ∙ done.1 in cc)
+    by [] run parts = absurd (let o = sym (quote_unclosed next.opens here) ∙ ap (λ (z : State). unclosed_opener z.opens) run ∙ done.1 in cc)
     by (p ∷ ps) run parts = ⊎_elim reads closes run.1
       where
         closes : Closes next p.1 run.0 → same_close r.rest (text_with_gaps (p ∷ ps)) ≡ true

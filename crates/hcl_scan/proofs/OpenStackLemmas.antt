@@ -42,14 +42,14 @@ no_heredoc (Brace ∷ os) h = no_heredoc os h
 no_heredoc (Bracket ∷ os) h = no_heredoc os h
 no_heredoc (Paren ∷ os) h = no_heredoc os h
 
-pub owes_heredoc : (opens : List Opener) → unclosed_opener opens ≡ None → count opens ≡ 0
-owes_heredoc [] h = refl
-owes_heredoc (Heredoc ∷ os) h = absurd (cc)
-owes_heredoc (Quote ∷ os) h = absurd (cc)
-owes_heredoc (Sequence ∷ os) h = absurd (cc)
-owes_heredoc (Brace ∷ os) h = owes_heredoc os h
-owes_heredoc (Bracket ∷ os) h = owes_heredoc os h
-owes_heredoc (Paren ∷ os) h = owes_heredoc os h
+pub must_close_heredoc : (opens : List Opener) → unclosed_opener opens ≡ None → count opens ≡ 0
+must_close_heredoc [] h = refl
+must_close_heredoc (Heredoc ∷ os) h = absurd (cc)
+must_close_heredoc (Quote ∷ os) h = absurd (cc)
+must_close_heredoc (Sequence ∷ os) h = absurd (cc)
+must_close_heredoc (Brace ∷ os) h = must_close_heredoc os h
+must_close_heredoc (Bracket ∷ os) h = must_close_heredoc os h
+must_close_heredoc (Paren ∷ os) h = must_close_heredoc os h
 
 -- the effect of a token
 abbrev pub Moves : Kind → List Opener → Type 0

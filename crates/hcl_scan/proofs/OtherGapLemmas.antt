@@ -13,7 +13,7 @@ use Rattle.hcl_tokens.specs.declared.token.Kind.TheVariants.{Newline, Dot}
 use Rattle.hcl_tokens.proofs.BooleanLemmas.{and_true}
 use Rattle.hcl_scan.proofs.ContextLemmas.{expression_is}
 use Rattle.hcl_scan.proofs.ShownLemmas.{Shown, opening, plain, shown, plain_shows, open_shows}
-use Rattle.hcl_scan.proofs.OpenStackLemmas.{Sound, is_grounded, count, if_heredoc, no_heredoc, owes_heredoc, stacks}
+use Rattle.hcl_scan.proofs.OpenStackLemmas.{Sound, is_grounded, count, if_heredoc, no_heredoc, must_close_heredoc, stacks}
 use Rattle.hcl_scan.proofs.OtherStepLemmas.{Again, no_gap, gap_in_heredoc, gap_of_nothing, push_reads, push_closes}
 use Rattle.hcl_scan.proofs.HeredocMarkerLemmas.{marker_line_stays}
 use Rattle.hcl_scan.proofs.GapLemmas.{drop_blanks, gaps, lines}
@@ -76,7 +76,7 @@ outside_end s end dot before at offsets run done no_hidden sound dot_is parts = 
 
 inside_end : Inside []
 inside_end s end dot before at offsets hs last run done hidden sound ends dot_is parts =
-    let none : count s.opens ≡ 0 = owes_heredoc s.opens (ap (λ (z : State). unclosed_opener z.opens) run ∙ done.1) in
+    let none : count s.opens ≡ 0 = must_close_heredoc s.opens (ap (λ (z : State). unclosed_opener z.opens) run ∙ done.1) in
     let some = ap length hidden in
     absurd (omega (arith, none, some, sound.counted, length-append hs (last ∷ [])))
 

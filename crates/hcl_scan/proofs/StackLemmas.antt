@@ -6,8 +6,11 @@ use Rattle.hcl_tokens.specs.Lexemes.{Opener, Quote, Heredoc, Sequence, Brace, Br
 use Rattle.hcl_tokens.specs.Spelling.{Context, Template, Expression, context, context_in}
 use Rattle.hcl_tokens.specs.Kinds.{is}
 use Rattle.hcl_tokens.specs.Scans.{Hidden, offsets_of, unclosed_opener, must_be_closed}
-use Rattle.hcl_scan.specs.Inner.Openings.{opener_of, openers_of, offsets_in, hidden_of, hidden_under, popped_groups, popped_if, without_closed, closes_on, top_closes, opens_or_closes, opened_by}
+use Rattle.hcl_scan.specs.Inner.Openings.{opener_of, openers_of, offsets_in, hidden_of, hidden_under, popped_groups, popped_if, without_closed, top_closes, opens_or_closes, opened_by}
 use Rattle.hcl_scan.specs.Inner.Scanners.{fits_in, AreEndsBy, IsStack}
+use Rattle.hcl_scan.specs.Inner.Readings.{closes_in, group_reading, reading_on, top_reading}
+use Rattle.hcl_scan.specs.declared.stack.Reading.{Reading}
+use Rattle.hcl_scan.specs.declared.stack.Reading.TheVariants.{Code, SequenceCode, QuotedText, HeredocText}
 use Rattle.hcl_scan.specs.declared.stack.Opener as kept
 use Rattle.hcl_scan.specs.declared.stack.Opener.TheVariants as by
 use Rattle.hcl_scan.specs.declared.stack.Opened.{Opened}
@@ -44,16 +47,22 @@ pub top_is : (text : List ℕ) (stack : List Opened) (end : ℕ) → IsStack tex
 top_is text [] end h = refl
 top_is text (o ∷ stack) end h = h.0
 
-closes_by : (opener : kept.Opener) (opens : List Opener) (around : Bool) → around ≡ closes_sequence opens → closes_on opener around ≡ closes_sequence (opener_of opener ∷ opens)
-closes_by by.Quote opens around e = refl
-closes_by (by.Heredoc c o) opens around e = refl
-closes_by by.Sequence opens around e = refl
-closes_by by.Brace opens around e = refl
-closes_by by.Bracket opens around e = e
-closes_by by.Paren opens around e = e
+group_closes : (r : Reading) → closes_in (group_reading r) ≡ closes_in r
+group_closes Code = refl
+group_closes SequenceCode = refl
+group_closes QuotedText = refl
+group_closes HeredocText = refl
 
-pub closes_is : (text : List ℕ) (stack : List Opened) (end : ℕ) (opener : kept.Opener) → IsStack text stack end → closes_on opener (top_closes stack) ≡ closes_sequence (opener_of opener ∷ openers_of stack)
-closes_is text stack end opener h = closes_by opener (openers_of stack) (top_closes stack) (top_is text stack end h)
+closes_by : (opener : kept.Opener) (opens : List Opener) (r : Reading) → closes_in r ≡ closes_sequence opens → closes_in (reading_on opener r) ≡ closes_sequence (opener_of opener ∷ opens)
+closes_by by.Quote opens r e = refl
+closes_by (by.Heredoc c o) opens r e = refl
+closes_by by.Sequence opens r e = refl
+closes_by by.Brace opens r e = refl
+closes_by by.Bracket opens r e = group_closes r ∙ e
+closes_by by.Paren opens r e = group_closes r ∙ e
+
+pub closes_is : (text : List ℕ) (stack : List Opened) (end : ℕ) (opener : kept.Opener) → IsStack text stack end → closes_in (reading_on opener (top_reading stack)) ≡ closes_sequence (opener_of opener ∷ openers_of stack)
+closes_is text stack end opener h = closes_by opener (openers_of stack) (top_reading stack) (top_is text stack end h)
 
 -- ENTRIES OTHER THAN HEREDOCS ARE DROPPED
 pub record Drops (old new : List Opened) : Type 0 where
@@ -389,19 +398,19 @@ hidden_on text end (by.Heredoc c o) above h = absurd (cc)
 hidden_on text end _ above h = refl
 
 -- if a heredoc must be closed first, it is on top, since expressions are opened only in sequences
-owed_on : (opener : Opener) (opens : List Opener) (v : Bool) → must_be_closed opener ≡ v → IsTrue (fits_in opener (context opens)) → (unclosed_opener opens ≡ Some Heredoc → context opens ≡ Template false) → (if v then Some opener else unclosed_opener opens) ≡ Some Heredoc → context_in opener ≡ Template false
-owed_on Heredoc opens true e fits more h = refl
-owed_on Quote opens true e fits more h = absurd (cc)
-owed_on Sequence opens true e fits more h = absurd (cc)
-owed_on Brace opens false e fits more h = absurd (subst (λ c. IsTrue (fits_in Brace c) → ⊥) (sym (more h)) (λ f. cc) fits)
-owed_on Bracket opens false e fits more h = absurd (subst (λ c. IsTrue (fits_in Bracket c) → ⊥) (sym (more h)) (λ f. cc) fits)
-owed_on Paren opens false e fits more h = absurd (subst (λ c. IsTrue (fits_in Paren c) → ⊥) (sym (more h)) (λ f. cc) fits)
-owed_on Heredoc opens false e fits more h = absurd (cc)
-owed_on Quote opens false e fits more h = absurd (cc)
-owed_on Sequence opens false e fits more h = absurd (cc)
-owed_on Brace opens true e fits more h = absurd (cc)
-owed_on Bracket opens true e fits more h = absurd (cc)
-owed_on Paren opens true e fits more h = absurd (cc)
+unclosed_on : (opener : Opener) (opens : List Opener) (v : Bool) → must_be_closed opener ≡ v → IsTrue (fits_in opener (context opens)) → (unclosed_opener opens ≡ Some Heredoc → context opens ≡ Template false) → (if v then Some opener else unclosed_opener opens) ≡ Some Heredoc → context_in opener ≡ Template false
+unclosed_on Heredoc opens true e fits more h = refl
+unclosed_on Quote opens true e fits more h = absurd (cc)
+unclosed_on Sequence opens true e fits more h = absurd (cc)
+unclosed_on Brace opens false e fits more h = absurd (subst (λ c. IsTrue (fits_in Brace c) → ⊥) (sym (more h)) (λ f. cc) fits)
+unclosed_on Bracket opens false e fits more h = absurd (subst (λ c. IsTrue (fits_in Bracket c) → ⊥) (sym (more h)) (λ f. cc) fits)
+unclosed_on Paren opens false e fits more h = absurd (subst (λ c. IsTrue (fits_in Paren c) → ⊥) (sym (more h)) (λ f. cc) fits)
+unclosed_on Heredoc opens false e fits more h = absurd (cc)
+unclosed_on Quote opens false e fits more h = absurd (cc)
+unclosed_on Sequence opens false e fits more h = absurd (cc)
+unclosed_on Brace opens true e fits more h = absurd (cc)
+unclosed_on Bracket opens true e fits more h = absurd (cc)
+unclosed_on Paren opens true e fits more h = absurd (cc)
 
 pub some_around : (text : List ℕ) (end : ℕ) (opener : kept.Opener) (stack : List Opened) → AreEndsBy text end opener (IsStack text stack) → (e : ℕ) × IsStack text stack e
 some_around text end (by.Heredoc c o) stack h = (o, h.4)
@@ -411,8 +420,8 @@ some_around text end by.Brace stack h = (end, h)
 some_around text end by.Bracket stack h = (end, h)
 some_around text end by.Paren stack h = (end, h)
 
-pub owed_heredoc : (text : List ℕ) (stack : List Opened) (end : ℕ) → IsStack text stack end → unclosed_opener (openers_of stack) ≡ Some Heredoc → context (openers_of stack) ≡ Template false
-owed_heredoc text [] end h is = absurd (cc)
-owed_heredoc text (o ∷ stack) end h is =
+pub unclosed_heredoc : (text : List ℕ) (stack : List Opened) (end : ℕ) → IsStack text stack end → unclosed_opener (openers_of stack) ≡ Some Heredoc → context (openers_of stack) ≡ Template false
+unclosed_heredoc text [] end h is = absurd (cc)
+unclosed_heredoc text (o ∷ stack) end h is =
     let around = some_around text end o.by stack h.3 in
-    owed_on (opener_of o.by) (openers_of stack) (must_be_closed (opener_of o.by)) refl h.1 (owed_heredoc text stack around.0 around.1) is
+    unclosed_on (opener_of o.by) (openers_of stack) (must_be_closed (opener_of o.by)) refl h.1 (unclosed_heredoc text stack around.0 around.1) is

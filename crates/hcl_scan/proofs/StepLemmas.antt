@@ -29,7 +29,7 @@ use Rattle.hcl_tokens.specs.declared.token.Kind.{Kind}
 use Rattle.hcl_tokens.specs.declared.token.Kind.TheVariants.{HeredocOpen, Dot}
 use Rattle.hcl_scan.proofs.TextCutLemmas.{run_cut}
 use Rattle.hcl_scan.proofs.SliceLemmas.{front_of, back_of, slice_len, part_boundary}
-use Rattle.hcl_scan.proofs.StackLemmas.{closed_is, closed_drops, drops_offsets, push_offsets, opens_so, ends_of, hidden_on, closes_is, some_around, owed_heredoc}
+use Rattle.hcl_scan.proofs.StackLemmas.{closed_is, closed_drops, drops_offsets, push_offsets, opens_so, ends_of, hidden_on, closes_is, some_around, unclosed_heredoc}
 use Rattle.hcl_scan.proofs.KindPlaceLemmas.{no_close, closable, fits}
 
 -- the text ahead at the start of a token
@@ -177,13 +177,13 @@ expression_offset s true = refl
 expression_offset s false = refl
 
 -- if a template is on top, its opener is the one that must be closed
-owed_if : (opener : Opener) (at : ℕ) (opens : List Opener) (offsets : List ℕ) (quoted : Bool) → context_in opener ≡ Template quoted → at ≡ unclosed_offset (opener ∷ opens) (at ∷ offsets)
-owed_if Quote at opens offsets quoted h = refl
-owed_if Heredoc at opens offsets quoted h = refl
-owed_if Sequence at opens offsets quoted h = absurd (cc)
-owed_if Brace at opens offsets quoted h = absurd (cc)
-owed_if Bracket at opens offsets quoted h = absurd (cc)
-owed_if Paren at opens offsets quoted h = absurd (cc)
+unclosed_if : (opener : Opener) (at : ℕ) (opens : List Opener) (offsets : List ℕ) (quoted : Bool) → context_in opener ≡ Template quoted → at ≡ unclosed_offset (opener ∷ opens) (at ∷ offsets)
+unclosed_if Quote at opens offsets quoted h = refl
+unclosed_if Heredoc at opens offsets quoted h = refl
+unclosed_if Sequence at opens offsets quoted h = absurd (cc)
+unclosed_if Brace at opens offsets quoted h = absurd (cc)
+unclosed_if Bracket at opens offsets quoted h = absurd (cc)
+unclosed_if Paren at opens offsets quoted h = absurd (cc)
 
 option_some : (c : Context) (o top : Opened) → option_and (quoted_in c) o ≡ Some top → (o ≡ top) × ((quoted : Bool) × (c ≡ Template quoted))
 option_some Expression o top h = absurd (cc)
@@ -196,25 +196,25 @@ pub record TemplateTop (text : List ℕ) (stack : List Opened) (top : Opened) : 
   pub boundary : IsCharBoundary text top.at
 
 -- AFTER THE END
-owed_none_by : (o : Opened) (stack : List Opened) (v : Bool) → (innermost_unclosed stack ≡ None → unclosed_opener (openers_of stack) ≡ None) → (if v then Some o else innermost_unclosed stack) ≡ None → (if v then Some (opener_of o.by) else unclosed_opener (openers_of stack)) ≡ None
-owed_none_by o stack true more h = absurd (cc)
-owed_none_by o stack false more h = more h
+unclosed_none_by : (o : Opened) (stack : List Opened) (v : Bool) → (innermost_unclosed stack ≡ None → unclosed_opener (openers_of stack) ≡ None) → (if v then Some o else innermost_unclosed stack) ≡ None → (if v then Some (opener_of o.by) else unclosed_opener (openers_of stack)) ≡ None
+unclosed_none_by o stack true more h = absurd (cc)
+unclosed_none_by o stack false more h = more h
 
-pub owed_none : (stack : List Opened) → innermost_unclosed stack ≡ None → unclosed_opener (openers_of stack) ≡ None
-owed_none [] h = refl
-owed_none (o ∷ stack) h = owed_none_by o stack (must_be_closed (opener_of o.by)) (owed_none stack) h
+pub unclosed_none : (stack : List Opened) → innermost_unclosed stack ≡ None → unclosed_opener (openers_of stack) ≡ None
+unclosed_none [] h = refl
+unclosed_none (o ∷ stack) h = unclosed_none_by o stack (must_be_closed (opener_of o.by)) (unclosed_none stack) h
 
 pub record OwedTop (text : List ℕ) (stack : List Opened) (top : Opened) : Type 0 where
   pub opener : unclosed_opener (openers_of stack) ≡ Some (opener_of top.by)
   pub at : top.at ≡ unclosed_offset (openers_of stack) (offsets_in stack)
   pub boundary : IsCharBoundary text top.at
-  pub owes_so : must_be_closed (opener_of top.by) ≡ true
+  pub must_close_so : must_be_closed (opener_of top.by) ≡ true
 
-pub owed_some : (text : List ℕ) (stack : List Opened) (end : ℕ) (top : Opened) → IsStack text stack end → innermost_unclosed stack ≡ Some top → OwedTop text stack top
-owed_some text [] end top sound h = absurd (cc)
-owed_some text (o ∷ stack) end top sound h =
+pub unclosed_some : (text : List ℕ) (stack : List Opened) (end : ℕ) (top : Opened) → IsStack text stack end → innermost_unclosed stack ≡ Some top → OwedTop text stack top
+unclosed_some text [] end top sound h = absurd (cc)
+unclosed_some text (o ∷ stack) end top sound h =
     let around = some_around text end o.by stack sound.3 in
-    by (must_be_closed (opener_of o.by)) refl (λ more. owed_some text stack around.0 top around.1 more) h
+    by (must_be_closed (opener_of o.by)) refl (λ more. unclosed_some text stack around.0 top around.1 more) h
   where
     by : (v : Bool) → must_be_closed (opener_of o.by) ≡ v → (innermost_unclosed stack ≡ Some top → OwedTop text stack top) → (if v then Some o else innermost_unclosed stack) ≡ Some top → OwedTop text (o ∷ stack) top
     by true e more h =
@@ -224,7 +224,7 @@ owed_some text (o ∷ stack) end top sound h =
           opener = ap (λ v. if v then Some (opener_of o.by) else unclosed_opener (openers_of stack)) e ∙ ap (λ (z : Opened). Some (opener_of z.by)) same;
           at = at ∙ sym (ap (λ v. if v then o.at else unclosed_offset (openers_of stack) (offsets_in stack)) e);
           boundary = subst (IsCharBoundary text) (sym at) sound.2;
-          owes_so = ap (λ (z : Opened). must_be_closed (opener_of z.by)) (sym same) ∙ e;
+          must_close_so = ap (λ (z : Opened). must_be_closed (opener_of z.by)) (sym same) ∙ e;
         }
     by false e more h =
         let m = more h in
@@ -232,25 +232,25 @@ owed_some text (o ∷ stack) end top sound h =
           opener = ap (λ v. if v then Some (opener_of o.by) else unclosed_opener (openers_of stack)) e ∙ m.opener;
           at = m.at ∙ sym (ap (λ v. if v then o.at else unclosed_offset (openers_of stack) (offsets_in stack)) e);
           boundary = m.boundary;
-          owes_so = m.owes_so;
+          must_close_so = m.must_close_so;
         }
 
-pub owed_stops : (s : Scanner) (kind : FaultKind) (at : ℕ) → ahead (state_of s) ≡ [] → end_fault (unclosed_opener (openers_of s.stack)) ≡ Some kind → at ≡ fault_offset (state_of s) kind → IsCharBoundary s.text.now at → IsStopped s (record { kind = kind; at = at })
-owed_stops s kind at read kind_is at_is boundary = record { lacks = at_end read kind_is; at = at_is; boundary = boundary }
+pub unclosed_stops : (s : Scanner) (kind : FaultKind) (at : ℕ) → ahead (state_of s) ≡ [] → end_fault (unclosed_opener (openers_of s.stack)) ≡ Some kind → at ≡ fault_offset (state_of s) kind → IsCharBoundary s.text.now at → IsStopped s (record { kind = kind; at = at })
+unclosed_stops s kind at read kind_is at_is boundary = record { lacks = at_end read kind_is; at = at_is; boundary = boundary }
 
 pub template_found : (found : Option FoundToken) (opens : List Opener) (dot quoted : Bool) (seen part : List ℕ) → context opens ≡ Template quoted → seen ≡ part → IfSome found (λ f. (opens : List Opener) (dot : Bool) → context opens ≡ Template quoted → Finds opens dot seen f.kind f.len) → IfSome found (λ f. Finds opens dot part f.kind f.len)
 template_found None opens dot quoted seen part here same h = tt
 template_found (Some f) opens dot quoted seen part here same h = subst (λ l. Finds opens dot l f.kind f.len) same (h opens dot here)
 
 -- the construct that must be closed is a template's sequence, if it isn't a quote
-owed_template_by : (opener : kept.Opener) → must_be_closed (opener_of opener) ≡ true → (opener_of opener ≡ Heredoc → ⊥) → (opener ≡ by.Quote → ⊥) → end_fault (Some (opener_of opener)) ≡ Some UnterminatedTemplate
-owed_template_by by.Quote o no_heredoc no_quote = absurd (no_quote refl)
-owed_template_by (by.Heredoc c u) o no_heredoc no_quote = absurd (no_heredoc refl)
-owed_template_by by.Sequence o no_heredoc no_quote = refl
-owed_template_by by.Brace o no_heredoc no_quote = absurd (cc)
-owed_template_by by.Bracket o no_heredoc no_quote = absurd (cc)
-owed_template_by by.Paren o no_heredoc no_quote = absurd (cc)
+unclosed_template_by : (opener : kept.Opener) → must_be_closed (opener_of opener) ≡ true → (opener_of opener ≡ Heredoc → ⊥) → (opener ≡ by.Quote → ⊥) → end_fault (Some (opener_of opener)) ≡ Some UnterminatedTemplate
+unclosed_template_by by.Quote o no_heredoc no_quote = absurd (no_quote refl)
+unclosed_template_by (by.Heredoc c u) o no_heredoc no_quote = absurd (no_heredoc refl)
+unclosed_template_by by.Sequence o no_heredoc no_quote = refl
+unclosed_template_by by.Brace o no_heredoc no_quote = absurd (cc)
+unclosed_template_by by.Bracket o no_heredoc no_quote = absurd (cc)
+unclosed_template_by by.Paren o no_heredoc no_quote = absurd (cc)
 
-pub owed_template : (text : List ℕ) (stack : List Opened) (end : ℕ) (top : Opened) → IsStack text stack end → (context (openers_of stack) ≡ Template false → ⊥) → (top.by ≡ by.Quote → ⊥) → OwedTop text stack top → end_fault (unclosed_opener (openers_of stack)) ≡ Some UnterminatedTemplate
-owed_template text stack end top sound no_heredoc no_quote is =
-    ap end_fault is.opener ∙ owed_template_by top.by is.owes_so (λ e. no_heredoc (owed_heredoc text stack end sound (is.opener ∙ ap (λ o. Some o) e))) no_quote
+pub unclosed_template : (text : List ℕ) (stack : List Opened) (end : ℕ) (top : Opened) → IsStack text stack end → (context (openers_of stack) ≡ Template false → ⊥) → (top.by ≡ by.Quote → ⊥) → OwedTop text stack top → end_fault (unclosed_opener (openers_of stack)) ≡ Some UnterminatedTemplate
+unclosed_template text stack end top sound no_heredoc no_quote is =
+    ap end_fault is.opener ∙ unclosed_template_by top.by is.must_close_so (λ e. no_heredoc (unclosed_heredoc text stack end sound (is.opener ∙ ap (λ o. Some o) e))) no_quote

@@ -18,7 +18,7 @@ ghost use Rattle.hcl_tokens.specs.Scans.{skip_blanks, at_line_end, closer_len, I
 ghost use Rattle.hcl_scan.specs.Inner.Lanes.{MarksStanding, NoneStands, IsAfterOthers};
 ghost use Rattle.hcl_scan.specs.Inner.MarkerPlaces.{IsPlace, IsBlankFront, EndsLine, IsNextLine};
 
-use crate::lanes::{PLACES, likely_places, lowest_bit, clear_bit};
+use crate::lanes::{PLACES, clear_bit, likely_places, lowest_bit};
 use crate::text::{count_blanks, is_blank, skip_blanks};
 use memchr::memchr;
 

@@ -239,11 +239,11 @@ impl<'s, 'k> Scanner<'s, 'k> {
         ensures complete { IfNone result (IsComplete (state_of self.old)) }
         ensures stopped { IfSome result (IsStopped self.old) }
     {
-        let Some(stop_if_unclosed) = self.stack.pop_unclosed() else {
+        let Some(unclosed) = self.stack.pop_unclosed() else {
             return None;
         };
-        let at = stop_if_unclosed.at;
-        match stop_if_unclosed.by {
+        let at = unclosed.at;
+        match unclosed.by {
             Opener::Quote => Some(FaultAt {
                 kind: FaultKind::UnterminatedQuote,
                 at,

@@ -5,8 +5,8 @@ ghost use Rattle.hcl_tokens.specs.Lexemes.{max_open, same_opener};
 ghost use Rattle.hcl_tokens.specs.Spelling.{context, context_in};
 ghost use Rattle.hcl_tokens.specs.Scans.{must_be_closed};
 ghost use Rattle.hcl_scan.specs.Inner.Openings.{opener_of, openers_of, is_group_by, popped_groups, popped_if, top_closes, opened_on, without_closed, quoted_in, template_top, innermost_unclosed};
-ghost use Rattle.hcl_scan.specs.Inner.Readings.{closes_in, is_text, template_in, group_reading, reading_on, opener_in, opened_of};
-ghost use Rattle.hcl_scan.specs.declared.stack.Frame.{Frame};
+ghost use Rattle.hcl_scan.specs.Inner.Readings.{closes_in, is_text, template_in, group_reading, reading_on};
+ghost use Rattle.hcl_scan.specs.declared.stack.Opened.{Opened};
 
 use hcl_tokens::{Kind, MAX_OPEN};
 use std::marker::Model;
@@ -20,15 +20,6 @@ pub enum Opener {
     Brace,
     Bracket,
     Paren,
-}
-
-/// An opener and its offset.
-#[derive(Clone, Copy)]
-pub struct Opened {
-    pub by: Opener,
-    pub at: u32,
-    /// Whether a `}` closes a sequence while this is the innermost.
-    pub closes_sequence: bool,
 }
 
 /// The scanner's mode: literal text, or code, and then what a `}` closes. It is one byte, kept in a register, since
@@ -50,56 +41,40 @@ pub enum Reading {
     HeredocText,
 }
 
-/// An opener, without its offset.
+/// An opener, its offset, and the mode around it.
 #[derive(Clone, Copy)]
-enum Form {
-    Quote,
-    Heredoc,
-    Sequence,
-    Brace,
-    Bracket,
-    Paren,
-}
-
-/// The stored form of an opener. For openers other than heredocs the two ends are unset and mean nothing.
-#[derive(Clone, Copy)]
-struct Frame {
-    at: u32,
-    form: Form,
-    /// The mode around it.
+pub struct Opened {
+    pub by: Opener,
+    pub at: u32,
     around: Reading,
-    closer_end: u32,
-    outer_end: u32,
 }
 
 /// Storage for the open constructs, and their number. A [`Stack`] borrows it, so that the mode is separate and can be
 /// kept in a register.
 #[derive(Drop)]
 pub struct StackStorage {
-    frames: [Frame; MAX_OPEN],
+    opened: [Opened; MAX_OPEN],
     depth: usize,
 }
 
 impl StackStorage {
     pub fn new() -> StackStorage {
         StackStorage {
-            frames: [Frame {
+            opened: [Opened {
+                by: Opener::Quote,
                 at: 0,
-                form: Form::Quote,
                 around: Reading::Code,
-                closer_end: 0,
-                outer_end: 0,
             }; MAX_OPEN],
             depth: 0,
         }
     }
 
-    /// The entry at this place.
-    fn frame(&self, place: usize) -> Frame
+    /// The opener at this place.
+    fn get(&self, place: usize) -> Opened
         requires { place < max_open }
-        ensures { (d : Frame) → result ≡ slice_index_or self.now.frames place d }
+        ensures { (d : Opened) → result ≡ slice_index_or self.now.opened place d }
     {
-        self.frames[place]
+        self.opened[place]
     }
 }
 
@@ -112,16 +87,16 @@ pub struct Stack<'k> {
 }
 
 impl<'k> Model for Stack<'k> {
-    ghost use Rattle.std.specs.Prelude.{List, map};
+    ghost use Rattle.std.specs.Prelude.{List};
     ghost use Rattle.hcl_scan.specs.declared.stack.Opened.{Opened};
 
     ghost Value = { List Opened };
 
-    ghost use Rattle.hcl_scan.specs.Inner.Readings.{IsStackStorage, frames_of, opened_of};
+    ghost use Rattle.hcl_scan.specs.Inner.Readings.{IsStackStorage, stack_of};
 
-    ghost view = { λ s. map opened_of (frames_of s.room.now.depth s.room.now.frames) };
+    ghost view = { λ s. stack_of s.room.now.depth s.room.now.opened };
 
-    ghost invariant = { λ s. IsStackStorage s.room.now.depth s.room.now.frames s.reading };
+    ghost invariant = { λ s. IsStackStorage s.room.now.depth s.room.now.opened s.reading };
 }
 
 /// Whether a `}` closes a sequence.
@@ -170,63 +145,6 @@ fn reading_on(by: Opener, around: Reading) -> Reading
         Opener::Sequence => Reading::SequenceCode,
         Opener::Brace => Reading::Code,
         Opener::Bracket | Opener::Paren => reading_in_group(around),
-    }
-}
-
-/// The opener of this entry.
-fn opener_in(frame: Frame) -> Opener
-    ensures { result ≡ opener_in frame }
-{
-    match frame.form {
-        Form::Quote => Opener::Quote,
-        Form::Heredoc => Opener::Heredoc {
-            closer_end: frame.closer_end,
-            outer_end: frame.outer_end,
-        },
-        Form::Sequence => Opener::Sequence,
-        Form::Brace => Opener::Brace,
-        Form::Bracket => Opener::Bracket,
-        Form::Paren => Opener::Paren,
-    }
-}
-
-/// The opener that is stored so.
-fn opened_of(frame: Frame) -> Opened
-    ensures { result ≡ opened_of frame }
-{
-    let by = opener_in(frame);
-    Opened {
-        by,
-        at: frame.at,
-        closes_sequence: closes_in(reading_on(by, frame.around)),
-    }
-}
-
-impl Frame {
-    /// Stores an opener, field by field in place: a whole entry would be assembled first.
-    #[inline(always)]
-    fn keep(&mut self, by: Opener, at: u32, around: Reading)
-        ensures by { opener_in self.new ≡ by }
-        ensures at { self.new.at ≡ at }
-        ensures around { self.new.around ≡ around }
-    {
-        self.at = at;
-        self.around = around;
-        match by {
-            Opener::Quote => self.form = Form::Quote,
-            Opener::Heredoc {
-                closer_end,
-                outer_end,
-            } => {
-                self.form = Form::Heredoc;
-                self.closer_end = closer_end;
-                self.outer_end = outer_end;
-            }
-            Opener::Sequence => self.form = Form::Sequence,
-            Opener::Brace => self.form = Form::Brace,
-            Opener::Bracket => self.form = Form::Bracket,
-            Opener::Paren => self.form = Form::Paren,
-        }
     }
 }
 
@@ -293,7 +211,7 @@ impl<'k> Stack<'k> {
         ensures { self.new ≡ opened_on by at self.old }
     {
         let around = self.reading;
-        self.room.frames[self.room.depth].keep(by, at, around);
+        self.room.opened[self.room.depth] = Opened { by, at, around };
         self.room.depth += 1;
         self.reading = reading_on(by, around);
     }
@@ -305,7 +223,7 @@ impl<'k> Stack<'k> {
         if self.room.depth == 0 {
             return None;
         }
-        Some(opened_of(self.room.frame(self.room.depth - 1)))
+        Some(self.room.get(self.room.depth - 1))
     }
 
     pub fn pop(&mut self) -> Option<Opened>
@@ -317,9 +235,9 @@ impl<'k> Stack<'k> {
             return None;
         }
         self.room.depth -= 1;
-        let frame = self.room.frame(self.room.depth);
-        self.reading = frame.around;
-        Some(opened_of(frame))
+        let top = self.room.get(self.room.depth);
+        self.reading = top.around;
+        Some(top)
     }
 }
 

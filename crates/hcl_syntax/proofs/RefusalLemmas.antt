@@ -7,7 +7,7 @@ use Rattle.hcl_grammar.specs.declared.refusal.Refusal.TheVariants.{UnexpectedTok
 use Rattle.hcl_grammar.specs.Classes.{class_of, is_trivia, lookaheads, lookaheads_from}
 use Rattle.hcl_grammar.specs.Grammar.{Symbol, Marked, ◌at◌, ends}
 use Rattle.hcl_grammar.specs.Predictor.{Effect, on, stop, effect, next, run, ending, refusal_of}
-use Rattle.hcl_grammar.proofs.OwedLemmas.{owes_all, HaveNumbers}
+use Rattle.hcl_grammar.proofs.UnclosedLemmas.{unclosed_in_all, HaveNumbers}
 use Rattle.hcl_grammar.proofs.MoveLemmas.{Named, EffectMoves, effect-moves}
 use Rattle.hcl_syntax.specs.Inner.Parsing.{Names}
 
@@ -31,7 +31,7 @@ next-named P (stop f) a t ts r q h k = let e : f ≡ r = cc in subst (λ x. Name
 run-named : (P : ℕ → Type 0) (count : ℕ) (ss : List Marked) (ts : List Lookahead) (r : Refusal) → HaveNumbers P ss → AllNumbered P ts → run count ss ts ≡ Some r → Named P r
 unfolding run
 run-named P count ss [] r h k e = ending-named P ss r e
-run-named P count ss (t ∷ ts) r h k e = next-named P (effect count ss t) (owes_all ss) t ts r (effect-moves P count ss t k.0 h) e (λ o us q f. run-named P o us ts r q k.1 f)
+run-named P count ss (t ∷ ts) r h k e = next-named P (effect count ss t) (unclosed_in_all ss) t ts r (effect-moves P count ss t k.0 h) e (λ o us q f. run-named P o us ts r q k.1 f)
 
 all-numbered : (total n : ℕ) (ts : List Lexeme) → n + length ts ≤ total → AllNumbered (λ i. i < total) (lookaheads_from n ts)
 all-numbered total n [] h = tt

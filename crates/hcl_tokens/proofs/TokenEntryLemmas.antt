@@ -1,10 +1,14 @@
 -- Stored entries stand for the same entries after one more long token is added.
-use Rattle.std.proofs.Common.{◌≡◌, ℕ, ◌+◌, ◌==◌, Bool, true, false, List, [], ◌∷◌, ◌++◌, length, get_or, if◌then◌else◌, rules, refl, sym, ap, ◌∙◌, slice_set}
-use Rattle.std.specs.Prelude.{All}
-use Rattle.std.proofs.lemmas.List.{get_or_append_left, get_or_push, map_push}
-use Rattle.std.proofs.lemmas.List.Elements.{All-head, All-tail}
+use Rattle.std.proofs.Common.{◌≡◌, ℕ, ◌+◌, ◌<◌, ◌==◌, Bool, true, false, List, [], ◌∷◌, ◌++◌, length, get_or, slice_get, if◌then◌else◌, Some, rules, arith, refl, sym, ap, ◌∙◌, slice_set}
+use Rattle.std.specs.Prelude.{All, slice_range}
+use Rattle.std.proofs.lemmas.Option.{slice_get-get_or}
+use Rattle.std.proofs.lemmas.List.{length-map, get_or_append_left, get_or_push, map_push}
+use Rattle.std.proofs.lemmas.List.Elements.{All-get_or, All-head, All-tail}
 use Rattle.std.proofs.Math.Seq.{set-append_seam}
-use Rattle.hcl_tokens.specs.Inner.StoredEntries.{span_of, entry_of, entries_of, short_span, long_mark, IsStored}
+use Rattle.hcl_tokens.specs.Inner.StoredEntries.{span_of, entry_of, entries_of, short_span, long_mark, HasSpan, IsStored}
+use Rattle.hcl_tokens.specs.Entries.{IsEntry, lexeme_of, lexemes_of}
+use Rattle.hcl_tokens.specs.declared.token.Kind.{Kind}
+use Rattle.hcl_tokens.specs.declared.token.Kind.TheVariants.{Newline}
 use Rattle.hcl_tokens.specs.declared.token.TokenEntry.{TokenEntry}
 use Rattle.hcl_tokens.specs.declared.entries.StoredEntry.{StoredEntry}
 use Rattle.hcl_tokens.specs.declared.entries.Span.{Span}
@@ -41,3 +45,26 @@ pub short_pushed : (long : List Span) (ks : List StoredEntry) (put k : StoredEnt
 short_pushed long ks put k short =
     let itself : entry_of long k ≡ entry_at k (short_span k) = ap (λ v. entry_at k (if v then get_or long k.place (short_span k) else short_span k)) short in
     ap (entries_of long) (set-append_seam ks put [] k) ∙ map_push (entry_of long) ks k ∙ ap (λ x. entries_of long ks ++ x ∷ []) itself
+
+-- the entry of this number, and that a span is its own
+pub record HasEntry (text : List ℕ) (es : List TokenEntry) (i : ℕ) (s : Span) : Type 0 where
+  pub entry : TokenEntry
+  pub at : slice_get es i ≡ Some entry
+  pub has : HasSpan entry s
+  pub is : IsEntry text entry
+
+pub entry_in : (text : List ℕ) (es : List TokenEntry) (i : ℕ) (s : Span) → i < length (lexemes_of text es) → All (IsEntry text) es
+    → ((e : TokenEntry) → slice_get es i ≡ Some e → HasSpan e s) → HasEntry text es i s
+entry_in text es i s within are has =
+    let none : TokenEntry = record { kind = Newline; inside_heredoc = false; start = 0; end = 0 } in
+    let inside : i < length es = omega (arith, within, length-map es (lexeme_of text)) in
+    let at = slice_get-get_or es i none inside in
+    record { entry = get_or es i none; at = at; has = has (get_or es i none) at; is = All-get_or (IsEntry text) es i none inside are }
+
+-- a token read from the span, the kind and the place of an entry is the entry's
+pub token_is : (text : List ℕ) (e : TokenEntry) (s : Span) (kind : Kind) (inside : Bool) (read : List ℕ) → HasSpan e s → kind ≡ e.kind → inside ≡ e.inside_heredoc
+    → read ≡ slice_range text s.start (s.start + s.length) → lexeme_of text e ≡ record { kind = kind; text = read; start = s.start; inside_heredoc = inside }
+token_is text e s kind inside read has k h is =
+    let start = has.start in
+    let cut = is ∙ ap (λ n. slice_range text s.start n) has.end ∙ ap (λ n. slice_range text n e.end) start in
+    cc

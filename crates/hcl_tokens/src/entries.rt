@@ -3,7 +3,7 @@
 ghost use Rattle.std.specs.Prelude.{◌≡◌, ◌≤◌, ◌<◌, ◌==◌, ◌++◌, ◌∷◌, [], length, slice_get, Some, IfOk, OnErr, OnOk};
 ghost use Rattle.hcl_source.specs.Load.{max_source};
 ghost use Rattle.hcl_tokens.specs.declared.token.TokenEntry.{TokenEntry};
-ghost use Rattle.hcl_tokens.specs.Inner.StoredEntries.{entry_given};
+ghost use Rattle.hcl_tokens.specs.Inner.StoredEntries.{HasSpan};
 
 use crate::token::{Kind, TokenEntry};
 use std::alloc::{AllocError, Global};
@@ -25,20 +25,11 @@ struct StoredEntry {
 
 const _: () = prove!(size_of::<StoredEntry>() == 8);
 
-/// Where a token begins, and how many bytes it has.
+/// Where a token begins, and how many bytes it has: with its end in their place, each length would be a subtraction.
 #[derive(Clone, Copy, Debug)]
-struct Span {
-    start: u32,
-    length: u32,
-}
-
-/// An entry by start and length, so that no end is computed from which the start would be subtracted again.
-#[derive(Clone, Copy)]
-pub struct Given {
-    pub start: usize,
-    pub length: usize,
-    pub kind: Kind,
-    pub inside_heredoc: bool,
+pub struct Span {
+    pub start: u32,
+    pub length: u32,
 }
 
 /// A list of entries, as a scan fills it.
@@ -96,26 +87,19 @@ impl Entries {
         self.kept.is_empty()
     }
 
-    /// The entry of this number.
+    /// The span of the entry of this number.
     #[inline(always)]
-    pub(crate) fn get(&self, i: usize) -> Given
+    pub(crate) fn span(&self, i: usize) -> Span
         requires { i < length self.now }
-        ensures { slice_get self.now i ≡ Some (entry_given result) }
+        ensures { (e : TokenEntry) → slice_get self.now i ≡ Some e → HasSpan e result }
     {
         let kept = self.kept[i];
-        let span = if kept.length == LONG {
-            self.long[kept.place as usize]
-        } else {
-            Span {
-                start: kept.place,
-                length: kept.length as u32,
-            }
-        };
-        Given {
-            start: span.start as usize,
-            length: span.length as usize,
-            kind: kept.kind,
-            inside_heredoc: kept.inside_heredoc,
+        if kept.length == LONG {
+            return self.long[kept.place as usize];
+        }
+        Span {
+            start: kept.place,
+            length: kept.length as u32,
         }
     }
 

@@ -80,13 +80,13 @@ impl<'s> Tokens<'s> {
         ensures text { result.text.now ≡ take (length result.text.now)
             (drop result.start self.now.text) }
     {
-        let given = self.entries.get(i);
-        let start = given.start;
+        let span = self.entries.span(i);
+        let start = span.start as usize;
         Token {
-            kind: given.kind,
-            text: &self.origin.text()[start..start + given.length],
+            kind: self.entries.kind(i),
+            text: &self.origin.text()[start..start + span.length as usize],
             start,
-            inside_heredoc: given.inside_heredoc,
+            inside_heredoc: self.entries.is_inside_heredoc(i),
         }
     }
 

@@ -17,17 +17,17 @@ use Rattle.hcl_grammar.specs.declared.refusal.Refusal.TheVariants.{UnexpectedTok
 use Rattle.hcl_grammar.specs.Classes.{drops}
 use Rattle.hcl_grammar.specs.Grammar.{Symbol, ends, the, file, rest, labels, label_literal, start, body, eol, expr, after_ident, path, after, step, index, tuple, tuple_next, tuple_item, tuple_if, names, object, separator, object_next, object_item, group, object_if, args, arg_next, parts, directive, inside, section_directive, Marked, ◌at◌, Action, none, nothing, reads, opens, closes, ◌then◌, row, shared_row, row_of, fits}
 use Rattle.hcl_grammar.specs.Predictor.{max_directives, on, stop, effect, row_effect, ending}
-use Rattle.hcl_grammar.proofs.OwedLemmas.{must_be_closed, owes_all, HaveNumbers, RowMoves}
+use Rattle.hcl_grammar.proofs.UnclosedLemmas.{unclosed_in, unclosed_in_all, HaveNumbers, RowMoves}
 use Rattle.hcl_grammar.proofs.RowLemmas.{moves-row}
 
-abbrev pub owing : List Opener → Bool
-owing [] = false
-owing (o ∷ os) = true
+abbrev pub is_nonempty : List Opener → Bool
+is_nonempty [] = false
+is_nonempty (o ∷ os) = true
 
 -- a closer is still to come from these, or from those below them
-abbrev pub owed : Bool → List Marked → Bool
-owed e [] = e
-owed e (s at m ∷ ss) = owing (must_be_closed s) || owed e ss
+abbrev pub has_unclosed : Bool → List Marked → Bool
+has_unclosed e [] = e
+has_unclosed e (s at m ∷ ss) = is_nonempty (unclosed_in s) || has_unclosed e ss
 
 abbrev pub Gate : Newlines → Bool → Type 0
 Gate Seen e = Unit {0}
@@ -46,11 +46,11 @@ IsInner parts m e = e ≡ true
 IsInner (directive n) m e = e ≡ true
 IsInner (inside s) m e = e ≡ true
 IsInner (section_directive s n) m e = e ≡ true
-IsInner s m e = Gate m (owing (must_be_closed s) || e)
+IsInner s m e = Gate m (is_nonempty (unclosed_in s) || e)
 
 abbrev pub AreInner : Bool → List Marked → Type 0
 AreInner e [] = Unit {0}
-AreInner e (s at m ∷ ss) = IsInner s m (owed e ss) × AreInner e ss
+AreInner e (s at m ∷ ss) = IsInner s m (has_unclosed e ss) × AreInner e ss
 
 abbrev pub RowInner : Bool → Action → Type 0
 RowInner e none = Unit {0}
@@ -63,15 +63,15 @@ open_gate : (m : Newlines) → Gate m true
 open_gate Seen = tt
 open_gate Dropped = refl
 
-owed_both : (e : Bool) (xs ys : List Marked) → owed e (xs ++ ys) ≡ owed (owed e ys) xs
-owed_both e [] ys = refl
-owed_both e (s at m ∷ xs) ys = ap (λ b. owing (must_be_closed s) || b) (owed_both e xs ys)
+has_unclosed_both : (e : Bool) (xs ys : List Marked) → has_unclosed e (xs ++ ys) ≡ has_unclosed (has_unclosed e ys) xs
+has_unclosed_both e [] ys = refl
+has_unclosed_both e (s at m ∷ xs) ys = ap (λ b. is_nonempty (unclosed_in s) || b) (has_unclosed_both e xs ys)
 
-pub inner_both : (e : Bool) (xs ys : List Marked) → AreInner (owed e ys) xs → AreInner e ys → AreInner e (xs ++ ys)
+pub inner_both : (e : Bool) (xs ys : List Marked) → AreInner (has_unclosed e ys) xs → AreInner e ys → AreInner e (xs ++ ys)
 inner_both e [] ys h k = k
-inner_both e (s at m ∷ xs) ys h k = (subst (λ b. IsInner s m b) (sym (owed_both e xs ys)) h.0, inner_both e xs ys h.1 k)
+inner_both e (s at m ∷ xs) ys h k = (subst (λ b. IsInner s m b) (sym (has_unclosed_both e xs ys)) h.0, inner_both e xs ys h.1 k)
 
-inner_then : (e : Bool) (r : Action) (ys : List Marked) → RowInner (owed e ys) r → AreInner e ys → RowInner e (r then ys)
+inner_then : (e : Bool) (r : Action) (ys : List Marked) → RowInner (has_unclosed e ys) r → AreInner e ys → RowInner e (r then ys)
 inner_then e none ys h k = tt
 inner_then e nothing ys h k = tt
 inner_then e (reads xs) ys h k = inner_both e xs ys h k
@@ -175,7 +175,7 @@ inner_row s m n e c h = inner_shared s m n e c h
 
 abbrev pub Passes : ℕ → List Marked → List Marked → Lookahead → ℕ → List Marked → Type 0
 Passes count xs ds t later us =
-    ((more : List Marked) × (us ≡ more ++ ds) × AreInner false more) ⊎ ((effect count ds t ≡ on later us) × (owes_all xs ≡ []))
+    ((more : List Marked) × (us ≡ more ++ ds) × AreInner false more) ⊎ ((effect count ds t ≡ on later us) × (unclosed_in_all xs ≡ []))
 
 pub landed : (count later : ℕ) (ss us : List Marked) → on count ss ≡ on later us → us ≡ ss
 landed count later ss us e = cc
@@ -183,11 +183,11 @@ landed count later ss us e = cc
 pub stopped : (r : Refusal) (later : ℕ) (us : List Marked) → stop r ≡ on later us → ⊥
 stopped r later us e = cc
 
-put : (count : ℕ) (ys xs ds : List Marked) (t : Lookahead) (later : ℕ) (us : List Marked) (now : ℕ) → AreInner (owed false xs) ys → AreInner false xs → on now (ys ++ (xs ++ ds)) ≡ on later us
+put : (count : ℕ) (ys xs ds : List Marked) (t : Lookahead) (later : ℕ) (us : List Marked) (now : ℕ) → AreInner (has_unclosed false xs) ys → AreInner false xs → on now (ys ++ (xs ++ ds)) ≡ on later us
     → (more : List Marked) × (us ≡ more ++ ds) × AreInner false more
 put count ys xs ds t later us now h k e = (ys ++ xs, landed now later (ys ++ (xs ++ ds)) us e ∙ sym (append_assoc ys xs ds), inner_both false ys xs h k)
 
-pass_row : (count : ℕ) (s : Symbol) (m : Newlines) (xs ds : List Marked) (t : Lookahead) (later : ℕ) (us : List Marked) (r : Action) → r ≡ row s m t → ([] ≡ must_be_closed s ⊎ (r ≡ nothing → ⊥)) → RowInner (owed false xs) r → AreInner false xs
+pass_row : (count : ℕ) (s : Symbol) (m : Newlines) (xs ds : List Marked) (t : Lookahead) (later : ℕ) (us : List Marked) (r : Action) → r ≡ row s m t → ([] ≡ unclosed_in s ⊎ (r ≡ nothing → ⊥)) → RowInner (has_unclosed false xs) r → AreInner false xs
     → (effect count (xs ++ ds) t ≡ on later us → Passes count xs ds t later us) → row_effect count r (xs ++ ds) (effect count (xs ++ ds) t) t ≡ on later us → Passes count (s at m ∷ xs) ds t later us
 pass_row count s m xs ds t later us none is flat h k more e = absurd (stopped (UnexpectedToken t.number) later us e)
 pass_row count s m xs ds t later us nothing is (inr goes) h k more e = absurd (goes refl)
@@ -195,7 +195,7 @@ pass_row count s m xs ds t later us nothing is (inl flat) h k more e = by (more 
   where
     by : Passes count xs ds t later us → Passes count (s at m ∷ xs) ds t later us
     by (inl p) = inl p
-    by (inr p) = inr (p.0, ap (λ os. os ++ owes_all xs) (sym flat) ∙ p.1)
+    by (inr p) = inr (p.0, ap (λ os. os ++ unclosed_in_all xs) (sym flat) ∙ p.1)
 pass_row count s m xs ds t later us (reads ys) is flat h k more e = inl (put count ys xs ds t later us count h k e)
 pass_row count s m xs ds t later us (opens n ys) is flat h k more e = by (nat_lt count max_directives) e
   where
@@ -204,10 +204,10 @@ pass_row count s m xs ds t later us (opens n ys) is flat h k more e = by (nat_lt
     by false e = absurd (stopped (TooDeep n) later us e)
 pass_row count s m xs ds t later us (closes ys) is flat h k more e = inl (put count ys xs ds t later us (count - 1) h k e)
 
-flat_row : (s : Symbol) (m : Newlines) (n : ℕ) (c : Class) → RowMoves (λ i. Unit {0}) (row_of s m n c) (must_be_closed s) c → ([] ≡ must_be_closed s ⊎ (row_of s m n c ≡ nothing → ⊥))
+flat_row : (s : Symbol) (m : Newlines) (n : ℕ) (c : Class) → RowMoves (λ i. Unit {0}) (row_of s m n c) (unclosed_in s) c → ([] ≡ unclosed_in s ⊎ (row_of s m n c ≡ nothing → ⊥))
 flat_row s m n c h = by (row_of s m n c) h
   where
-    by : (r : Action) → RowMoves (λ i. Unit {0}) r (must_be_closed s) c → ([] ≡ must_be_closed s ⊎ (r ≡ nothing → ⊥))
+    by : (r : Action) → RowMoves (λ i. Unit {0}) r (unclosed_in s) c → ([] ≡ unclosed_in s ⊎ (r ≡ nothing → ⊥))
     by none h = inr (λ e. cc)
     by nothing h = inl h
     by (reads xs) h = inr (λ e. cc)
@@ -228,12 +228,12 @@ inner_passes count (s at m ∷ xs) ds t later us h e = by (drops m t.class) e (�
         → (effect count (xs ++ ds) t ≡ on later us → Passes count xs ds t later us) → Passes count (s at m ∷ xs) ds t later us
     by true e more = inl (s at m ∷ xs, landed count later (s at m ∷ (xs ++ ds)) us e, h)
     by false e more =
-        pass_row count s m xs ds t later us (row s m t) refl (flat_row s m t.number t.class (moves-row (λ i. Unit {0}) s m t.number t.class tt (have_numbers s m))) (inner_row s m t.number (owed false xs) t.class h.0) h.1 more e
+        pass_row count s m xs ds t later us (row s m t) refl (flat_row s m t.number t.class (moves-row (λ i. Unit {0}) s m t.number t.class tt (have_numbers s m))) (inner_row s m t.number (has_unclosed false xs) t.class h.0) h.1 more e
 
 -- ---- a newline with no closer to come
 
 -- then such a symbol has no row, or goes away
-newline_row : (s : Symbol) (n : ℕ) → must_be_closed s ≡ [] → IsInner s Seen false → (row_of s Seen n Newline ≡ nothing) ⊎ (row_of s Seen n Newline ≡ none)
+newline_row : (s : Symbol) (n : ℕ) → unclosed_in s ≡ [] → IsInner s Seen false → (row_of s Seen n Newline ≡ nothing) ⊎ (row_of s Seen n Newline ≡ none)
 newline_row (the t) n e h = inr (by t)
   where
     by : (t : Terminal) → cond (fits t Newline) (reads []) none ≡ none
@@ -259,22 +259,22 @@ newline_row names n e h = inr refl
 newline_row separator n e h = inr refl
 newline_row s n e h = absurd (omega (arith, ap length e))
 
-nothing_owed : (s : Symbol) (m : Newlines) (xs : List Marked) → owes_all (s at m ∷ xs) ≡ [] → (must_be_closed s ≡ []) × (owes_all xs ≡ [])
-nothing_owed s m xs e = by (must_be_closed s) e
+nothing_unclosed : (s : Symbol) (m : Newlines) (xs : List Marked) → unclosed_in_all (s at m ∷ xs) ≡ [] → (unclosed_in s ≡ []) × (unclosed_in_all xs ≡ [])
+nothing_unclosed s m xs e = by (unclosed_in s) e
   where
-    by : (os : List Opener) → os ++ owes_all xs ≡ [] → (os ≡ []) × (owes_all xs ≡ [])
+    by : (os : List Opener) → os ++ unclosed_in_all xs ≡ [] → (os ≡ []) × (unclosed_in_all xs ≡ [])
     by [] h = (refl, h)
     by (o ∷ os) h = absurd (omega (arith, ap length h))
 
-none_owed : (xs : List Marked) → owes_all xs ≡ [] → owed false xs ≡ false
-none_owed [] e = refl
-none_owed (s at m ∷ xs) e = let h = nothing_owed s m xs e in ap (λ os. owing os || owed false xs) h.0 ∙ none_owed xs h.1
+none_unclosed : (xs : List Marked) → unclosed_in_all xs ≡ [] → has_unclosed false xs ≡ false
+none_unclosed [] e = refl
+none_unclosed (s at m ∷ xs) e = let h = nothing_unclosed s m xs e in ap (λ os. is_nonempty os || has_unclosed false xs) h.0 ∙ none_unclosed xs h.1
 
-seen_there : (s : Symbol) (m : Newlines) → must_be_closed s ≡ [] → IsInner s m false → m ≡ Seen
+seen_there : (s : Symbol) (m : Newlines) → unclosed_in s ≡ [] → IsInner s m false → m ≡ Seen
 seen_there s Seen e h = refl
 seen_there s Dropped e h = absurd (by s e h)
   where
-    by : (s : Symbol) → must_be_closed s ≡ [] → IsInner s Dropped false → ⊥
+    by : (s : Symbol) → unclosed_in s ≡ [] → IsInner s Dropped false → ⊥
     by file e h = h
     by rest e h = h
     by labels e h = h
@@ -286,7 +286,7 @@ seen_there s Dropped e h = absurd (by s e h)
     by (directive k) e h = true≢false (sym h)
     by (inside s) e h = true≢false (sym h)
     by (section_directive s k) e h = true≢false (sym h)
-    by (the t) e h = true≢false (sym h ∙ ap (λ os. owing os || false) e)
+    by (the t) e h = true≢false (sym h ∙ ap (λ os. is_nonempty os || false) e)
     by after e h = true≢false (sym h)
     by after_ident e h = true≢false (sym h)
     by expr e h = true≢false (sym h)
@@ -296,7 +296,7 @@ seen_there s Dropped e h = absurd (by s e h)
     by separator e h = true≢false (sym h)
     by s e h = omega (arith, ap length e)
 
-pub newline_passes : (count n : ℕ) (xs ds : List Marked) (later : ℕ) (us : List Marked) → AreInner false xs → owes_all xs ≡ []
+pub newline_passes : (count n : ℕ) (xs ds : List Marked) (later : ℕ) (us : List Marked) → AreInner false xs → unclosed_in_all xs ≡ []
     → effect count (xs ++ ds) (record { class = Newline; number = n }) ≡ on later us → effect count ds (record { class = Newline; number = n }) ≡ on later us
 newline_passes count n [] ds later us h flat e = e
 newline_passes count n (s at m ∷ xs) ds later us h flat e =
@@ -305,11 +305,11 @@ newline_passes count n (s at m ∷ xs) ds later us h flat e =
     t : Lookahead
     t = record { class = Newline; number = n }
 
-    here : (must_be_closed s ≡ []) × (owes_all xs ≡ [])
-    here = nothing_owed s m xs flat
+    here : (unclosed_in s ≡ []) × (unclosed_in_all xs ≡ [])
+    here = nothing_unclosed s m xs flat
 
     inner : IsInner s m false
-    inner = subst (λ b. IsInner s m b) (none_owed xs here.1) h.0
+    inner = subst (λ b. IsInner s m b) (none_unclosed xs here.1) h.0
 
     seen : m ≡ Seen
     seen = seen_there s m here.0 inner
@@ -319,17 +319,17 @@ newline_passes count n (s at m ∷ xs) ds later us h flat e =
     by (inr r) h = absurd (stopped (UnexpectedToken n) later us (sym (ap (λ a. row_effect count a (xs ++ ds) (effect count (xs ++ ds) t) t) r) ∙ h))
 
 -- ---- the end, where these are not needed
-pub inner_ends : (xs ds : List Marked) → AreInner false xs → ending (xs ++ ds) ≡ None → (ending ds ≡ None) × (owes_all xs ≡ [])
+pub inner_ends : (xs ds : List Marked) → AreInner false xs → ending (xs ++ ds) ≡ None → (ending ds ≡ None) × (unclosed_in_all xs ≡ [])
 inner_ends [] ds h e = (e, refl)
 inner_ends (s at m ∷ xs) ds h e = by (ends s) refl e (λ k. inner_ends xs ds h.1 k)
   where
-    owed_none : (s : Symbol) → ends s ≡ true → must_be_closed s ≡ []
-    owed_none file e = refl
-    owed_none eol e = refl
-    owed_none after_ident e = refl
-    owed_none after e = refl
-    owed_none _ e = absurd (true≢false (sym e))
+    has_unclosed_none : (s : Symbol) → ends s ≡ true → unclosed_in s ≡ []
+    has_unclosed_none file e = refl
+    has_unclosed_none eol e = refl
+    has_unclosed_none after_ident e = refl
+    has_unclosed_none after e = refl
+    has_unclosed_none _ e = absurd (true≢false (sym e))
 
-    by : (b : Bool) → ends s ≡ b → cond b (ending (xs ++ ds)) (Some UnexpectedEnd) ≡ None → (ending (xs ++ ds) ≡ None → (ending ds ≡ None) × (owes_all xs ≡ [])) → (ending ds ≡ None) × (owes_all (s at m ∷ xs) ≡ [])
-    by true is e more = let h = more e in (h.0, ap (λ os. os ++ owes_all xs) (owed_none s is) ∙ h.1)
+    by : (b : Bool) → ends s ≡ b → cond b (ending (xs ++ ds)) (Some UnexpectedEnd) ≡ None → (ending (xs ++ ds) ≡ None → (ending ds ≡ None) × (unclosed_in_all xs ≡ [])) → (ending ds ≡ None) × (unclosed_in_all (s at m ∷ xs) ≡ [])
+    by true is e more = let h = more e in (h.0, ap (λ os. os ++ unclosed_in_all xs) (has_unclosed_none s is) ∙ h.1)
     by false is e more = absurd (cc)

@@ -21,8 +21,8 @@ use Rattle.hcl_grammar.specs.declared.expected.Terminal.TheVariants.{Equals, End
 use Rattle.hcl_grammar.specs.declared.refusal.Refusal.TheVariants.{UnexpectedToken}
 use Rattle.hcl_grammar.specs.Grammar.{the, file, rest, labels, label_literal, start, body, eol, expr, directive, section_directive, Marked, ◌at◌}
 use Rattle.hcl_grammar.specs.Predictor.{Effect, on, stop, effect, ending, next, run}
-use Rattle.hcl_grammar.proofs.OwedLemmas.{HaveNumbers, Shift, owes_all}
-use Rattle.hcl_grammar.proofs.RowLemmas.{owes_all-append}
+use Rattle.hcl_grammar.proofs.UnclosedLemmas.{HaveNumbers, Shift, unclosed_in_all}
+use Rattle.hcl_grammar.proofs.RowLemmas.{unclosed_in_all-append}
 use Rattle.hcl_grammar.proofs.MoveLemmas.{EffectMoves, effect-moves}
 use Rattle.hcl_grammar.proofs.BalancedRowLemmas.{counted, groups, shifted}
 use Rattle.label_laws.proofs.InnerLemmas.{AreInner, Passes, inner_ends, inner_passes, landed, newline_passes, stopped}
@@ -37,7 +37,7 @@ base zero = file at Seen ∷ []
 base (suc k) = body at Seen ∷ the EndBrace at Seen ∷ eol at Seen ∷ base k
 
 abbrev Valued : List Marked → List Marked → ℕ → Type 0
-Valued ss ds h = (xs : List Marked) × (ss ≡ xs ++ ds) × AreInner false xs × (groups (owes_all xs) ≡ h)
+Valued ss ds h = (xs : List Marked) × (ss ≡ xs ++ ds) × AreInner false xs × (groups (unclosed_in_all xs) ≡ h)
 
 abbrev pub At : Place → List Marked → Type 0
 At (line k) ss = ss ≡ base k
@@ -137,8 +137,8 @@ all_numbers (directive n at m ∷ ss) = (tt, all_numbers ss)
 all_numbers (section_directive e n at m ∷ ss) = (tt, all_numbers ss)
 all_numbers (s at m ∷ ss) = all_numbers ss
 
-shift : (count n later : ℕ) (t : Kind) (text : List ℕ) (ss us : List Marked) → effect count ss (look n t text) ≡ on later us → Shift (class_at t text) (owes_all ss) (owes_all us)
-shift count n later t text ss us e = (subst (λ w. EffectMoves (λ i. Unit {0}) w (owes_all ss) (class_at t text)) e (effect-moves (λ i. Unit {0}) count ss (look n t text) tt (all_numbers ss))).0
+shift : (count n later : ℕ) (t : Kind) (text : List ℕ) (ss us : List Marked) → effect count ss (look n t text) ≡ on later us → Shift (class_at t text) (unclosed_in_all ss) (unclosed_in_all us)
+shift count n later t text ss us e = (subst (λ w. EffectMoves (λ i. Unit {0}) w (unclosed_in_all ss) (class_at t text)) e (effect-moves (λ i. Unit {0}) count ss (look n t text) tt (all_numbers ss))).0
 
 newline_is : (t : Kind) → is kind.Newline t ≡ true → t ≡ kind.Newline
 newline_is kind.Newline e = refl
@@ -158,30 +158,30 @@ closer_opens_none _ e = absurd (true≢false (sym e))
 
 -- a newline fits the open groups
 abbrev Newlined : List Marked → Kind → Type 0
-Newlined ss t = in_template (owes_all ss) ≡ true → is kind.Newline t ≡ false
+Newlined ss t = in_template (unclosed_in_all ss) ≡ true → is kind.Newline t ≡ false
 
 module _ (count n later : ℕ) (t : Kind) (text : List ℕ) (us xs ds : List Marked) (inner : AreInner false xs) (e : effect count (xs ++ ds) (look n t text) ≡ on later us) where
   -- a newline with nothing open is for the symbols below
-  newline_below : Newlined (xs ++ ds) t → (is kind.Newline t ≡ true) → groups (owes_all xs) ≡ 0 → effect count ds (look n kind.Newline text) ≡ on later us
+  newline_below : Newlined (xs ++ ds) t → (is kind.Newline t ≡ true) → groups (unclosed_in_all xs) ≡ 0 → effect count ds (look n kind.Newline text) ≡ on later us
   newline_below fits nl flat = newline_passes count n xs ds later us inner none (subst (λ x. effect count (xs ++ ds) (look n x text) ≡ on later us) (newline_is t nl) e)
     where
-      outside : (b : Bool) → in_template (owes_all (xs ++ ds)) ≡ b → in_template (owes_all (xs ++ ds)) ≡ false
+      outside : (b : Bool) → in_template (unclosed_in_all (xs ++ ds)) ≡ b → in_template (unclosed_in_all (xs ++ ds)) ≡ false
       outside true h = absurd (true≢false (sym nl ∙ fits h))
       outside false h = h
 
-      none : owes_all xs ≡ []
-      none = none_open (owes_all xs) (owes_all ds) flat (sym (ap in_template (owes_all-append xs ds)) ∙ outside (in_template (owes_all (xs ++ ds))) refl)
+      none : unclosed_in_all xs ≡ []
+      none = none_open (unclosed_in_all xs) (unclosed_in_all ds) flat (sym (ap in_template (unclosed_in_all-append xs ds)) ∙ outside (in_template (unclosed_in_all (xs ++ ds))) refl)
 
   -- the number of open groups then
-  more_open : (ys : List Marked) → us ≡ ys ++ ds → opener_count t + groups (owes_all xs) ≡ closer_count t + groups (owes_all ys)
+  more_open : (ys : List Marked) → us ≡ ys ++ ds → opener_count t + groups (unclosed_in_all xs) ≡ closer_count t + groups (unclosed_in_all ys)
   more_open ys is =
-      let s = counted t text (owes_all (xs ++ ds)) (owes_all us) (shift count n later t text (xs ++ ds) us e) in
-      let a = ap groups (owes_all-append xs ds) ∙ groups_both (owes_all xs) (owes_all ds) in
-      let b = ap (λ r. groups (owes_all r)) is ∙ ap groups (owes_all-append ys ds) ∙ groups_both (owes_all ys) (owes_all ds) in
+      let s = counted t text (unclosed_in_all (xs ++ ds)) (unclosed_in_all us) (shift count n later t text (xs ++ ds) us e) in
+      let a = ap groups (unclosed_in_all-append xs ds) ∙ groups_both (unclosed_in_all xs) (unclosed_in_all ds) in
+      let b = ap (λ r. groups (unclosed_in_all r)) is ∙ ap groups (unclosed_in_all-append ys ds) ∙ groups_both (unclosed_in_all ys) (unclosed_in_all ds) in
       omega (arith, s, a, b)
 
   -- a closer closes a group in the value
-  no_closer : (h : ℕ) (ys : List Marked) → groups (owes_all xs) ≡ h → us ≡ ys ++ ds → (is_closer t && is_closed h) ≡ true → ⊥
+  no_closer : (h : ℕ) (ys : List Marked) → groups (unclosed_in_all xs) ≡ h → us ≡ ys ++ ds → (is_closer t && is_closed h) ≡ true → ⊥
   no_closer h ys g is c = let b = both_true (is_closer t) h c in let z = closer_opens_none t b.0 in omega (arith, z.0, z.1, b.1, g, more_open ys is)
 
 from_value : (count n later : ℕ) (t : Kind) (text : List ℕ) (ss us : List Marked) (k h : ℕ) → Newlined ss t → At (value k h) ss → effect count ss (look n t text) ≡ on later us → Moved (value k h) t us
@@ -298,27 +298,27 @@ opens_after : (s : State) (t : Lexeme) (after : State) → Next s t after → af
 opens_after s t after (inl x) = x.opens
 opens_after s t after (inr y) = ap (λ (z : State). z.opens) y.next_is ∙ ap (λ l. drop 1 l) (sym y.top) ∙ ap (λ k. open_after k s.opens) (sym y.kind)
 
-heredoc_base : (k : ℕ) → in_heredoc (owes_all (base k)) ≡ false
+heredoc_base : (k : ℕ) → in_heredoc (unclosed_in_all (base k)) ≡ false
 heredoc_base zero = refl
 heredoc_base (suc k) = heredoc_base k
 
 -- blanks that are tokens are in values
-blank_turn : (p : Place) (ss : List Marked) → At p ss → in_heredoc (owes_all ss) ≡ true → turn p kind.Blank ≡ Some p
-blank_turn (line k) ss a h = absurd (true≢false (sym h ∙ ap (λ r. in_heredoc (owes_all r)) a ∙ heredoc_base k))
-blank_turn (labelled k true) ss a h = absurd (true≢false (sym h ∙ ap (λ r. in_heredoc (owes_all r)) a ∙ heredoc_base k))
-blank_turn (labelled k false) ss a h = absurd (true≢false (sym h ∙ ap (λ r. in_heredoc (owes_all r)) a ∙ heredoc_base k))
-blank_turn (quoted k) ss a h = absurd (true≢false (sym h ∙ ap (λ r. in_heredoc (owes_all r)) a ∙ heredoc_base k))
-blank_turn (written k) ss a h = absurd (true≢false (sym h ∙ ap (λ r. in_heredoc (owes_all r)) a ∙ heredoc_base k))
-blank_turn (started k) ss a h = absurd (true≢false (sym h ∙ ap (λ r. in_heredoc (owes_all r)) a ∙ heredoc_base k))
-blank_turn (named k) ss a h = absurd (true≢false (sym h ∙ ap (λ r. in_heredoc (owes_all r)) a ∙ heredoc_base k))
-blank_turn (ended k) ss a h = absurd (true≢false (sym h ∙ ap (λ r. in_heredoc (owes_all r)) a ∙ heredoc_base k))
+blank_turn : (p : Place) (ss : List Marked) → At p ss → in_heredoc (unclosed_in_all ss) ≡ true → turn p kind.Blank ≡ Some p
+blank_turn (line k) ss a h = absurd (true≢false (sym h ∙ ap (λ r. in_heredoc (unclosed_in_all r)) a ∙ heredoc_base k))
+blank_turn (labelled k true) ss a h = absurd (true≢false (sym h ∙ ap (λ r. in_heredoc (unclosed_in_all r)) a ∙ heredoc_base k))
+blank_turn (labelled k false) ss a h = absurd (true≢false (sym h ∙ ap (λ r. in_heredoc (unclosed_in_all r)) a ∙ heredoc_base k))
+blank_turn (quoted k) ss a h = absurd (true≢false (sym h ∙ ap (λ r. in_heredoc (unclosed_in_all r)) a ∙ heredoc_base k))
+blank_turn (written k) ss a h = absurd (true≢false (sym h ∙ ap (λ r. in_heredoc (unclosed_in_all r)) a ∙ heredoc_base k))
+blank_turn (started k) ss a h = absurd (true≢false (sym h ∙ ap (λ r. in_heredoc (unclosed_in_all r)) a ∙ heredoc_base k))
+blank_turn (named k) ss a h = absurd (true≢false (sym h ∙ ap (λ r. in_heredoc (unclosed_in_all r)) a ∙ heredoc_base k))
+blank_turn (ended k) ss a h = absurd (true≢false (sym h ∙ ap (λ r. in_heredoc (unclosed_in_all r)) a ∙ heredoc_base k))
 blank_turn (single k h') ss a h = let z : deepen h' kind.Blank ≡ h' = omega arith in ap (λ (j : ℕ). Some (single k j)) z
 blank_turn (value k h') ss a h = let z : deepen h' kind.Blank ≡ h' = omega arith in ap (λ (j : ℕ). Some (value k j)) z
 
 -- inside a label's quotes literal text is read
-quotes_template : (p : Place) (ss : List Marked) → At p ss → in_quotes p ≡ true → in_template (owes_all ss) ≡ true
-quotes_template (quoted k) ss a e = ap (λ r. in_template (owes_all r)) a
-quotes_template (written k) ss a e = ap (λ r. in_template (owes_all r)) a
+quotes_template : (p : Place) (ss : List Marked) → At p ss → in_quotes p ≡ true → in_template (unclosed_in_all ss) ≡ true
+quotes_template (quoted k) ss a e = ap (λ r. in_template (unclosed_in_all r)) a
+quotes_template (written k) ss a e = ap (λ r. in_template (unclosed_in_all r)) a
 quotes_template (line k) ss a e = absurd (true≢false (sym e))
 quotes_template (labelled k b) ss a e = absurd (true≢false (sym e))
 quotes_template (started k) ss a e = absurd (true≢false (sym e))
@@ -336,7 +336,7 @@ newline_kind : (t : Kind) → in_expressions t ≡ false → is kind.Newline t �
 newline_kind kind.Newline e = absurd (true≢false e)
 newline_kind _ e = refl
 
-next_begins : (s end : State) (ts : List Lexeme) (p : Place) (ss : List Marked) (n : ℕ) → scan.Run s ts end → s.opens ≡ owes_all ss → At p ss → in_quotes p ≡ true → Begins n (without_comments (numbered_from n ts))
+next_begins : (s end : State) (ts : List Lexeme) (p : Place) (ss : List Marked) (n : ℕ) → scan.Run s ts end → s.opens ≡ unclosed_in_all ss → At p ss → in_quotes p ≡ true → Begins n (without_comments (numbered_from n ts))
 next_begins s end [] p ss n run same a e = tt
 next_begins s end (u ∷ us) p ss n run same a e =
     subst (λ b. Begins n (cond (not b) (record { number = n; kind = u.kind; text = u.text } ∷ without_comments (numbered_from (n + 1) us)) (without_comments (numbered_from (n + 1) us))))
@@ -411,7 +411,7 @@ module _ (all : List Numbered) where
   name_follows p q t [] e turned led i = tt
   name_follows p q t (u ∷ us) e turned led i = name_next p q led.1.0 u.kind (sym (ap (λ x. is_name p x) i) ∙ e) (sym (ap (λ x. turn p x) i) ∙ turned) led.1.1
 
-  pub lead : (s end : State) (ts : List Lexeme) (p : Place) (ss : List Marked) (count n : ℕ) → scan.Run s ts end → s.opens ≡ owes_all ss → At p ss → run count ss (lookaheads_from n ts) ≡ None → drop n all ≡ numbered_from n ts
+  pub lead : (s end : State) (ts : List Lexeme) (p : Place) (ss : List Marked) (count n : ℕ) → scan.Run s ts end → s.opens ≡ unclosed_in_all ss → At p ss → run count ss (lookaheads_from n ts) ≡ None → drop n all ≡ numbered_from n ts
       → (dot : Bool) → (dot ≡ true → steps ss ≡ true) → drop n (disjoint false all) ≡ disjoint dot (numbered_from n ts) → Led p (without_comments (numbered_from n ts))
   unfolding run
   lead s end [] p ss count n scanned same a accepted here dot stepping beside = (p, refl, stop_there p ss a accepted)
@@ -438,9 +438,9 @@ module _ (all : List Numbered) where
       here_it = here ∙ ap (λ r. it ∷ r) (sym (there n t ts here))
 
       On : Type 0
-      On = (q : Place) (us : List Marked) (later : ℕ) → scanned.0.opens ≡ owes_all us → At q us → run later us L ≡ None → (follows_dot dot t.kind ≡ true → steps us ≡ true) → Led q W
+      On = (q : Place) (us : List Marked) (later : ℕ) → scanned.0.opens ≡ unclosed_in_all us → At q us → run later us L ≡ None → (follows_dot dot t.kind ≡ true → steps us ≡ true) → Led q W
 
-      adjoins : (q : Place) (us : List Marked) → scanned.0.opens ≡ owes_all us → At q us → Adjoins q n W
+      adjoins : (q : Place) (us : List Marked) → scanned.0.opens ≡ unclosed_in_all us → At q us → Adjoins q n W
       adjoins q us o b i = next_begins scanned.0 end ts q us (n + 1) scanned.2 o b i
 
       skipped : is_trivia (class_of t) ≡ true → run count ss L ≡ None
@@ -448,7 +448,7 @@ module _ (all : List Numbered) where
 
       blank : t.kind ≡ kind.Blank → is_trivia (class_of t) ≡ true → On → Led p (it ∷ W)
       blank e trivial on_ =
-          let o : scanned.0.opens ≡ owes_all ss = next_opens ∙ ap (λ x. open_after x s.opens) e ∙ same in
+          let o : scanned.0.opens ≡ unclosed_in_all ss = next_opens ∙ ap (λ x. open_after x s.opens) e ∙ same in
           lead_on p p it W (ap (λ x. turn p x) e ∙ blank_turn p ss a (sym (ap in_heredoc same) ∙ fits.blank e))
           (here_it, (λ h. absurd (true≢false (sym h ∙ ap (λ x. is_name p x) e ∙ blank_names p))))
           (adjoins p ss o a) (on_ p ss count o a (skipped trivial) (λ d. stepping (sym (ap (λ x. follows_dot dot x) e) ∙ d)))
@@ -465,7 +465,7 @@ module _ (all : List Numbered) where
       read_by told (stop r) e accepted on_ = absurd (let f : Some r ≡ None = accepted in cc)
       read_by told (on later us) e accepted on_ =
           let m = move count n later t.kind t.text p ss us (λ i. newline_kind t.kind (fits.template (ap in_template same ∙ i))) a e in
-          let o : scanned.0.opens ≡ owes_all us = next_opens ∙ ap (λ r. open_after t.kind r) same ∙ shifted t.kind t.text (owes_all ss) (owes_all us) (shift count n later t.kind t.text ss us e) in
+          let o : scanned.0.opens ≡ unclosed_in_all us = next_opens ∙ ap (λ r. open_after t.kind r) same ∙ shifted t.kind t.text (unclosed_in_all ss) (unclosed_in_all us) (shift count n later t.kind t.text ss us e) in
           let led : Led m.0 W = on_ m.0 us later o m.2 accepted (step_stays count n later t.kind t.text ss us dot stepping told e) in
           lead_on p m.0 it W m.1 (here_it, named_there m.0 m.1 led) (adjoins m.0 us o m.2) led
 

@@ -5,6 +5,7 @@ use Rattle.hcl_tokens.specs.Lexemes as lexemes
 use Rattle.hcl_tokens.specs.Lexemes.{is_group, open_after, same_opener}
 use Rattle.hcl_tokens.specs.Spelling.{Context, Template, Expression, context_in}
 use Rattle.hcl_tokens.specs.Scans.{Hidden, must_be_closed}
+use Rattle.hcl_scan.specs.Inner.Readings.{closes_in, top_reading}
 use Rattle.hcl_scan.specs.declared.stack.Opener.{Opener}
 use Rattle.hcl_scan.specs.declared.stack.Opener.TheVariants.{Quote, Heredoc, Sequence, Brace, Bracket, Paren}
 use Rattle.hcl_scan.specs.declared.stack.Opened.{Opened}
@@ -55,20 +56,13 @@ popped_if opener (o ∷ stack) = if same_opener (opener_of o.by) opener then sta
 abbrev pub without_closed : Kind → List Opened → List Opened
 without_closed kind stack = drop (length stack - length (open_after kind (openers_of stack))) stack
 
--- a `}` closes a sequence inside this opener, given whether it does so around it
-abbrev pub closes_on : Opener → Bool → Bool
-closes_on Sequence around = true
-closes_on Paren around = around
-closes_on Bracket around = around
-closes_on _ around = false
-
+-- a `}` closes a sequence
 abbrev pub top_closes : List Opened → Bool
-top_closes [] = false
-top_closes (o ∷ stack) = o.closes_sequence
+top_closes stack = closes_in (top_reading stack)
 
 -- with an opener at this offset on top
 abbrev pub opened_on : Opener → ℕ → List Opened → List Opened
-opened_on by at stack = record { by = by; at = at; closes_sequence = closes_on by (top_closes stack) } ∷ stack
+opened_on by at stack = record { by = by; at = at; around = top_reading stack } ∷ stack
 
 -- the innermost quote, heredoc or sequence
 abbrev pub innermost_unclosed : List Opened → Option Opened

@@ -1,13 +1,10 @@
--- The scanner's mode, which the stack keeps in one byte, and the stored form of each open construct. Our own choice of
+-- The scanner's mode, which the stack keeps in one byte, and the open constructs as an array. Our own choice of
 -- representation.
 use Rattle.std.specs.Prelude.{◌≡◌, ℕ, ◌≤◌, Bool, true, false, List, [], ◌∷◌, length, take, reverse, Option, Some, None}
 use Rattle.hcl_tokens.specs.Lexemes.{max_open}
 use Rattle.hcl_scan.specs.declared.stack.Opener.{Opener}
 use Rattle.hcl_scan.specs.declared.stack.Opener.TheVariants as by
 use Rattle.hcl_scan.specs.declared.stack.Opened.{Opened}
-use Rattle.hcl_scan.specs.declared.stack.Form.{Form}
-use Rattle.hcl_scan.specs.declared.stack.Form.TheVariants as form
-use Rattle.hcl_scan.specs.declared.stack.Frame.{Frame}
 use Rattle.hcl_scan.specs.declared.stack.Reading.{Reading}
 use Rattle.hcl_scan.specs.declared.stack.Reading.TheVariants.{Code, SequenceCode, QuotedText, HeredocText}
 
@@ -41,38 +38,23 @@ reading_on by.Brace around = Code
 reading_on by.Bracket around = group_reading around
 reading_on by.Paren around = group_reading around
 
-abbrev pub opener_by : Form → ℕ → ℕ → Opener
-opener_by form.Quote closer_end outer_end = by.Quote
-opener_by form.Heredoc closer_end outer_end = by.Heredoc closer_end outer_end
-opener_by form.Sequence closer_end outer_end = by.Sequence
-opener_by form.Brace closer_end outer_end = by.Brace
-opener_by form.Bracket closer_end outer_end = by.Bracket
-opener_by form.Paren closer_end outer_end = by.Paren
+-- the first n of these, the last of them on top
+abbrev pub stack_of : ℕ → List Opened → List Opened
+stack_of n opened = reverse (take n opened)
 
--- the opener that is stored as this
-abbrev pub opener_in : Frame → Opener
-opener_in f = opener_by f.form f.closer_end f.outer_end
-
-abbrev pub opened_of : Frame → Opened
-opened_of f = record { by = opener_in f; at = f.at; closes_sequence = closes_in (reading_on (opener_in f) f.around) }
-
--- the first n, the last of them on top
-abbrev pub frames_of : ℕ → List Frame → List Frame
-frames_of n fs = reverse (take n fs)
-
--- the mode under these
-abbrev pub reading_under : List Frame → Reading
-reading_under [] = Code
-reading_under (f ∷ fs) = reading_on (opener_in f) f.around
+-- the mode inside the top
+abbrev pub top_reading : List Opened → Reading
+top_reading [] = Code
+top_reading (o ∷ stack) = reading_on o.by o.around
 
 -- each has the mode around it
-abbrev pub AreFrames : List Frame → Type 0
-AreFrames [] = Unit {0}
-AreFrames (f ∷ fs) = (f.around ≡ reading_under fs) × AreFrames fs
+abbrev pub KnowAround : List Opened → Type 0
+KnowAround [] = Unit {0}
+KnowAround (o ∷ stack) = (o.around ≡ top_reading stack) × KnowAround stack
 
--- the stored form of the open constructs; there are n
-pub record IsStackStorage (n : ℕ) (fs : List Frame) (reading : Reading) : Type 0 where
-  pub room : length fs ≡ max_open
+-- the array of the open constructs; there are n
+pub record IsStackStorage (n : ℕ) (opened : List Opened) (reading : Reading) : Type 0 where
+  pub room : length opened ≡ max_open
   pub within : n ≤ max_open
-  pub frames : AreFrames (frames_of n fs)
-  pub read_so : reading ≡ reading_under (frames_of n fs)
+  pub around : KnowAround (stack_of n opened)
+  pub read_so : reading ≡ top_reading (stack_of n opened)

@@ -8,7 +8,7 @@ use Rattle.hcl_tokens.specs.Spelling.{Context, Template, Expression, context}
 use Rattle.hcl_tokens.specs.Scans.{State, Next, IsLongest, gap_len}
 use Rattle.hcl_tokens.specs.Faults.{Lacks, fault_offset}
 use Rattle.hcl_tokens.specs.Entries.{IsEntry, lexeme_of}
-use Rattle.hcl_scan.specs.Inner.Openings.{opener_of, openers_of, offsets_in, hidden_of}
+use Rattle.hcl_scan.specs.Inner.Openings.{opener_of, openers_of, offsets_in, hidden_of, top_closes}
 use Rattle.hcl_tokens.specs.declared.token.TokenEntry.{TokenEntry}
 use Rattle.hcl_scan.specs.declared.stack.Opener as kept
 use Rattle.hcl_scan.specs.declared.stack.Opener.TheVariants.{Heredoc}
@@ -35,7 +35,7 @@ AreEndsBy text end _ around = around end
 -- the stack fits this text, with the visible text ending at `end`
 abbrev pub IsStack : List ℕ → List Opened → ℕ → Type 0
 IsStack text [] end = end ≡ length text
-IsStack text (o ∷ stack) end = (o.closes_sequence ≡ closes_sequence (openers_of (o ∷ stack))) × IsTrue (fits_in (opener_of o.by) (context (openers_of stack))) × IsCharBoundary text o.at × AreEndsBy text end o.by (IsStack text stack)
+IsStack text (o ∷ stack) end = (top_closes (o ∷ stack) ≡ closes_sequence (openers_of (o ∷ stack))) × IsTrue (fits_in (opener_of o.by) (context (openers_of stack))) × IsCharBoundary text o.at × AreEndsBy text end o.by (IsStack text stack)
 
 pub record IsSound (s : Scanner) : Type 0 where
   pub small : length s.text.now ≤ max_source

@@ -4,7 +4,6 @@ use Rattle.std.specs.Prelude.{◌≡◌, ℕ, ◌+◌, ◌<◌, ◌==◌, List, 
 use Rattle.hcl_tokens.specs.declared.token.TokenEntry.{TokenEntry}
 use Rattle.hcl_tokens.specs.declared.entries.StoredEntry.{StoredEntry}
 use Rattle.hcl_tokens.specs.declared.entries.Span.{Span}
-use Rattle.hcl_tokens.specs.declared.entries.Given.{Given}
 
 -- the length that marks a long token
 abbrev pub long_mark : ℕ
@@ -23,9 +22,10 @@ entry_of long k = record { start = (span_of long k).start; end = (span_of long k
 abbrev pub entries_of : List Span → List StoredEntry → List TokenEntry
 entries_of long ks = map (entry_of long) ks
 
--- the entry of a token that is given by start and length
-abbrev pub entry_given : Given → TokenEntry
-entry_given g = record { start = g.start; end = g.start + g.length; kind = g.kind; inside_heredoc = g.inside_heredoc }
+-- the entry has this span
+pub record HasSpan (e : TokenEntry) (s : Span) : Type 0 where
+  pub start : s.start ≡ e.start
+  pub end : s.start + s.length ≡ e.end
 
 -- the stored entry of a long token names a span of the second list
 pub record IsStored (long : List Span) (k : StoredEntry) : Type 0 where

@@ -17,28 +17,28 @@ awaits EndQuote = Quote ∷ []
 awaits EndHeredoc = Heredoc ∷ []
 awaits _ = []
 
-abbrev pub must_be_closed : Symbol → List Opener
-must_be_closed (the e) = awaits e
-must_be_closed start = Brace ∷ []
-must_be_closed index = Bracket ∷ []
-must_be_closed tuple = Bracket ∷ []
-must_be_closed tuple_next = Bracket ∷ []
-must_be_closed tuple_item = Bracket ∷ []
-must_be_closed tuple_if = Bracket ∷ []
-must_be_closed object = Brace ∷ []
-must_be_closed object_next = Brace ∷ []
-must_be_closed object_item = Brace ∷ []
-must_be_closed group = Brace ∷ []
-must_be_closed object_if = Brace ∷ []
-must_be_closed args = Paren ∷ []
-must_be_closed arg_next = Paren ∷ []
-must_be_closed (directive n) = Sequence ∷ []
-must_be_closed (section_directive e n) = Sequence ∷ []
-must_be_closed _ = []
+abbrev pub unclosed_in : Symbol → List Opener
+unclosed_in (the e) = awaits e
+unclosed_in start = Brace ∷ []
+unclosed_in index = Bracket ∷ []
+unclosed_in tuple = Bracket ∷ []
+unclosed_in tuple_next = Bracket ∷ []
+unclosed_in tuple_item = Bracket ∷ []
+unclosed_in tuple_if = Bracket ∷ []
+unclosed_in object = Brace ∷ []
+unclosed_in object_next = Brace ∷ []
+unclosed_in object_item = Brace ∷ []
+unclosed_in group = Brace ∷ []
+unclosed_in object_if = Brace ∷ []
+unclosed_in args = Paren ∷ []
+unclosed_in arg_next = Paren ∷ []
+unclosed_in (directive n) = Sequence ∷ []
+unclosed_in (section_directive e n) = Sequence ∷ []
+unclosed_in _ = []
 
-abbrev pub owes_all : List Marked → List Opener
-owes_all [] = []
-owes_all (s at m ∷ ss) = must_be_closed s ++ owes_all ss
+abbrev pub unclosed_in_all : List Marked → List Opener
+unclosed_in_all [] = []
+unclosed_in_all (s at m ∷ ss) = unclosed_in s ++ unclosed_in_all ss
 
 -- a token of the class turns the openers `a` into `b`
 abbrev pub Shift : Class → List Opener → List Opener → Type 0
@@ -68,6 +68,6 @@ HaveNumbers P (s at m ∷ ss) = HaveNumbers P ss
 abbrev pub RowMoves : (ℕ → Type 0) → Action → List Opener → Class → Type 0
 RowMoves P none a c = Unit {0}
 RowMoves P nothing a c = [] ≡ a
-RowMoves P (reads xs) a c = Shift c a (owes_all xs) × HaveNumbers P xs
-RowMoves P (opens n xs) a c = Shift c a (owes_all xs) × HaveNumbers P xs × P n
-RowMoves P (closes xs) a c = Shift c a (owes_all xs) × HaveNumbers P xs
+RowMoves P (reads xs) a c = Shift c a (unclosed_in_all xs) × HaveNumbers P xs
+RowMoves P (opens n xs) a c = Shift c a (unclosed_in_all xs) × HaveNumbers P xs × P n
+RowMoves P (closes xs) a c = Shift c a (unclosed_in_all xs) × HaveNumbers P xs
