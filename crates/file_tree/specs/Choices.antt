@@ -22,7 +22,7 @@ chosen_by any_name excluded =
 
 -- with pipes, sockets and devices
 abbrev pub with_specials : Bool → Chosen → Chosen
-with_specials specials choice_view = record choice_view { specials = specials }
+with_specials specials chosen = record chosen { specials = specials }
 
 -- nothing is excluded
 abbrev pub whole_tree : Chosen
@@ -54,12 +54,12 @@ is_at folder path = nat_lt 0 (length folder) && (bytes_eq path (without_slash fo
 
 -- EXCLUDED is a path with one of the names, one of the paths, and everything below
 abbrev pub is_excluded : Chosen → Name → Bool
-is_excluded choice_view path =
-    list_any (λ name. has_part name path) choice_view.names
-    || list_any (λ folder. is_at folder path) choice_view.folders
+is_excluded chosen path =
+    list_any (λ name. has_part name path) chosen.names
+    || list_any (λ folder. is_at folder path) chosen.folders
 
 -- ---- named files
 
 -- A NAMED FILE is taken if the walk takes such names, or if its name ends with `.hcl`
 abbrev pub is_wanted : Chosen → Name → Bool
-is_wanted choice_view name = choice_view.any_name || (is_taken name || ends (codes ".hcl") name)
+is_wanted chosen name = chosen.any_name || (is_taken name || ends (codes ".hcl") name)

@@ -26,7 +26,7 @@ use Rattle.hcl_grammar.specs.declared.expected.Terminal.{Terminal}
 pub run-row : (count : ℕ) (s : Symbol) (m : Newlines) (ss : List Marked) (t : Lookahead) (ts : List Lookahead) → drops m t.class ≡ false →
     run count (s at m ∷ ss) (t ∷ ts) ≡ next (row_effect count (row s m t) ss (effect count ss t) t) (λ o rest. run o rest ts)
 unfolding run
-run-row count s m ss t ts past_newlines = ap (λ b. next (cond b (on count (s at m ∷ ss)) (row_effect count (row s m t) ss (effect count ss t) t)) (λ o rest. run o rest ts)) past_newlines
+run-row count s m ss t ts stays = ap (λ b. next (cond b (on count (s at m ∷ ss)) (row_effect count (row s m t) ss (effect count ss t) t)) (λ o rest. run o rest ts)) stays
 
 -- a symbol that drops newlines skips them
 past_newlines-by : (count : ℕ) (s : Symbol) (m : Newlines) (ss : List Marked) (t : Lookahead) (ts : List Lookahead) (b : Bool) → drops m t.class ≡ b →

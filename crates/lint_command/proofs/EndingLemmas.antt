@@ -26,8 +26,9 @@ use Rattle.module_config.specs.Refusals.{configured_refusals}
 use Rattle.module_config.specs.Words.{configured_words}
 use Rattle.module_config.specs.declared.configure.Configured.{Configured}
 use Rattle.lint_command.specs.Line as Line
-use Rattle.lint_command.specs.Asked.{job_of}
-use Rattle.lint_command.specs.Ends.{Collects, EndsLost, EndsWhole, IsFoot, LintsCollected, LintsModules, LintsOr, RunsThen, Then, fault_status, head_of, is_cut, last_words, refused_remarks, summary}
+use Rattle.lint_command.specs.Inner.Asked.{job_of}
+use Rattle.lint_command.specs.Ends.{Collects, EndsLost, EndsWhole, IsFoot, LintsModules, RunsThen, Then, fault_status, head_of, is_cut, last_words, refused_remarks, summary}
+use Rattle.lint_command.specs.Inner.Runs.{LintsCollected, LintsOr}
 use Rattle.lint_command.specs.Inner.Closing.{Closes, last_status}
 use Rattle.lint_command.specs.declared.options.Job.{Job}
 

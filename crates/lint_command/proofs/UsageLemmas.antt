@@ -4,7 +4,8 @@ use Rattle.clap.specs.Words.{Text}
 use Rattle.command_line.specs.Rows.{End, Program, Shows, error_line, message_row, out_of_memory}
 use Rattle.file_tree.specs.Quotes.{in_quotes}
 use Rattle.command_line.proofs.EndLemmas.{shows_as}
-use Rattle.lint_command.specs.Ends.{SaysOnly, ShowsUsage, usage_row, wrong_value}
+use Rattle.lint_command.specs.Ends.{usage_row, wrong_value}
+use Rattle.lint_command.specs.Inner.Runs.{SaysOnly, ShowsUsage}
 use Rattle.tree_lint.specs.Refusals.{tree_linter}
 use Rattle.lint_command.specs.declared.usage.Usage.{Usage}
 

@@ -2,7 +2,7 @@
 use Rattle.std.specs.Prelude.{◌≡◌, ◌⊎◌, ◌==◌, ◌&&◌, ◌||◌, ℕ, Bool, true, false, List, [], ◌∷◌, ◌++◌, Option, Some, None, Result, Ok, Err, codes, flat_map, is_some, map, nat_lt, unwrap_or, if◌then◌else◌}
 use Rattle.clap.specs.Words.{Text, first_of, matches_of}
 use Rattle.command_line.specs.Rows.{End, Row, Shows, TookBy, Writer, error_line, fails_with, message_row, out_of_memory, output_row, write_failed}
-use Rattle.file_tree.specs.Files.{Faults, Files, Name, Tells}
+use Rattle.file_tree.specs.Files.{Faults, Files, Name}
 use Rattle.file_tree.specs.Quotes.{in_quotes}
 use Rattle.file_tree.specs.Seen.{Sees, all_found}
 use Rattle.file_tree.specs.declared.walk.Found.{Found}
@@ -17,9 +17,9 @@ use Rattle.module_config.specs.Words.{configured_words, unlinted_line}
 use Rattle.module_config.specs.declared.configure.Configured.{Configured}
 use Rattle.module_find.specs.declared.module.Module.{Module}
 use Rattle.rule_lists.specs.Lists.{unknown_in}
-use Rattle.tree_words.specs.Paths.{paths_of_input, paths_of_line}
+use Rattle.tree_words.specs.Ends.{EndsBy}
 use Rattle.tree_words.specs.Shards.{picked_of}
-use Rattle.tree_words.specs.Line.{others_in, texts_in}
+use Rattle.tree_words.specs.Line.{texts_in}
 use Rattle.tree_words.specs.WrongWords.{bad_line_words}
 use Rattle.tree_words.specs.declared.shard.Shard.{Shard}
 use Rattle.tree_lint.specs.Faults.{fault_lines, refusal_in}
@@ -33,7 +33,7 @@ use Rattle.tree_lint.specs.declared.run.RunEnd.{RunEnd}
 use Rattle.tree_lint.specs.declared.written.Manner.{Manner}
 use Rattle.tree_lint.specs.declared.written.Terminals.{Terminals}
 use Rattle.lint_command.specs.Explained.{explanation_of, rule_list}
-use Rattle.lint_command.specs.Line.{Request, Job, request_of_texts, tfrules_all}
+use Rattle.lint_command.specs.Line.{Request, Job, request_of_words, tfrules_all}
 use Rattle.lint_command.specs.LinterWords.{linter_words}
 use Rattle.lint_command.specs.declared.usage.Usage.{Usage}
 use Rattle.lint_command.specs.declared.usage.Usage.TheVariants.{Help, Version, ListRules, Explain, BadLine, UnknownRule, UnknownExplained, NoRuleLeft, BadNaming, BadSeverity, BadPart, BadForm, BadJobs, NamesTwice, OutOfMemory}
@@ -175,40 +175,6 @@ pub record Lints (terminals : Terminals) (job : Job) (paths : List Name) (files 
   pub collects : Collects files job.shard paths was walked modules faults
   pub lints : LintsModules terminals job modules faults files walked is end
 
--- only this row is shown
-abbrev pub SaysOnly : Row → End → Type 0
-SaysOnly row end = Shows tree_linter row end
-
--- memory ran out before a module was linted, or these modules were linted
-abbrev pub LintsCollected : Terminals → Job → List Module → List Found → Files → Faults → Faults
-    → End → Type 0
-LintsCollected terminals job modules faults files was is end =
-    SaysOnly (out_of_memory tree_linter) end
-    ⊎ LintsModules terminals job modules faults files was is end
-
--- memory ran out before a module was linted, or the modules of these paths were linted
-abbrev pub LintsOr : Terminals → Job → List Name → Files → Faults → Faults → End → Type 0
-LintsOr terminals job paths files was is end =
-    SaysOnly (out_of_memory tree_linter) end ⊎ Lints terminals job paths files was is end
-
--- memory ran out before a module was linted, or the modules were linted that the names of the line stand for
-abbrev pub LintsNamed : Terminals → Job → List Name → Files → Faults → Faults → End → Type 0
-LintsNamed terminals job names files was is end =
-    LintsOr terminals job (paths_of_line names) files was is end
-
-abbrev pub read_failed : Row
-read_failed = fails_with tree_linter (codes "read failed")
-
--- memory ran out before a module was linted, or a read of standard input failed, or the modules were linted that its
--- names stand for; its bytes are `input`, if it tells them
-abbrev pub ReadsAndLints : Terminals → Job → Bool → Option (List ℕ) → Files → Faults → Faults → End
-    → Type 0
-ReadsAndLints terminals job failed input files was is end =
-    SaysOnly (out_of_memory tree_linter) end
-    ⊎ (((failed ≡ true) × (is ≡ was) × SaysOnly read_failed end)
-    ⊎ ((failed ≡ false) × (bytes : List ℕ) × Tells input bytes
-    × Lints terminals job (paths_of_input bytes) files was is end))
-
 -- ---- runs that look at no file
 
 abbrev pub version_line : List ℕ
@@ -255,40 +221,20 @@ usage_row texts NamesTwice =
     fails_with tree_linter (codes "--null takes no names on the command line")
 usage_row texts OutOfMemory = out_of_memory tree_linter
 
--- the row of the texts is shown, or that for running out of memory
-abbrev pub ShowsUsage : List Text → Usage → End → Type 0
-ShowsUsage texts usage end =
-    SaysOnly (out_of_memory tree_linter) end ⊎ SaysOnly (usage_row texts usage) end
-
 -- ---- all runs
 
--- the end of a run with this request
-abbrev pub EndsBy : Terminals → Bool → Job → List Name → Bool → Option (List ℕ) → Files → Faults
-    → Faults → End → Type 0
-EndsBy terminals true job names failed input files was is end =
-    ReadsAndLints terminals job failed input files was is end
-EndsBy terminals false job names failed input files was is end =
-    LintsNamed terminals job names files was is end
-
-abbrev pub EndsByRequest : Terminals → Request → Bool → Option (List ℕ) → Files → Faults → Faults
-    → End → Type 0
-EndsByRequest terminals asking failed input files was is end =
-    EndsBy terminals asking.null asking.job asking.names failed input files was is end
-
--- without options the device isn't called
+-- the end of a run with this request: its names are on its line, or standard input has these bytes. Without options
+-- the device isn't called.
 abbrev pub EndsFor : Terminals → List Text → Result Request Usage → Bool → Option (List ℕ) → Files
     → Faults → Faults → End → Type 0
 EndsFor terminals texts (Ok asking) failed input files was is end =
-    EndsByRequest terminals asking failed input files was is end
+    EndsBy (Shows tree_linter (out_of_memory tree_linter) end)
+    ((is ≡ was) × Shows tree_linter (fails_with tree_linter (codes "read failed")) end)
+    (λ paths. Lints terminals asking.job paths files was is end)
+    asking.null asking.names failed input
 EndsFor terminals texts (Err usage) failed input files was is end =
-    (is ≡ was) × ShowsUsage texts usage end
-
--- the end of a run with these texts, and these other words, which are names
-abbrev pub IsEndOf : Terminals → List Text → List Name → Bool → Option (List ℕ) → Files → Faults
-    → Faults → End → Type 0
-IsEndOf terminals texts others failed input files was is end =
-    ((is ≡ was) × SaysOnly (out_of_memory tree_linter) end)
-    ⊎ EndsFor terminals texts (request_of_texts texts others) failed input files was is end
+    (is ≡ was) × (Shows tree_linter (out_of_memory tree_linter) end
+    ⊎ Shows tree_linter (usage_row texts usage) end)
 
 -- THE END of a run with these words, over these files, if these outputs are read on terminals, standard input has these
 -- bytes, and the device has these faults before and after: that of the request in the words, or memory ran out before a
@@ -296,5 +242,6 @@ IsEndOf terminals texts others failed input files was is end =
 abbrev pub IsEnd : Terminals → List (List ℕ) → Bool → Option (List ℕ) → Files → Faults → Faults
     → End → Type 0
 IsEnd terminals words failed input files was is end =
-    IsEndOf terminals (texts_in (codes "tfrules-all") words) (others_in words) failed input files
-    was is end
+    ((is ≡ was) × Shows tree_linter (out_of_memory tree_linter) end)
+    ⊎ EndsFor terminals (texts_in (codes "tfrules-all") words) (request_of_words words) failed
+    input files was is end

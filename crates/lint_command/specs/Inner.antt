@@ -1,2 +1,4 @@
 -- Definitions for the code's own parts, which its inner contracts use. Nobody has to believe them.
+pub mod Asked
 pub mod Closing
+pub mod Runs

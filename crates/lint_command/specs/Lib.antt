@@ -1,4 +1,3 @@
-pub mod Asked
 pub mod Ends
 pub mod Explained
 pub mod Inner

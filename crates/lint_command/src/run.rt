@@ -8,8 +8,9 @@ ghost use Rattle.tree_lint.specs.Numbers.{summary_line};
 ghost use Rattle.tree_lint.specs.Readers.{Leaves, has_reader_out};
 ghost use Rattle.tree_lint.specs.Refusals.{tree_linter};
 ghost use Rattle.tree_lint.specs.Runs.{worse_status};
-ghost use Rattle.lint_command.specs.Asked.{request_of, job_of};
-ghost use Rattle.lint_command.specs.Ends.{EndsByRequest, IsEnd, IsEndOf, IsFoot, LintsCollected, LintsOr, LintsNamed, ReadsAndLints, RunsThen, count_lines, fault_status, head_of, last_words, summary};
+ghost use Rattle.lint_command.specs.Inner.Asked.{request_of, job_of};
+ghost use Rattle.lint_command.specs.Ends.{IsEnd, IsFoot, RunsThen, count_lines, fault_status, head_of, last_words, summary};
+ghost use Rattle.lint_command.specs.Inner.Runs.{EndsByRequest, IsEndOf, LintsCollected, LintsOr, LintsNamed, ReadsAndLints};
 ghost use Rattle.lint_command.specs.Inner.Closing.{Closes};
 ghost use Rattle.lint_command.specs.Line.{request_of_texts, request_of_words, reads_names};
 

@@ -4,7 +4,8 @@ ghost use Rattle.std.specs.Prelude.{◌≡◌, ◌++◌, ◌⊎◌, [], IfOk, co
 ghost use Rattle.clap.specs.Words.{first_of, found_of, rows_of};
 ghost use Rattle.command_line.specs.Rows.{end_of_streams, error_line, out_of_memory};
 ghost use Rattle.file_tree.specs.Quotes.{in_quotes};
-ghost use Rattle.lint_command.specs.Ends.{SaysOnly, value_in, wrong_value};
+ghost use Rattle.lint_command.specs.Ends.{value_in, wrong_value};
+ghost use Rattle.lint_command.specs.Inner.Runs.{SaysOnly};
 ghost use Rattle.rule_lists.specs.Lists.{unknown_in};
 ghost use Rattle.tree_lint.specs.Refusals.{tree_linter};
 

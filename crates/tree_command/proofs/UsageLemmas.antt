@@ -3,7 +3,8 @@ use Rattle.std.proofs.Common.{◌≡◌, List, inr, subst, sym}
 use Rattle.clap.specs.Words.{Text}
 use Rattle.command_line.specs.Rows.{End, Program, Shows}
 use Rattle.command_line.proofs.EndLemmas.{shows_as}
-use Rattle.tree_command.specs.Ends.{ShowsUsage, usage_row}
+use Rattle.tree_command.specs.Ends.{usage_row}
+use Rattle.tree_command.specs.Inner.Runs.{ShowsUsage}
 use Rattle.tree_command.specs.Formatter.{formatter}
 use Rattle.tree_command.specs.declared.usage.Usage.{Usage}
 

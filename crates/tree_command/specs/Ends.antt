@@ -3,7 +3,6 @@ use Rattle.std.specs.Prelude.{◌≡◌, ◌≢◌, ◌⊎◌, ℕ, Bool, true, 
 use Rattle.command_line.specs.Rows.{End, Row, Shows, fails_with, message_row, out_of_memory, output_row, write_failed}
 use Rattle.clap.specs.Words.{Text}
 use Rattle.file_tree.specs.Files.{Faults, Files, Name}
-use Rattle.file_tree.specs.Files.{Tells}
 use Rattle.file_tree.specs.Finds.{AreReal, Finds}
 use Rattle.file_tree.specs.Once.{KeepsOnce}
 use Rattle.file_tree.specs.declared.walk.Found.{Found}
@@ -15,16 +14,13 @@ use Rattle.tree_format.specs.declared.outcome.Outcome.{Outcome}
 use Rattle.tree_format.specs.declared.tally.Tally.{Tally}
 use Rattle.tree_command.specs.Formatter.{formatter}
 use Rattle.tree_command.specs.FormatterWords.{formatter_words}
-use Rattle.tree_command.specs.Line.{Request, Selection, request_of_texts, selection_of}
-use Rattle.tree_words.specs.Line.{others_in, texts_in}
-use Rattle.tree_words.specs.Paths.{paths_of_input, paths_of_line}
+use Rattle.tree_command.specs.Line.{Request, Selection, request_of_words, selection_of}
+use Rattle.tree_words.specs.Ends.{EndsBy}
+use Rattle.tree_words.specs.Line.{texts_in}
 use Rattle.tree_words.specs.Shards.{picked_of}
 use Rattle.tree_words.specs.WrongWords.{bad_line_words}
 use Rattle.tree_command.specs.declared.usage.Usage.{Usage}
 use Rattle.tree_command.specs.declared.usage.Usage.TheVariants.{Help, Version, BadLine, TwoModes, BadPart, BadJobs, NamesTwice, OutOfMemory}
-
-abbrev pub read_failed : Row
-read_failed = fails_with formatter (codes "read failed")
 
 -- the last message of a run with this tally: the number of files, unless the run is quiet, or that a write failed
 abbrev pub words_at_end : Bool → Mode → Bool → Tally → List ℕ
@@ -64,27 +60,6 @@ abbrev pub SaysOnly : Row → State → State → End → Type 0
 SaysOnly row before after end =
     (after.files ≡ before.files) × (after.asked ≡ before.asked) × Shows formatter row end
 
--- memory ran out before a file was looked at, or the files were formatted
-abbrev pub FormatsOr : Bool → Bool → Mode → Selection → List Name → State → State → End → Type 0
-FormatsOr shows quiet mode selection paths before after end =
-    SaysOnly (out_of_memory formatter) before after end
-    ⊎ Formats shows quiet mode selection paths before after end
-
--- memory ran out before a file was looked at, or the files that the names of the line stand for were formatted
-abbrev pub FormatsNamed : Bool → Bool → Mode → Selection → List Name → State → State → End → Type 0
-FormatsNamed shows quiet mode selection names before after end =
-    FormatsOr shows quiet mode selection (paths_of_line names) before after end
-
--- memory ran out before a file was looked at, or a read of standard input failed, or the files were formatted that its
--- names stand for; its bytes are `input`, if it tells them
-abbrev pub ReadsAndFormats : Bool → Bool → Mode → Selection → Bool → Option (List ℕ) → State → State
-    → End → Type 0
-ReadsAndFormats shows quiet mode selection failed input before after end =
-    SaysOnly (out_of_memory formatter) before after end
-    ⊎ (((failed ≡ true) × SaysOnly read_failed before after end)
-    ⊎ ((failed ≡ false) × (bytes : List ℕ) × Tells input bytes
-    × Formats shows quiet mode selection (paths_of_input bytes) before after end))
-
 -- ---- runs that look at no file
 
 abbrev pub version_line : List ℕ
@@ -110,43 +85,24 @@ usage_row texts NamesTwice =
     message_row (codes "tffmt-all: error: --null takes no names on the command line\n") 2
 usage_row texts OutOfMemory = out_of_memory formatter
 
--- the row of the texts is shown, or that for running out of memory
-abbrev pub ShowsUsage : List Text → Usage → End → Type 0
-ShowsUsage texts usage end =
-    Shows formatter (out_of_memory formatter) end ⊎ Shows formatter (usage_row texts usage) end
-
 -- ---- all runs
 
--- the end of a run with this request
-abbrev pub EndsBy : Bool → Bool → Bool → Mode → Selection → List Name → Bool → Option (List ℕ) → State
-    → State → End → Type 0
-EndsBy shows true quiet mode selection names failed input before after end =
-    ReadsAndFormats shows quiet mode selection failed input before after end
-EndsBy shows false quiet mode selection names failed input before after end =
-    FormatsNamed shows quiet mode selection names before after end
-
-abbrev pub EndsByRequest : Bool → Request → Bool → Option (List ℕ) → State → State → End → Type 0
-EndsByRequest shows asking failed input before after end =
-    EndsBy shows asking.given.null asking.given.quiet asking.mode (selection_of asking)
-    asking.given.names failed input before after end
-
+-- the end of a run with this request: its names are on its line, or standard input has these bytes
 abbrev pub EndsFor : Bool → List Text → Result Request Usage → Bool → Option (List ℕ) → State
     → State → End → Type 0
 EndsFor shows texts (Ok asking) failed input before after end =
-    EndsByRequest shows asking failed input before after end
+    EndsBy (SaysOnly (out_of_memory formatter) before after end)
+    (SaysOnly (fails_with formatter (codes "read failed")) before after end)
+    (λ paths. Formats shows asking.given.quiet asking.mode (selection_of asking) paths before
+      after end)
+    asking.given.null asking.given.names failed input
 EndsFor shows texts (Err usage) failed input before after end =
     SaysOnly (usage_row texts usage) before after end
-
--- the end of a run with these texts, and these other words, which are names
-abbrev pub IsEndOf : Bool → List Text → List Name → Bool → Option (List ℕ) → State → State → End
-    → Type 0
-IsEndOf shows texts others failed input before after end =
-    SaysOnly (out_of_memory formatter) before after end
-    ⊎ EndsFor shows texts (request_of_texts texts others) failed input before after end
 
 -- THE END of a run with these words, if standard input has these bytes: that of the request in the words, or memory ran
 -- out before a file was looked at
 abbrev pub IsEnd : Bool → List (List ℕ) → Bool → Option (List ℕ) → State → State → End → Type 0
 IsEnd shows words failed input before after end =
-    IsEndOf shows (texts_in (codes "tffmt-all") words) (others_in words) failed input before after
-    end
+    SaysOnly (out_of_memory formatter) before after end
+    ⊎ EndsFor shows (texts_in (codes "tffmt-all") words) (request_of_words words) failed input
+    before after end

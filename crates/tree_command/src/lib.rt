@@ -3,7 +3,7 @@
 #![tactic(auto)]
 
 mod formatter_words;
-pub mod options;
-pub mod selection;
+mod options;
+mod selection;
 pub mod run;
 pub mod usage;

@@ -3,8 +3,9 @@
 ghost use Rattle.std.specs.Prelude.{◌≡◌, ◌||◌, ℕ, List, false, IfOk, Some, if◌then◌else◌, map};
 ghost use Rattle.command_line.specs.Rows.{Shows, Took, end_of_streams, writer};
 ghost use Rattle.file_tree.specs.Unchanged.{Unchanged};
-ghost use Rattle.tree_command.specs.Ends.{EndsByRequest, FormatsNamed, FormatsOr, IsEnd, IsEndOf, IsSelected, ReadsAndFormats, ShowsUsage, words_at_end};
-ghost use Rattle.tree_command.specs.Asked.{request_of, selection_view};
+ghost use Rattle.tree_command.specs.Ends.{IsEnd, IsSelected, words_at_end};
+ghost use Rattle.tree_command.specs.Inner.Runs.{EndsByRequest, FormatsNamed, FormatsOr, IsEndOf, ReadsAndFormats, ShowsUsage};
+ghost use Rattle.tree_command.specs.Inner.Asked.{request_of, selection_view};
 ghost use Rattle.tree_command.specs.Formatter.{formatter};
 ghost use Rattle.tree_command.specs.Line.{request_of_texts, request_of_words, mode_of_texts, mode_of_words, reads_names};
 ghost use Rattle.tree_command.specs.declared.usage.Usage.TheVariants.{BadLine};

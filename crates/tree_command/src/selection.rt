@@ -1,7 +1,7 @@
 //! The files that are taken, among those that names stand for.
 
 ghost use Rattle.std.specs.Prelude.{◌≡◌};
-ghost use Rattle.tree_command.specs.Asked.{request_of, selection_view};
+ghost use Rattle.tree_command.specs.Inner.Asked.{request_of, selection_view};
 ghost use Rattle.tree_command.specs.Line.{selection_of};
 
 use crate::options::TreeOptions;

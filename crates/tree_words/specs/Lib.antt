@@ -1,3 +1,4 @@
+pub mod Ends
 pub mod Line
 pub mod Paths
 pub mod Shards

@@ -1,5 +1,5 @@
 use Rattle.std.proofs.Common.{inl, map}
-use Rattle.lint_command.specs.Asked.{job_of}
+use Rattle.lint_command.specs.Inner.Asked.{job_of}
 use Rattle.lint_command.proofs.EndingLemmas.{lints_collected}
 use Rattle.lint_command.proofs.UsageLemmas.{memory_said}
 use Rattle.lint_command.proofs.run.lint.Goals as goal

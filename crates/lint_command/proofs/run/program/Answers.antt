@@ -3,7 +3,7 @@ use Rattle.command_line.specs.Rows.{end_of}
 use Rattle.std.specs.Borrow.{Bor}
 use Rattle.tree_words.specs.Line.{others_in, texts_in}
 use Rattle.lint_command.specs.Line.{request_of_texts, reads_names}
-use Rattle.lint_command.specs.Ends.{IsEndOf}
+use Rattle.lint_command.specs.Inner.Runs.{IsEndOf}
 use Rattle.lint_command.proofs.UsageLemmas.{memory_said}
 use Rattle.lint_command.proofs.run.program.Goals as goal
 

@@ -1,5 +1,5 @@
 use Rattle.std.proofs.Common.{◌≡◌, map}
-use Rattle.tree_command.specs.Asked.{selection_view}
+use Rattle.tree_command.specs.Inner.Asked.{selection_view}
 use Rattle.tree_command.specs.Ends.{IsSelected}
 use Rattle.tree_words.specs.Shards.{picked_of}
 use Rattle.tree_command.proofs.PathLemmas.{if_ok_more}

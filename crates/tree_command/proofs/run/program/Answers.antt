@@ -1,7 +1,7 @@
 use Rattle.std.proofs.Common.{◌∙◌, List, ℕ, ap, codes, map, subst}
 use Rattle.command_line.specs.Rows.{end_of}
 use Rattle.std.specs.Borrow.{Bor}
-use Rattle.tree_command.specs.Ends.{IsEndOf}
+use Rattle.tree_command.specs.Inner.Runs.{IsEndOf}
 use Rattle.tree_command.specs.Line.{request_of_texts, mode_of_texts, reads_names}
 use Rattle.tree_words.specs.Line.{others_in, texts_in}
 use Rattle.tree_format.specs.States.{state_of}

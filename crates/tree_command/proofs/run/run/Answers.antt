@@ -1,5 +1,5 @@
 use Rattle.std.proofs.Common.{◌∙◌, inr, map, refl, subst, sym}
-use Rattle.tree_command.specs.Asked.{selection_view}
+use Rattle.tree_command.specs.Inner.Asked.{selection_view}
 use Rattle.tree_command.specs.Ends.{IsSelected}
 use Rattle.tree_command.proofs.ProgramRunLemmas.{formats_finished, formats_stopped}
 use Rattle.tree_command.proofs.run.run.Goals as goal
