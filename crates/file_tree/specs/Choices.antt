@@ -46,11 +46,13 @@ without_slash name = if ends (codes "/") name then take (length name - 1) name e
 -- a part of a path has this name
 abbrev pub has_part : Name → Name → Bool
 has_part name path =
-    list_any (λ part. is_step part && bytes_eq part (without_slash name)) (slice_split (λ b. b == 47) path)
+    list_any (λ part. is_step part && bytes_eq part (without_slash name))
+    (slice_split (λ b. b == 47) path)
 
 -- a path is that of a folder, or is below it; the current folder isn't excluded
 abbrev pub is_at : Name → Name → Bool
-is_at folder path = nat_lt 0 (length folder) && (bytes_eq path (without_slash folder) || begins folder path)
+is_at folder path = nat_lt 0 (length folder)
+    && (bytes_eq path (without_slash folder) || begins folder path)
 
 -- EXCLUDED is a path with one of the names, one of the paths, and everything below
 abbrev pub is_excluded : Chosen → Name → Bool

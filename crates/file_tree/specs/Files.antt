@@ -14,15 +14,11 @@ Name = List ℕ
 -- the identity of a file
 abbrev pub identity_of : Kind → Option Identity
 identity_of (File identity) = Some identity
-identity_of Folder = None
-identity_of Link = None
-identity_of Other = None
+identity_of _ = None
 
 abbrev pub is_link : Kind → Bool
-is_link (File identity) = false
-is_link Folder = false
 is_link Link = true
-is_link Other = false
+is_link _ = false
 
 -- for each name, as far as the device tells it:
 pub record Files : Type 0 where

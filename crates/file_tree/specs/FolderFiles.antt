@@ -26,7 +26,8 @@ IsInBy files folder name (Some fault) file =
 pub record FindsIn (files : Files) (folder : Name) (found : List Found) : Type 0 where
   pub rises : Rises found
   pub real : (f : Found) → Contains found f → IsInBy files folder f.name.items f.fault f.file
-  pub all : (last : Name) → HasFile surely files whole_tree folder last → HasName found (place folder)
+  pub all : (last : Name) → HasFile surely files whole_tree folder last
+      → HasName found (place folder)
       ⊎ HasName found (folder ++ last)
 
 -- EACH REPORT IS REAL: if the device tells the faults of its calls, each reported name has that of a failed call of its

@@ -101,7 +101,8 @@ impl Walk {
         fault: Option<TreeFault>,
         file: Option<FoundFile>,
     ) -> Result<(), AllocError>
-        ensures { OnOk result (Adds name.items fault file (walk_view self.old) (walk_view self.new)) }
+        ensures { OnOk result
+            (Adds name.items fault file (walk_view self.old) (walk_view self.new)) }
     {
         let found = Found { name, fault, file };
         match self.found.push(found) {
@@ -252,8 +253,8 @@ impl Walk {
         tree: &mut T,
     ) -> Result<(), AllocError>
         ensures unchanged { Unchanged T.Tree tree.old tree.new }
-        ensures takes { OnOk result (TakesEntry (T.files tree.old) (chooser_view chooser.now) folder.now
-            name.now (walk_view self.old) (walk_view self.new)) }
+        ensures takes { OnOk result (TakesEntry (T.files tree.old) (chooser_view chooser.now)
+            folder.now name.now (walk_view self.old) (walk_view self.new)) }
         ensures hears { OnOk result (Hears (walk_view self.old).found (walk_view self.new).found
             (T.faults tree.old) (T.faults tree.new)) }
     {
@@ -264,7 +265,12 @@ impl Walk {
         if chooser.is_excluded(path.as_slice()) {
             return Ok(());
         }
-        self.take_met(alloc, chooser.takes_specials(), FolderEntry { name, path }, tree)
+        self.take_met(
+            alloc,
+            chooser.takes_specials(),
+            FolderEntry { name, path },
+            tree,
+        )
     }
 
     /// Looks at the entries of a folder under these names.
@@ -277,8 +283,8 @@ impl Walk {
         tree: &mut T,
     ) -> Result<(), AllocError>
         ensures unchanged { Unchanged T.Tree tree.old tree.new }
-        ensures takes { OnOk result (TakesAll (T.files tree.old) (chooser_view chooser.now) folder.now
-            (map (λ name. name.now) names.now) (walk_view self.old) (walk_view self.new)) }
+        ensures takes { OnOk result (TakesAll (T.files tree.old) (chooser_view chooser.now)
+            folder.now (map (λ name. name.now) names.now) (walk_view self.old) (walk_view self.new)) }
         ensures hears { OnOk result (Hears (walk_view self.old).found (walk_view self.new).found
             (T.faults tree.old) (T.faults tree.new)) }
     {
@@ -298,8 +304,8 @@ impl Walk {
         tree: &mut T,
     ) -> Result<(), AllocError>
         ensures unchanged { Unchanged T.Tree tree.old tree.new }
-        ensures takes { OnOk result (TakesFolder (T.files tree.old) (chooser_view chooser.now) folder.now
-            (walk_view self.old) (walk_view self.new)) }
+        ensures takes { OnOk result (TakesFolder (T.files tree.old) (chooser_view chooser.now)
+            folder.now (walk_view self.old) (walk_view self.new)) }
         ensures hears { OnOk result (Hears (walk_view self.old).found (walk_view self.new).found
             (T.faults tree.old) (T.faults tree.new)) }
     {
@@ -379,8 +385,8 @@ impl Walk {
         requires allowed { is_excluded (chooser_view chooser.now) (tidy_path operand.path.now) ≡ false }
         requires told { Tells ((T.files tree.old).kind operand.path.now) kind }
         ensures unchanged { Unchanged T.Tree tree.old tree.new }
-        ensures takes { OnOk result (TakesKindGiven (T.files tree.old) (chooser_view chooser.now) kind
-            operand.entry.path.now (walk_view self.old) (walk_view self.new)) }
+        ensures takes { OnOk result (TakesKindGiven (T.files tree.old) (chooser_view chooser.now)
+            kind operand.entry.path.now (walk_view self.old) (walk_view self.new)) }
         ensures hears { OnOk result (HearsGiven (T.files tree.old) (chooser_view chooser.now)
             operand.entry.path.now (walk_view self.old).found (walk_view self.new).found
             (T.faults tree.old) (T.faults tree.new)) }
@@ -432,10 +438,10 @@ impl Walk {
         tree: &mut T,
     ) -> Result<(), AllocError>
         ensures unchanged { Unchanged T.Tree tree.old tree.new }
-        ensures takes { OnOk result (TakesGiven (T.files tree.old) (chooser_view chooser.now) path.now
-            (walk_view self.old) (walk_view self.new)) }
-        ensures hears { OnOk result (HearsGiven (T.files tree.old) (chooser_view chooser.now) path.now
-            (walk_view self.old).found (walk_view self.new).found
+        ensures takes { OnOk result (TakesGiven (T.files tree.old) (chooser_view chooser.now)
+            path.now (walk_view self.old) (walk_view self.new)) }
+        ensures hears { OnOk result (HearsGiven (T.files tree.old) (chooser_view chooser.now)
+            path.now (walk_view self.old).found (walk_view self.new).found
             (T.faults tree.old) (T.faults tree.new)) }
     {
         let tidied = tidy(alloc, path)?;
@@ -523,8 +529,8 @@ impl Search {
         tree: &mut T,
     ) -> Result<(), AllocError>
         ensures unchanged { Unchanged T.Tree tree.old tree.new }
-        ensures looks { OnOk result (LooksInto (T.files tree.old) (chooser_view chooser.now) folder.items
-            (T.faults tree.old) (T.faults tree.new) self.old self.new) }
+        ensures looks { OnOk result (LooksInto (T.files tree.old) (chooser_view chooser.now)
+            folder.items (T.faults tree.old) (T.faults tree.new) self.old self.new) }
     {
         let mut here = Walk {
             found: Vec::new(alloc),

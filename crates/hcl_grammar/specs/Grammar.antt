@@ -44,11 +44,10 @@ pub data Action : Type 0 where
 -- the row of a symbol that begins with another: that one's row, with these symbols after it
 infixl 5 ◌then◌
 abbrev pub ◌then◌ : Action → List Marked → Action
-none then ss = none
-nothing then ss = none
 (reads xs) then ss = reads (xs ++ ss)
 (opens n xs) then ss = opens n (xs ++ ss)
 (closes xs) then ss = closes (xs ++ ss)
+_ then ss = none
 
 -- whether a terminal expects a token of the class
 abbrev pub fits : Terminal → Class → Bool

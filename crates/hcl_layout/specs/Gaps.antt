@@ -16,9 +16,8 @@ use Rattle.hcl_layout.specs.Columns.{columns}
 
 -- f on the members of two lists in step
 abbrev pub zip_with : {A B C : Type 0} → (A → B → C) → List A → List B → List C
-zip_with f [] ys = []
-zip_with f (x ∷ xs) [] = []
 zip_with f (x ∷ xs) (y ∷ ys) = f x y ∷ zip_with f xs ys
+zip_with _ _ _ = []
 
 -- ---- a line by itself
 
@@ -46,10 +45,8 @@ clusters t = length (graphemes true t.text)
 
 -- the width before the token at a place: the gaps and the texts of those before it, and the gap before none of them
 abbrev pub width : ℕ → List ℕ → Line → ℕ
-width zero gaps line = 0
-width (suc i) [] line = 0
-width (suc i) (g ∷ gaps) [] = 0
 width (suc i) (g ∷ gaps) (t ∷ line) = g + clusters t + width i gaps line
+width _ _ _ = 0
 
 -- the widths before the cells of the lines that are part of runs
 abbrev pub widths : (Line → Option ℕ) → List (List ℕ) → List Line → List (Option ℕ)
@@ -70,10 +67,8 @@ align cell gaps line column = set_gap (cell line) gaps line column
 
 abbrev pub aligned_gaps_by : (Line → Option ℕ) → List (List ℕ) → List Line → List (Option ℕ)
     → List (List ℕ)
-aligned_gaps_by cell [] ls cs = []
-aligned_gaps_by cell (g ∷ gs) [] cs = []
-aligned_gaps_by cell (g ∷ gs) (l ∷ ls) [] = []
 aligned_gaps_by cell (g ∷ gs) (l ∷ ls) (c ∷ cs) = align cell g l c ∷ aligned_gaps_by cell gs ls cs
+aligned_gaps_by _ _ _ _ = []
 
 -- the cells of all lines set to their columns: `running` says which lines are part of runs
 abbrev pub aligned_gaps : (Line → Option ℕ) → (Line → Option ℕ) → List (List ℕ) → List Line

@@ -5,9 +5,8 @@ use Rattle.hcl_tokens.specs.Lexemes.{Lexeme}
 use Rattle.hcl_layout.specs.Gaps.{gaps}
 
 abbrev pub printed_text : List ℕ → List Lexeme → List ℕ
-printed_text [] ts = []
-printed_text (g ∷ gs) [] = []
 printed_text (g ∷ gs) (t ∷ ts) = (replicate g 32 ++ t.text) ++ printed_text gs ts
+printed_text _ _ = []
 
 abbrev pub print : List Lexeme → List ℕ
 print ts = printed_text (gaps ts) ts

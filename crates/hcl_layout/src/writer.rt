@@ -142,7 +142,8 @@ fn send_past<W: ByteSink>(to: &mut W, buffer: &mut Buffer, text: &[u8]) -> Resul
     ensures err { IfErr result (Fails (W.taken to.old) (W.taken to.new) buffer.old text.now) }
     ensures failed { W.failed to.new ≡ is_err result }
     ensures flushes { W.flushes to.new ≡ W.flushes to.old }
-    ensures count { OnOk result (passed_count buffer.new ≡ passed_count buffer.old + length text.now) }
+    ensures count { OnOk result (passed_count buffer.new
+        ≡ passed_count buffer.old + length text.now) }
 {
     if let Err(fault) = write_fully(to, text) {
         return Err(WriteFault {
@@ -163,7 +164,8 @@ fn push<W: ByteSink>(to: &mut W, buffer: &mut Buffer, text: &[u8]) -> Result<(),
     ensures err { IfErr result (Fails (W.taken to.old) (W.taken to.new) buffer.old text.now) }
     ensures failed { W.failed to.new ≡ is_err result }
     ensures flushes { W.flushes to.new ≡ W.flushes to.old }
-    ensures count { OnOk result (passed_count buffer.new ≡ passed_count buffer.old + length text.now) }
+    ensures count { OnOk result (passed_count buffer.new
+        ≡ passed_count buffer.old + length text.now) }
 {
     if text.len() <= 8192 - buffer.len {
         buffer.hold(text);
@@ -228,7 +230,8 @@ fn push_text<W: ByteSink>(
         (Fails (W.taken to.old) (W.taken to.new) buffer.old (replicate gap 32 ++ text.now)) }
     ensures failed { W.failed to.new ≡ is_err result }
     ensures flushes { W.flushes to.new ≡ W.flushes to.old }
-    ensures count { OnOk result (passed_count buffer.new ≡ passed_count buffer.old + gap + length text.now) }
+    ensures count { OnOk result (passed_count buffer.new
+        ≡ passed_count buffer.old + gap + length text.now) }
 {
     if let Err(fault) = push_blanks(to, buffer, gap) {
         return Err(fault);
@@ -255,7 +258,8 @@ fn push_stretch<W: ByteSink>(
         (Fails (W.taken to.old) (W.taken to.new) buffer.old (stretch_text source.now stretch)) }
     ensures failed { W.failed to.new ≡ is_err result }
     ensures flushes { W.flushes to.new ≡ W.flushes to.old }
-    ensures count { OnOk result (passed_count buffer.new ≡ passed_count buffer.old + stretch_len stretch) }
+    ensures count { OnOk result (passed_count buffer.new
+        ≡ passed_count buffer.old + stretch_len stretch) }
 {
     let (start, end) = (stretch.start, stretch.end);
     if !buffer.has_room(stretch) {

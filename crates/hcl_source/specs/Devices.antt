@@ -1,7 +1,5 @@
 -- The meaning of devices' answers: our own words for our own devices.
-use Rattle.std.specs.Prelude.{◌≡◌, ℕ, ◌<◌, Bool, true, false, Option, Some, None, Result, Ok, Err}
-use Rattle.hcl_source.specs.declared.device.ReadError.{ReadError}
-use Rattle.hcl_source.specs.declared.device.ReadError.TheVariants.{Failed}
+use Rattle.std.specs.Prelude.{◌≡◌, ℕ, ◌<◌, Option, Some, None, Result, Ok, Err}
 use Rattle.hcl_source.specs.declared.device.Flushes.{Flushes}
 use Rattle.hcl_source.specs.declared.device.Flushes.TheVariants.{Never, Once, Often}
 
@@ -14,11 +12,6 @@ TookSome (Err e) = ⊥
 abbrev pub Tells : {X : Type 0} → Option X → X → Type 0
 Tells None x = Unit {0}
 Tells (Some told) x = told ≡ x
-
--- a reading ended because a read failed
-abbrev pub is_read_failed : {X : Type 0} → Result X ReadError → Bool
-is_read_failed (Err Failed) = true
-is_read_failed _ = false
 
 -- the count of a sink's flushes, after one more flush
 abbrev pub one_more : Flushes → Flushes

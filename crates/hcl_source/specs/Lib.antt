@@ -1,6 +1,7 @@
 pub mod Devices
-pub mod Memory
 pub mod FaultTexts
-pub mod Places
+pub mod Inner
 pub mod Load
+pub mod Memory
+pub mod Places
 pub mod Simple

@@ -53,8 +53,7 @@ abbrev pub Loads : List ℕ → Option (List ℕ) → Result (List ℕ) LoadErro
 Loads bytes left (Ok source) = (source ≡ bytes) × IsText bytes × IsAtEnd left
 Loads bytes left (Err (error.Fault fault)) =
     IsLoadFault bytes fault × (length bytes ≤ max_source → IsAtEnd left)
-Loads bytes left (Err error.ReadFailed) = Unit {0}
-Loads bytes left (Err error.OutOfMemory) = Unit {0}
+Loads bytes left (Err _) = Unit {0}
 
 -- loading ended because a read failed
 abbrev pub is_failed_load : Result (List ℕ) LoadError → Bool

@@ -5,7 +5,8 @@ ghost use Rattle.std.specs.Io.KnownBytes.{Keeps, Appends, WriteAppends, Consumes
 ghost use Rattle.std.specs.Io.{ReadsAtMost};
 ghost use Rattle.std.specs.Vec.{vec_len};
 ghost use Rattle.hcl_source.specs.Load.{max_source};
-ghost use Rattle.hcl_source.specs.Devices.{is_read_failed, one_more, TookSome};
+ghost use Rattle.hcl_source.specs.Devices.{one_more, TookSome};
+ghost use Rattle.hcl_source.specs.Inner.Reads.{is_read_failed};
 ghost use Rattle.hcl_source.specs.declared.device.Flushes.{Flushes};
 
 use std::alloc::Global;

@@ -94,7 +94,8 @@ fn rules_taken(text: Option<&str>) -> Result<Option<RuleSet>, Usage>
 /// The naming that a text requests, if there is one.
 fn naming_taken(text: Option<&str>) -> Result<Option<Naming>, Usage>
     ensures { result
-        ≡ value_or_usage BadNaming (option_map naming_of_text (option_map (λ text. text.now) text.entry)) }
+        ≡ value_or_usage BadNaming
+        (option_map naming_of_text (option_map (λ text. text.now) text.entry)) }
 {
     let Some(text) = text else {
         return Ok(None);

@@ -3,7 +3,7 @@
 ghost use Rattle.std.specs.Prelude.{◌≡◌, IfOk, string_bytes};
 ghost use Rattle.lint_config.specs.Texts.{fault_words, reason, wrong_word};
 
-use crate::parts::{without_comment, parts};
+use crate::parts::{parts, without_comment};
 use file_tree::quote::push_in_quotes;
 use rule_lists::unknown_in;
 use std::alloc::{AllocError, Global};

@@ -3,10 +3,11 @@
 ghost use Rattle.std.specs.Prelude.{◌≡◌};
 ghost use Rattle.lint_config.specs.Lines.{with_line, with_option};
 ghost use Rattle.lint_config.specs.Inner.Given.{with_checks, with_force, with_minimum, with_naming, with_rules};
-ghost use Rattle.lint_config.specs.Options.{options_of, said_by};
+ghost use Rattle.lint_config.specs.Options.{options_of};
+ghost use Rattle.lint_config.specs.Inner.Said.{said_by};
 
 use crate::fault::ConfigFault;
-use crate::parts::{without_comment, parts};
+use crate::parts::{parts, without_comment};
 use crate::said::Said;
 use rule_lists::{ListFault, rules_in};
 use tfrules_command::options::{naming_of_text, severity_of_text};

@@ -202,7 +202,8 @@ fn write_rule(alloc: Global, writer: &mut Writer, rule: Rule) -> Result<(), Allo
 
 /// The document's description of a rule's substitute, by this name and text.
 fn write_briefly<'a>(writer: &mut Writer, name: &'a str, short: &'a str) -> Result<(), AllocError>
-    ensures { AddsTokens result writer.old writer.new (json_tokens (brief_rule name.now short.now)) }
+    ensures { AddsTokens result writer.old writer.new
+        (json_tokens (brief_rule name.now short.now)) }
 {
     write_parts(
         writer,

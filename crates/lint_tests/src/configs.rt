@@ -382,7 +382,10 @@ fn fails_a_search(calls: &Calls) -> bool {
 }
 
 /// Both modules, and the entries beside them.
-fn all_of<'a>(alloc: Global, entries: &[MemoryEntry<'a>]) -> Result<Vec<MemoryEntry<'a>>, AllocError> {
+fn all_of<'a>(
+    alloc: Global,
+    entries: &[MemoryEntry<'a>],
+) -> Result<Vec<MemoryEntry<'a>>, AllocError> {
     let mut all = Vec::new(alloc);
     all.extend_from_slice(&MODULES)?;
     all.extend_from_slice(entries)?;

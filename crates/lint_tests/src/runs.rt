@@ -206,7 +206,14 @@ fn a_refused_module_stops_no_other(rt: HostRuntime) {
 fn the_status_is_the_worst(rt: HostRuntime) {
     shows(&rt, rt.alloc(), steady_run(C_ALONE), "", "", 0);
     shows(&rt, rt.alloc(), steady_run(D_BETWEEN), D_REPORT, "", 2);
-    shows(&rt, rt.alloc(), steady_run(B_THEN_D), D_REPORT, B_REFUSAL, 1);
+    shows(
+        &rt,
+        rt.alloc(),
+        steady_run(B_THEN_D),
+        D_REPORT,
+        B_REFUSAL,
+        1,
+    );
     shows(&rt, rt.alloc(), steady_run(EMPTY_THEN_A), A_REPORT, "", 2);
     shows(&rt, rt.alloc(), steady_run(NONE), "", "", 0);
 }

@@ -34,11 +34,10 @@ IsRead files name was is (Unread fault) = is ≡ with_fault was (Some fault)
 
 abbrev pub AreRead : Files → List Found → List ConfigFile → Faults → Faults → Type 0
 AreRead files [] [] was is = is ≡ was
-AreRead files [] (c ∷ cs) was is = ⊥
-AreRead files (f ∷ fs) [] was is = ⊥
 AreRead files (f ∷ fs) (c ∷ cs) was is =
     (between : Faults) × (c.name.items ≡ f.name.items)
     × IsRead files c.name.items was between c.text × AreRead files fs cs between is
+AreRead _ _ _ was is = ⊥
 
 -- these names in their order, each once, and why one can't be looked at
 abbrev pub noted_of : Found → Name × Option TreeFault

@@ -73,12 +73,11 @@ IsPlaced _ files _ folder was is g = (g ≡ governor.Free) × (is ≡ was)
 
 abbrev pub ArePlaced : Files → Start → List Module → List Placed → Faults → Faults → Type 0
 ArePlaced files start [] [] was is = is ≡ was
-ArePlaced files start [] (p ∷ ps) was is = ⊥
-ArePlaced files start (m ∷ ms) [] was is = ⊥
 ArePlaced files start (m ∷ ms) (p ∷ ps) was is =
     (between : Faults) × (p.module ≡ m)
     × IsPlaced (wants m) files start m.folder.items was between p.governor
     × ArePlaced files start ms ps between is
+ArePlaced _ _ _ _ was is = ⊥
 
 -- a full path as it is shown: from the current folder, if it is below it
 abbrev pub shown_from : Start → Name → Name

@@ -160,9 +160,8 @@ IsModule files looked folder m told was is =
 abbrev pub AreModules : Files → List ListedFolder → List Found → List Module → List Found → Faults
     → Faults → Type 0
 AreModules files looked [] [] told was is = (told ≡ []) × (is ≡ was)
-AreModules files looked [] (m ∷ ms) told was is = ⊥
-AreModules files looked (d ∷ ds) [] told was is = ⊥
 AreModules files looked (d ∷ ds) (m ∷ ms) told was is =
     (here rest : List Found) × (between : Faults) × (told ≡ here ++ rest)
     × IsModule files looked d.name.items m here was between
     × AreModules files looked ds ms rest between is
+AreModules _ _ _ _ told was is = ⊥

@@ -1,7 +1,7 @@
 //! The reports for small modules, worked out by hand.
 
 use crate::checks::holds;
-use crate::reports::{add, settings_for, has_issues};
+use crate::reports::{add, has_issues, settings_for};
 use std::alloc::{AllocError, Global};
 use std::process::Abort;
 use std::test::Fail;

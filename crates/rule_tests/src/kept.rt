@@ -1,6 +1,6 @@
 //! The stored facts of small files, by their issues, worked out by hand.
 
-use crate::reports::{add, settings_for, has_issues};
+use crate::reports::{add, has_issues, settings_for};
 use std::alloc::{AllocError, Global};
 use std::process::Abort;
 use std::test::Fail;

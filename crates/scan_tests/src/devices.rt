@@ -1,7 +1,7 @@
 //! Devices over readers and writers of std that fail once and then work. No contract sees how often a device calls the
 //! reader or writer below it.
 
-use crate::checks::{flushes, holds, reads, check_same, same_bytes, writes_fully};
+use crate::checks::{check_same, flushes, holds, reads, same_bytes, writes_fully};
 use hcl_source::{Failed, FromRead, LoadError, Source, ToWrite, WriteFault};
 use std::alloc::Global;
 use std::io;

@@ -1,6 +1,6 @@
 //! Calls with ample memory, compared with answers worked out by hand.
 
-use crate::checks::{flushes, holds, check_same, same_text, writes_fully};
+use crate::checks::{check_same, flushes, holds, same_text, writes_fully};
 use hcl_source::{
     ByteSource, Fault, FaultKind, FromRead, LoadError, MAX_SOURCE, Position, Source, ToWrite,
 };

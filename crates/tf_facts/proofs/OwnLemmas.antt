@@ -3,7 +3,8 @@ use Rattle.std.proofs.Common.{MatchBool, ◌≡◌, ◌∙◌, ap, sym, refl, �
 use Rattle.std.specs.Prelude.{◌&&◌, ◌||◌, nat_le, nat_lt, codes, Some, None, Option, slice_get, filter, ◌==◌}
 use Rattle.std.proofs.lemmas.Bool.{lt-ltb, le-ltb, lt-leb}
 use Rattle.std.specs.Str.{bytes_eq}
-use Rattle.tf_facts.specs.VariableBlocks.{block_view, AreDisjoint, ArePassed}
+use Rattle.tf_facts.specs.VariableBlocks.{AreDisjoint}
+use Rattle.tf_facts.specs.Inner.Blocks.{block_view, ArePassed}
 use Rattle.hcl_tokens.specs.Lexemes.{Lexeme}
 use Rattle.hcl_grammar.specs.Numbered.{Numbered, number_tokens}
 use Rattle.hcl_grammar.specs.Items.{is_closed, outline}

@@ -12,7 +12,7 @@ use Rattle.hcl_grammar.specs.declared.item.Item.TheVariants as item
 use Rattle.hcl_grammar.proofs.NumberedLemmas.{drop_at}
 use Rattle.tf_facts.specs.Declarations.{is_kind, Attribute, Declaration, Declarer, attributes_in, by_declarer, declarer, has, is_empty, labels_in, of_block, of_local}
 use Rattle.tf_facts.specs.References.{VariableSpan, last_of, variable_blocks_of_item, variable_blocks_of_items}
-use Rattle.tf_facts.specs.VariableBlocks.{block_view}
+use Rattle.tf_facts.specs.Inner.Blocks.{block_view}
 use Rattle.tf_facts.specs.declared.declaration_kind.DeclarationKind.TheVariants as declares
 use Rattle.tf_facts.specs.declared.variable_block.VariableBlock.{VariableBlock}
 use Rattle.tf_facts.proofs.OwnLemmas.{no_locals}

@@ -22,10 +22,12 @@ struct LabelAt<'s> {
 /// The label of this number in the outline, if it is one.
 fn label_at<'s>(accepted: &Accepted<'_, 's>, items: &Outline, number: usize) -> Option<LabelAt<'s>>
     requires { items.now ≡ outline accepted.now.tokens }
-    ensures { MatchOption result (labels_in (number_tokens accepted.now.tokens) (drop number items.now)
+    ensures { MatchOption result
+        (labels_in (number_tokens accepted.now.tokens) (drop number items.now)
         ≡ [])
         (λ label. labels_in (number_tokens accepted.now.tokens) (drop number items.now)
-        ≡ label.text.now ∷ labels_in (number_tokens accepted.now.tokens) (drop label.next items.now)) }
+        ≡ label.text.now
+        ∷ labels_in (number_tokens accepted.now.tokens) (drop label.next items.now)) }
 {
     if number >= items.len() {
         return None;
@@ -43,7 +45,8 @@ fn label_at<'s>(accepted: &Accepted<'_, 's>, items: &Outline, number: usize) -> 
 /// The labels of the block whose items begin at this one.
 pub fn names<'s>(accepted: &Accepted<'_, 's>, items: &Outline, from: usize) -> Names<'s>
     requires { items.now ≡ outline accepted.now.tokens }
-    ensures { AreNames result (labels_in (number_tokens accepted.now.tokens) (drop from items.now)) }
+    ensures { AreNames result
+        (labels_in (number_tokens accepted.now.tokens) (drop from items.now)) }
 {
     let Some(first) = label_at(accepted, items, from) else {
         return Names::None;
@@ -100,7 +103,8 @@ fn is_attribute(item: Item) -> bool
 /// The body with this item alone, if it is an attribute directly in the body of a top-level block.
 fn body_of_item(accepted: &Accepted<'_, '_>, item: Item) -> Body
     requires { (i : ℕ) × (slice_get (outline accepted.now.tokens) i ≡ Some item) }
-    ensures { result ≡ body_of (with_attribute (attribute (number_tokens accepted.now.tokens) item) []) }
+    ensures { result
+        ≡ body_of (with_attribute (attribute (number_tokens accepted.now.tokens) item) []) }
 {
     let Item::Attribute {
         level,

@@ -84,7 +84,8 @@ fn is_module(kind: DeclarationKind) -> bool
 fn module_source(accepted: &Accepted<'_, '_>, value: Option<Value>) -> Option<FoundSource>
     requires { IfSome value (λ v. v.end ≤ length accepted.now.tokens) }
     ensures { (a : Option Attribute) → option_map value_of_attribute a ≡ value
-        → option_map found_source result ≡ source_of_attribute (number_tokens accepted.now.tokens) a }
+        → option_map found_source result
+        ≡ source_of_attribute (number_tokens accepted.now.tokens) a }
 {
     let Some(value) = value else {
         return None;
@@ -152,7 +153,10 @@ fn declared_by<'s>(
 }
 
 /// Pushes the declaration, if there is one.
-fn push_declaration<'s>(declared: Option<Declared<'s>>, found: &mut Vec<Declared<'s>>) -> Result<(), AllocError>
+fn push_declaration<'s>(
+    declared: Option<Declared<'s>>,
+    found: &mut Vec<Declared<'s>>,
+) -> Result<(), AllocError>
     ensures { OnOk result (map declaration found.new.items
         ≡ map declaration found.old.items ++ declared_list declared.entry) }
 {

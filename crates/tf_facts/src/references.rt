@@ -8,7 +8,8 @@ ghost use Rattle.indexmap.specs.IndexSet.{insert_all};
 ghost use Rattle.tf_facts.specs.References.{is_self_reference, reference_at, references_from, unless_self_reference};
 ghost use Rattle.tf_facts.specs.Inner.Seen.{AreNoIdents, IsIdentAt, seen_from, numbered_of};
 ghost use Rattle.tf_facts.specs.Inner.Spelled.{spelling_of};
-ghost use Rattle.tf_facts.specs.VariableBlocks.{block_view, AreDisjoint, ArePassed, Extends, IsAhead};
+ghost use Rattle.tf_facts.specs.VariableBlocks.{AreDisjoint};
+ghost use Rattle.tf_facts.specs.Inner.Blocks.{block_view, ArePassed, Extends, IsAhead};
 
 use crate::reference::{Reference, is_ident, may_be_named, reference_at};
 use crate::seen::{SeenToken, is_after_dot};

@@ -68,8 +68,7 @@ unpinned_findings_by d quote NotPinned =
     says_of (about d (codes " source is not pinned")) quote ∷ []
 unpinned_findings_by d quote (DefaultBranch branch) =
     says_of (about d (codes " source uses a default branch: " ++ branch)) quote ∷ []
-unpinned_findings_by d quote Other = []
-unpinned_findings_by d quote Registry = []
+unpinned_findings_by d quote _ = []
 
 abbrev pub unpinned_findings : {P : Type 0} → Declaration P → Option (SourceAt P) → List (Finding P)
 unpinned_findings d None = []

@@ -253,7 +253,10 @@ impl Facts {
 
     /// The issues of all requested rules, silenced or not: first by rules, then by declarations. They are sorted
     /// afterwards, so any order is right, and this one is nearly sorted.
-    fn reported_entries<'f>(&'f self, settings: &Settings) -> Result<Vec<IssueEntry<'f>>, AllocError>
+    fn reported_entries<'f>(
+        &'f self,
+        settings: &Settings,
+    ) -> Result<Vec<IssueEntry<'f>>, AllocError>
         ensures { IfOk result (λ entries. IsPermutation (flat_map (λ rule. map (issue_at rule)
             (findings settings.now.naming self.now.references self.now.facts rule))
             (rules_of settings.now.rules)) (issues_of entries.items)) }

@@ -7,7 +7,7 @@ ghost use Rattle.tf_rules.specs.Stored.{issue_at};
 ghost use Rattle.tf_rules.specs.Inner.Entries.{issues_of, finding_listed, issues_declared};
 ghost use Rattle.tf_rules.specs.Inner.StoredViews.{stored_comment, stored_declaration, place_of};
 
-use crate::entry::{IssueEntry, Finding, Statement};
+use crate::entry::{Finding, IssueEntry, Statement};
 use crate::finding::{Inputs, push_findings};
 use crate::settings::Settings;
 use crate::stored::{StoredComment, StoredDeclaration, TokenPlace};

@@ -22,7 +22,8 @@ use Rattle.tf_rules.proofs.StoredLemmas.{stored_of_more}
 use Rattle.tfrules_command.specs.Files.{NamedFile, IsAcceptedAs, max_module, numbered_files, size_of}
 use Rattle.hcl_source.specs.Devices.{Tells}
 use Rattle.tfrules_command.specs.Inner.Steps.{AreFine, Adds, ReadsFile, StopsAt, StopsBy, stop_by, stop_of_scan}
-use Rattle.tfrules_command.specs.Keeping.{Added, Keeps, KeepsTokens, Reached, ScansFile}
+use Rattle.tfrules_command.specs.Keeping.{Added, KeepsTokens, Reached, ScansFile}
+use Rattle.tfrules_command.specs.Inner.Keeping.{Keeps}
 use Rattle.tfrules_command.specs.declared.gather.ScannedFile.{ScannedFile}
 use Rattle.tfrules_command.specs.declared.stop.Stop.{Stop}
 use Rattle.tfrules_command.specs.declared.stop.Stop.TheVariants as stop

@@ -21,9 +21,8 @@ ScansFile text size (Ok file) =
 ScansFile text size (Err (stop.Refused fault)) =
     (size + length text ≤ max_module) × IsTextVerdict text (Err fault)
 ScansFile text size (Err stop.TooLarge) = max_module < size + length text
-ScansFile text size (Err stop.NotOpened) = ⊥
-ScansFile text size (Err stop.NotRead) = ⊥
 ScansFile text size (Err stop.OutOfMemory) = Unit {0}
+ScansFile text size (Err _) = ⊥
 
 -- the answer of keeping scanned tokens, with which the files have this many bytes
 abbrev pub KeepsTokens : Scanned → ℕ → ℕ → Stored → Stored → Result ℕ Stop → Type 0
@@ -31,22 +30,8 @@ KeepsTokens scanned number all old new (Ok more) =
     (source : Scanned) × (Ok source ≡ verdict scanned) × (more ≡ all)
     × (new ≡ with_file old (record { number = number; source = source }))
 KeepsTokens scanned number all old new (Err (stop.Refused fault)) = Err fault ≡ verdict scanned
-KeepsTokens scanned number all old new (Err stop.TooLarge) = ⊥
-KeepsTokens scanned number all old new (Err stop.NotOpened) = ⊥
-KeepsTokens scanned number all old new (Err stop.NotRead) = ⊥
 KeepsTokens scanned number all old new (Err stop.OutOfMemory) = Unit {0}
-
--- the answer of keeping a text after others of this many bytes
-abbrev pub Keeps : List ℕ → ℕ → ℕ → Stored → Stored → Result ℕ Stop → Type 0
-Keeps text size number old new (Ok more) =
-    (source : Scanned) × IsTextVerdict text (Ok source) × (more ≡ size + length text)
-    × (more ≤ max_module) × (new ≡ with_file old (record { number = number; source = source }))
-Keeps text size number old new (Err (stop.Refused fault)) =
-    (size + length text ≤ max_module) × IsTextVerdict text (Err fault)
-Keeps text size number old new (Err stop.TooLarge) = max_module < size + length text
-Keeps text size number old new (Err stop.NotOpened) = ⊥
-Keeps text size number old new (Err stop.NotRead) = ⊥
-Keeps text size number old new (Err stop.OutOfMemory) = Unit {0}
+KeepsTokens scanned number all old new (Err _) = ⊥
 
 -- a file was read and kept
 pub record Added (told : Option (List ℕ)) (size number : ℕ) (old new : Stored) (more : ℕ) : Type 0

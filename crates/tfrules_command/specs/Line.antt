@@ -36,12 +36,9 @@ file_rule = record (new_rule (codes "file")) { action = Some Append; required = 
 -- `tfrules [--rules LIST] [--naming NAMING] [--minimum-failure-severity SEVERITY] [--force] [--help] FILE...`
 abbrev pub tfrules : App
 tfrules =
-    with_rule
-    (with_rule
-    (with_rule
-    (with_rule (with_rule (new_app (codes "tfrules")) (option_rule (codes "rules")))
-    (option_rule (codes "naming")))
-    (option_rule (codes "minimum-failure-severity"))) (flag_rule (codes "force"))) file_rule
+    fold with_rule (new_app (codes "tfrules"))
+    (option_rule (codes "rules") ∷ option_rule (codes "naming")
+    ∷ option_rule (codes "minimum-failure-severity") ∷ flag_rule (codes "force") ∷ file_rule ∷ [])
 
 -- ---- the values of the options
 
@@ -116,13 +113,12 @@ asking_for force files (Some rules) (Some naming) (Some minimum) =
 
 -- without a file it is a bad line
 abbrev pub request_with : List Row → Option (List Text) → Result Request Usage
-request_with rows None = Err BadLine
-request_with rows (Some []) = Err BadLine
 request_with rows (Some (f ∷ fs)) =
     asking_for (is_set (codes "force") rows) (f
     ∷ fs) (rules_asked (value_or (codes "default") (codes "rules") rows))
     (naming_of_text (value_or (codes "snake_case") (codes "naming") rows))
     (severity_of_text (value_or (codes "notice") (codes "minimum-failure-severity") rows))
+request_with rows _ = Err BadLine
 
 abbrev pub request_of_rows : List Row → Result Request Usage
 request_of_rows rows = request_with rows (all_of (codes "file") rows)

@@ -2,7 +2,8 @@
 
 ghost use Rattle.std.specs.Prelude.{◌≡◌, ◌≤◌, ◌<◌, false, ℕ, List};
 ghost use Rattle.tfrules_command.specs.Inner.Steps.{Adds, Gathers, ReadsFile, stop_by, stop_of_scan};
-ghost use Rattle.tfrules_command.specs.Keeping.{Keeps, KeepsTokens, ScansFile};
+ghost use Rattle.tfrules_command.specs.Keeping.{KeepsTokens, ScansFile};
+ghost use Rattle.tfrules_command.specs.Inner.Keeping.{Keeps};
 ghost use Rattle.tf_rules.specs.Stored.{no_facts};
 ghost use Rattle.tfrules_command.specs.Files.{max_module};
 

@@ -169,11 +169,7 @@ fn send<O: ByteSink>(out: &mut O, page: &mut Page) -> Result<(), WriteFault>
 
 /// Writes the parts after the waiting bytes, or lets them wait too. Parts that no page can hold are written one by
 /// one.
-fn write_parts<O: ByteSink>(
-    out: &mut O,
-    page: &mut Page,
-    parts: &[&[u8]],
-) -> Result<(), WriteFault>
+fn write_parts<O: ByteSink>(out: &mut O, page: &mut Page, parts: &[&[u8]]) -> Result<(), WriteFault>
     requires { O.failed out.old ≡ false }
     ensures goes { GoesOut (O.failed out.new) (O.taken out.old)
         (O.taken out.new) page.old.items page.new.items

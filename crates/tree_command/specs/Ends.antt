@@ -94,7 +94,7 @@ EndsFor shows texts (Ok asking) failed input before after end =
     EndsBy (SaysOnly (out_of_memory formatter) before after end)
     (SaysOnly (fails_with formatter (codes "read failed")) before after end)
     (λ paths. Formats shows asking.given.quiet asking.mode (selection_of asking) paths before
-      after end)
+    after end)
     asking.given.null asking.given.names failed input
 EndsFor shows texts (Err usage) failed input before after end =
     SaysOnly (usage_row texts usage) before after end

@@ -47,8 +47,7 @@ selection_of asking =
 
 -- `--exclude TEXT`, which may be given more than once
 abbrev pub exclude_rule : Rule
-exclude_rule =
-    record (new_rule (codes "exclude")) { long = Some (codes "exclude"); action = Some Append }
+exclude_rule = record (count_rule (codes "exclude")) { action = Some Append }
 
 -- `tffmt-all [--check | --diff | --list] [--in-place] [--sync] [--quiet] [--shard K/N] [--exclude PATH]... [--any-name]
 -- [--jobs NUMBER] [--null] [--version] [--] [FILE|FOLDER]...`

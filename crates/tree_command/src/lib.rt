@@ -4,6 +4,6 @@
 
 mod formatter_words;
 mod options;
-mod selection;
 pub mod run;
+mod selection;
 pub mod usage;

@@ -13,7 +13,8 @@ use Rattle.std.proofs.lemmas.List.{take_all, take_more}
 use Rattle.std.proofs.lemmas.List.Elements.{All-push, All-weaker}
 use Rattle.tree_format.specs.GoodRuns.{AreReady, IsReady}
 use Rattle.tree_format.specs.declared.mode.Mode.TheVariants.{Write}
-use Rattle.tree_devices.specs.Runs.{IsReadyIn, IsToldIn, NotesOne, faults_of}
+use Rattle.tree_devices.specs.Runs.{NotesOne, faults_of}
+use Rattle.tree_devices.specs.Inner.Told.{IsReadyIn, IsToldIn}
 
 one_told : (fault : Option TreeFault) → with_fault (Some []) fault ≡ Some (faults_of fault)
 one_told None = refl

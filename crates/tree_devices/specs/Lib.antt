@@ -1,3 +1,4 @@
+pub mod Inner
 pub mod MemoryFiles
 pub mod PlannedFiles
 pub mod Runs

@@ -1,13 +1,12 @@
 -- The results of runs over trees in memory.
-use Rattle.std.specs.Prelude.{◌≡◌, ◌≢◌, ◌⊎◌, ◌||◌, Bool, true, false, ℕ, List, [], ◌∷◌, Option, Some, None}
+use Rattle.std.specs.Prelude.{◌≡◌, ◌≢◌, ◌⊎◌, ◌||◌, true, false, List, [], ◌∷◌, Option, Some, None}
 use Rattle.std.specs.List.{list_any}
 use Rattle.command_line.specs.Rows.{End}
-use Rattle.file_tree.specs.Files.{Faults, Files, Name}
+use Rattle.file_tree.specs.Files.{Faults}
 use Rattle.file_tree.specs.declared.fault.TreeFault.{TreeFault}
 use Rattle.file_tree.specs.declared.fault.TreeFault.TheVariants.{OutOfMemory}
 use Rattle.file_tree.specs.declared.tree.Writing.{Writing}
 use Rattle.file_tree.specs.declared.walk.Found.{Found}
-use Rattle.tree_format.specs.GoodRuns.{HasFormatOrFault, IsReady}
 use Rattle.tree_format.specs.Looks.{failure_of}
 use Rattle.tree_format.specs.Runs.{IsRun, is_failed}
 use Rattle.tree_format.specs.States.{State}
@@ -32,17 +31,6 @@ FailsByALook mode found before after end =
     end.status ≡ 4 → (end.out.failed || end.err.failed) ≡ false
     → (run : IsRun false mode found (λ answers. []) before after end)
     × (list_any is_failed run.answers ≡ true)
-
--- the tree tells the bytes of the file to which a name leads, which have a format or a fault
-abbrev pub IsToldIn : Files → Name → Type 0
-IsToldIn files name =
-    (bytes : List ℕ) × (files.told (files.real name) ≡ Some bytes) × HasFormatOrFault bytes
-
--- nothing prevents a look at a file that is to be written, if no lines of faults are shown
-abbrev pub IsReadyIn : Files → Found → Type 0
-IsReadyIn files f =
-    (writing : Writing) → (f.fault ≡ None)
-    × IsReady false (Write writing) f.name.items (files.told (files.real f.name.items))
 
 -- there is a run over these files in which nothing fails
 abbrev pub HasGoodRun : List Found → State → Type 0

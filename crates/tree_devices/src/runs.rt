@@ -2,7 +2,8 @@
 
 ghost use Rattle.std.specs.Prelude.{◌≡◌, ◌&&◌, [], Some, false, true};
 ghost use Rattle.command_line.specs.Rows.{end_of_streams};
-ghost use Rattle.tree_devices.specs.Runs.{FailsByALook, HasGoodRun, IsReadyIn, IsToldIn, NotesOne};
+ghost use Rattle.tree_devices.specs.Runs.{FailsByALook, HasGoodRun, NotesOne};
+ghost use Rattle.tree_devices.specs.Inner.Told.{IsReadyIn, IsToldIn};
 ghost use Rattle.tree_format.specs.States.{state_of};
 
 use crate::memory_tree::MemoryTree;

@@ -10,7 +10,8 @@ use Rattle.command_line.specs.Rows.{End, TookBy, Writer}
 use Rattle.file_tree.specs.Files.{Name}
 use Rattle.tree_format.specs.States.{State}
 use Rattle.file_tree.specs.declared.walk.Found.{Found}
-use Rattle.tree_format.specs.Reports.{Report, report_of, worse_status, worst_status}
+use Rattle.command_line.specs.Rows.{Row}
+use Rattle.tree_format.specs.Reports.{report_of, worse_status, worst_status}
 use Rattle.tree_format.specs.Inner.Counts.{CanGrow, tally_with}
 use Rattle.tree_format.specs.Runs.{HasWhole, LooksAtAll, Sees, but_last, is_failed, reports_of}
 use Rattle.tree_format.specs.Tally.{Tallies, is_changed, is_formatted, is_refused, tally_of}
@@ -55,11 +56,11 @@ reports_more shows mode [] (y ∷ answers) found answer a b l = absurd l
 reports_more shows mode (x ∷ seen) [] found answer a b l = absurd l
 reports_more shows mode (x ∷ seen) (y ∷ answers) found answer a b l = ap (λ rs. report_of mode x.name.items y ∷ rs) (reports_more shows mode seen answers found answer l.0 b l.2)
 
-one_text : (f : Report → List ℕ) (rs : List Report) (r : Report) → concat (map f (rs ++ r ∷ [])) ≡ concat (map f rs) ++ f r
+one_text : (f : Row → List ℕ) (rs : List Row) (r : Row) → concat (map f (rs ++ r ∷ [])) ≡ concat (map f rs) ++ f r
 one_text f [] r = append-nil (f r)
 one_text f (x ∷ rs) r = ap (λ t. f x ++ t) (one_text f rs r) ∙ sym (append_assoc (f x) (concat (map f rs)) (f r))
 
-fold_more : (n : ℕ) (rs : List Report) (r : Report) → fold worse_status n (map (λ r. r.status) (rs ++ r ∷ [])) ≡ worse_status (fold worse_status n (map (λ r. r.status) rs)) r.status
+fold_more : (n : ℕ) (rs : List Row) (r : Row) → fold worse_status n (map (λ r. r.status) (rs ++ r ∷ [])) ≡ worse_status (fold worse_status n (map (λ r. r.status) rs)) r.status
 fold_more n [] r = refl
 fold_more n (x ∷ rs) r = fold_more (worse_status n x.status) rs r
 
@@ -135,7 +136,7 @@ so_far_more shows mode seen more found answer a b c o o' o'' e e' e'' s s' t t' 
     reports : reports_of mode (seen ++ found ∷ []) (before.answers ++ answer ∷ []) ≡ reports_of mode seen before.answers ++ report_of mode found.name.items answer ∷ []
     reports = reports_more shows mode seen before.answers found answer a b before.looks
 
-    text : (f : Report → List ℕ) (x y z : Option (List ℕ)) → Appends x y (concat (map f (reports_of mode seen before.answers))) → Appends y z (f (report_of mode found.name.items answer))
+    text : (f : Row → List ℕ) (x y z : Option (List ℕ)) → Appends x y (concat (map f (reports_of mode seen before.answers))) → Appends y z (f (report_of mode found.name.items answer))
         → Appends x z (concat (map f (reports_of mode (seen ++ found ∷ []) (before.answers ++ answer ∷ []))))
     text f x y z p q = subst (Appends x z) (sym (ap (λ rs. concat (map f rs)) reports ∙ one_text f (reports_of mode seen before.answers) (report_of mode found.name.items answer))) (appends_then x y z _ _ p q)
 
@@ -156,7 +157,7 @@ can_grow shows mode seen a b o o' e e' s t before lt = subst CanGrow (sym before
 failed_either : (f g : Bool) → (f || g) ≡ true → (f || g) ≡ false → ⊥
 failed_either f g h k = cc
 
-take_front : (xs : List Report) (x : Report) → but_last (xs ++ x ∷ []) ≡ xs
+take_front : (xs : List Row) (x : Row) → but_last (xs ++ x ∷ []) ≡ xs
 take_front xs x =
     let size : length (xs ++ x ∷ []) - 1 ≡ length xs = omega (arith, length-append xs (x ∷ [])) in
     ap (λ n. take n (xs ++ x ∷ [])) size ∙ take-append-le (length xs) xs (x ∷ []) (omega arith) ∙ take_all (length xs) xs (omega arith)
@@ -179,7 +180,7 @@ whole_part w all text rest e good took = by w.before w.after refl refl (subst (A
     by (Some a) (Some c) ea ec p = at (Some a) (Some c) ea ec (Some (a ++ text)) refl (p ∙ sym (append_assoc a text rest))
 
 -- the writer took all reports of a list but the last one whole
-whole_reports : (w : Writer) (f : Report → List ℕ) (rs : List Report) → w.failed ≡ false → Appends w.before w.after (concat (map f rs)) → HasWhole w (concat (map f (but_last rs)))
+whole_reports : (w : Writer) (f : Row → List ℕ) (rs : List Row) → w.failed ≡ false → Appends w.before w.after (concat (map f rs)) → HasWhole w (concat (map f (but_last rs)))
 whole_reports w f rs good took =
     whole_part w (concat (map f rs)) (concat (map f (but_last rs))) (concat (map f (drop (length rs - 1) rs)))
     (ap (λ l. concat (map f l)) (sym (take-append-drop (length rs - 1) rs)) ∙ ap concat (map-append f (but_last rs) (drop (length rs - 1) rs)) ∙ concat-append (map f (but_last rs)) (map f (drop (length rs - 1) rs)))
@@ -210,13 +211,13 @@ run_cut shows mode found seen rest here answer a b c o' e' s t t' out err all be
     reports : reports_of mode (seen ++ here ∷ []) (before.answers ++ answer ∷ []) ≡ reports_of mode seen before.answers ++ report_of mode here.name.items answer ∷ []
     reports = reports_more shows mode seen before.answers here answer a b before.looks
 
-    text : (f : Report → List ℕ) (v : Bool) (x y z : Option (List ℕ)) → Appends x y (concat (map f (reports_of mode seen before.answers))) → TookBy v y z (f (report_of mode here.name.items answer))
+    text : (f : Row → List ℕ) (v : Bool) (x y z : Option (List ℕ)) → Appends x y (concat (map f (reports_of mode seen before.answers))) → TookBy v y z (f (report_of mode here.name.items answer))
         → TookBy v x z (concat (map f (reports_of mode (seen ++ here ∷ []) (before.answers ++ answer ∷ []))))
     text f v x y z p q =
         subst (TookBy v x z) (sym (ap (λ rs. concat (map f rs)) reports ∙ one_text f (reports_of mode seen before.answers) (report_of mode here.name.items answer)))
         (took_after x y z v (concat (map f (reports_of mode seen before.answers))) (f (report_of mode here.name.items answer)) p q)
 
-    stop : (f : Report → List ℕ) (w : Writer) (y : Option (List ℕ)) → Appends w.before y (concat (map f (reports_of mode seen before.answers))) → TookBy w.failed y w.after (f (report_of mode here.name.items answer))
+    stop : (f : Row → List ℕ) (w : Writer) (y : Option (List ℕ)) → Appends w.before y (concat (map f (reports_of mode seen before.answers))) → TookBy w.failed y w.after (f (report_of mode here.name.items answer))
         → HasWhole w (concat (map f (but_last (reports_of mode (seen ++ here ∷ []) (before.answers ++ answer ∷ [])))))
     stop f w y p q = record {
       more = f (report_of mode here.name.items answer);

@@ -21,7 +21,8 @@ use Rattle.tree_format.specs.GoodRuns.{AreTold, is_narrowed}
 use Rattle.tree_format.specs.Format.{IsFault, IsFormat, IsTextFault}
 use Rattle.tree_format.specs.Looks.{Left, Looks, Visits, shown_diff}
 use Rattle.tree_format.specs.Refusals.{shown_line}
-use Rattle.tree_format.specs.Reports.{Report, refused_words, report_of, worse_status, worst_status}
+use Rattle.command_line.specs.Rows.{Row}
+use Rattle.tree_format.specs.Reports.{refused_words, report_of, worse_status, worst_status}
 use Rattle.tree_format.specs.Runs.{IsRun, MayBecome, LooksAtAll, SeesBy, is_failed, reports_of}
 use Rattle.tree_format.specs.declared.mode.Mode.{Mode}
 use Rattle.tree_format.specs.declared.mode.Mode.TheVariants.{Write, Check, List as Listed, Diff}
@@ -346,8 +347,8 @@ one_run shows mode found last other_last before other_before after other_after e
     let h = good_run shows mode found other_last other_before other_after other_end other other_ne in
     let p = one_looked shows mode found (map plain run.answers) (map plain other.answers) before after other_before other_after told same (plain_looked shows mode found run.answers before after g.1.looks)
     (plain_looked shows mode found other.answers other_before other_after h.1.looks) (plain_even run.answers ∙ g.1.good) (plain_even other.answers ∙ h.1.good) in (
-      ap (λ l. outs mode l run.answers) (sym g.0) ∙ plain_outs mode found run.answers ∙ ap (λ rs. map (λ (r : Report). r.out) rs) p.0 ∙ sym (plain_outs mode found other.answers) ∙ ap (λ l. outs mode l other.answers) h.0,
-      g.1.exit ∙ ap worst_status (plain_statuses mode found run.answers) ∙ ap (λ rs. worst_status (map (λ (r : Report). r.status) rs)) p.0 ∙ ap worst_status (sym (plain_statuses mode found other.answers)) ∙ sym h.1.exit,
+      ap (λ l. outs mode l run.answers) (sym g.0) ∙ plain_outs mode found run.answers ∙ ap (λ rs. map (λ (r : Row). r.out) rs) p.0 ∙ sym (plain_outs mode found other.answers) ∙ ap (λ l. outs mode l other.answers) h.0,
+      g.1.exit ∙ ap worst_status (plain_statuses mode found run.answers) ∙ ap (λ rs. worst_status (map (λ (r : Row). r.status) rs)) p.0 ∙ ap worst_status (sym (plain_statuses mode found other.answers)) ∙ sym h.1.exit,
       p.1,
       λ kept other_kept.
           let one = one_looked shows mode found run.answers other.answers before after other_before other_after told same g.1.looks h.1.looks (even_answers run.answers g.1.good kept) (even_answers other.answers h.1.good other_kept) in

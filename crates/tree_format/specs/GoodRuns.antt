@@ -25,19 +25,14 @@ AreTold files found = All (λ f. IsSome (files.told (files.real f.name.items))) 
 -- the answer of a look that shows this text, which is in memory
 abbrev pub Holds : Outcome → List ℕ → Type 0
 Holds (outcome.Differs text) shown = text.items ≡ shown
-Holds outcome.Formatted shown = ⊥
-Holds (outcome.Changed how) shown = ⊥
-Holds (outcome.Refused fault snippet) shown = ⊥
-Holds (outcome.Failed fault) shown = ⊥
+Holds _ shown = ⊥
 
 -- if the changes to a file are to be shown, there is memory for them
 abbrev pub HasRoom : Mode → Name → List ℕ → Type 0
-HasRoom (Write writing) name bytes = Unit {0}
-HasRoom Check name bytes = Unit {0}
-HasRoom (Listed ending) name bytes = Unit {0}
 HasRoom Diff name bytes =
     (formatted : List ℕ) → IsFormat bytes formatted → formatted ≢ bytes → (answer : Outcome)
     × Holds answer (shown_diff name bytes formatted)
+HasRoom _ name bytes = Unit {0}
 
 -- if the line of a fault is to be shown, there is memory for it
 abbrev pub HasLineRoom : Bool → List ℕ → Type 0

@@ -95,10 +95,8 @@ AsksIn mode given told before after answer = after ≡ before
 -- formatted, it is to get its format, in the run's way of writing. The look reports the rights to the file as the
 -- device answered. A failed look may have asked for the replacement too, and then has the fault that was the answer.
 abbrev pub Asks : Mode → Name → Option (List ℕ) → Asked → Asked → Outcome → Type 0
-Asks mode given told before after outcome.Formatted = after ≡ before
 Asks mode given told before after (outcome.Changed how) =
     AsksIn mode given told before after (Ok how)
-Asks mode given told before after (outcome.Differs text) = after ≡ before
-Asks mode given told before after (outcome.Refused fault snippet) = after ≡ before
 Asks mode given told before after (outcome.Failed fault) =
     (after ≡ before) ⊎ AsksIn mode given told before after (Err fault)
+Asks mode given told before after _ = after ≡ before

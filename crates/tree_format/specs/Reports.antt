@@ -1,9 +1,9 @@
--- The report on each file that a run looks at, and the status of the run. Names in it are quoted as messages show them.
--- The texts and statuses are our own choice.
+-- The report on each file that a run looks at, with the status of the file, and the status of the run. Names in it are
+-- quoted as messages show them. The texts and statuses are our own choice.
 use Rattle.std.specs.Prelude.{ℕ, Option, Some, None, List, [], ◌∷◌, ◌++◌, ◌==◌, ◌||◌, codes, fold, max, if◌then◌else◌}
 use Rattle.std.specs.declared.alloc.Global.{Global}
 use Rattle.std.specs.declared.vec.Vec.{Vec}
-use Rattle.command_line.specs.Rows.{fault_words, line}
+use Rattle.command_line.specs.Rows.{Row, fault_words, line, message_row, output_row}
 use Rattle.hcl_source.specs.declared.fault.Fault.{Fault}
 use Rattle.file_tree.specs.Files.{Name}
 use Rattle.file_tree.specs.FaultTexts.{tree_fault_text}
@@ -16,12 +16,6 @@ use Rattle.tree_format.specs.declared.mode.Mode.{Mode}
 use Rattle.tree_format.specs.declared.mode.Mode.TheVariants.{Write, Check, List as Listed, Diff}
 use Rattle.tree_format.specs.declared.outcome.Outcome.{Outcome}
 use Rattle.tree_format.specs.declared.outcome.Outcome.TheVariants as outcome
-
--- the texts for standard output and for standard error, and the file's status
-pub record Report : Type 0 where
-  pub out : List ℕ
-  pub err : List ℕ
-  pub status : ℕ
 
 -- `NAME: TEXT`
 abbrev pub about : Name → List ℕ → List ℕ
@@ -42,14 +36,12 @@ rights_words Kept name = []
 rights_words Narrowed name = about name narrowed_text
 
 -- a file isn't formatted, or wasn't before
-abbrev pub changed_report : Mode → Replaced → Name → Report
+abbrev pub changed_report : Mode → Replaced → Name → Row
 changed_report (Write writing) how name =
     record { out = line (shown_name name); err = rights_words how name; status = 0 }
-changed_report Check how name =
-    record { out = []; err = about name (codes "not formatted"); status = 3 }
-changed_report (Listed ending) how name =
-    record { out = name_line ending name; err = []; status = 3 }
-changed_report Diff how name = record { out = line (shown_name name); err = []; status = 3 }
+changed_report Check how name = message_row (about name (codes "not formatted")) 3
+changed_report (Listed ending) how name = output_row (name_line ending name) 3
+changed_report Diff how name = output_row (line (shown_name name)) 3
 
 -- the message for a refused file: the place and the fault, and below it the line that is shown
 abbrev pub refused_words : Name → Fault → List ℕ → List ℕ
@@ -60,14 +52,13 @@ abbrev pub snippet_text : Option (Vec ℕ Global) → List ℕ
 snippet_text None = []
 snippet_text (Some text) = text.items
 
-abbrev pub report_of : Mode → Name → Outcome → Report
-report_of mode name outcome.Formatted = record { out = []; err = []; status = 0 }
+abbrev pub report_of : Mode → Name → Outcome → Row
+report_of mode name outcome.Formatted = output_row [] 0
 report_of mode name (outcome.Changed how) = changed_report mode how name
-report_of mode name (outcome.Differs text) = record { out = text.items; err = []; status = 3 }
+report_of mode name (outcome.Differs text) = output_row text.items 3
 report_of mode name (outcome.Refused fault snippet) =
-    record { out = []; err = refused_words name fault (snippet_text snippet); status = 2 }
-report_of mode name (outcome.Failed fault) =
-    record { out = []; err = about name (tree_fault_text fault); status = 4 }
+    message_row (refused_words name fault (snippet_text snippet)) 2
+report_of mode name (outcome.Failed fault) = message_row (about name (tree_fault_text fault)) 4
 
 -- 4 is worse than 2, 2 is worse than 3, and 3 than 0
 abbrev pub worse_status : ℕ → ℕ → ℕ

@@ -1,12 +1,12 @@
 -- Runs over files, and what becomes of each file.
 use Rattle.std.specs.Prelude.{◌≡◌, ◌⊎◌, ◌||◌, ◌-◌, ℕ, Bool, true, false, List, [], ◌∷◌, ◌++◌, Option, Some, None, length, map, take, if◌then◌else◌}
 use Rattle.std.specs.List.{concat}
-use Rattle.command_line.specs.Rows.{End, Took, TookBy, Writer}
+use Rattle.command_line.specs.Rows.{Row, End, Took, TookBy, Writer}
 use Rattle.file_tree.specs.Files.{Name}
 use Rattle.file_tree.specs.declared.fault.TreeFault.{TreeFault}
 use Rattle.file_tree.specs.declared.walk.Found.{Found}
 use Rattle.tree_format.specs.Looks.{Asks, Notes, Visits}
-use Rattle.tree_format.specs.Reports.{Report, report_of, worst_status}
+use Rattle.tree_format.specs.Reports.{report_of, worst_status}
 use Rattle.tree_format.specs.States.{State}
 use Rattle.hcl_source.specs.declared.fault.Fault.{Fault}
 use Rattle.tree_format.specs.Format.{IsFormat, IsFault}
@@ -58,17 +58,15 @@ Sees shows mode found = SeesBy shows mode found.name.items found.fault
 -- looks at names, one after another, and the answer of each
 abbrev pub LooksAtAll : Bool → Mode → List Found → List Outcome → State → State → Type 0
 LooksAtAll shows mode [] [] before after = after ≡ before
-LooksAtAll shows mode [] (answer ∷ answers) before after = ⊥
-LooksAtAll shows mode (found ∷ more) [] before after = ⊥
 LooksAtAll shows mode (found ∷ more) (answer ∷ answers) before after =
     (between : State) × Sees shows mode found answer before between
     × LooksAtAll shows mode more answers between after
+LooksAtAll _ _ _ _ before after = ⊥
 
-abbrev pub reports_of : Mode → List Found → List Outcome → List Report
+abbrev pub reports_of : Mode → List Found → List Outcome → List Row
 reports_of mode (found ∷ more) (answer ∷ answers) =
     report_of mode found.name.items answer ∷ reports_of mode more answers
-reports_of mode (found ∷ more) [] = []
-reports_of mode [] answers = []
+reports_of _ _ _ = []
 
 -- all elements but the last
 abbrev pub but_last : {X : Type 0} → List X → List X
@@ -82,7 +80,7 @@ pub record HasWhole (w : Writer) (text : List ℕ) : Type 0 where
   pub later : TookBy w.failed between w.after more
 
 -- all reports but the last one were written whole: so after a report that wasn't, no name was looked at
-pub record AreWhole (out err : Writer) (reports : List Report) : Type 0 where
+pub record AreWhole (out err : Writer) (reports : List Row) : Type 0 where
   pub output : HasWhole out (concat (map (λ r. r.out) (but_last reports)))
   pub message : HasWhole err (concat (map (λ r. r.err) (but_last reports)))
 

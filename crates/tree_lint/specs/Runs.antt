@@ -140,11 +140,10 @@ verdict_status policy (Err refusals) = 1
 -- those of these modules
 abbrev pub AreJudged : Files → Terminals → List Governed → List Verdict → Faults → Faults → Type 0
 AreJudged files terminals [] [] was is = is ≡ was
-AreJudged files terminals [] (v ∷ vs) was is = ⊥
-AreJudged files terminals (m ∷ ms) [] was is = ⊥
 AreJudged files terminals (m ∷ ms) (v ∷ vs) was is =
     (between : Faults) × IsVerdict files terminals m.policy m.module was between v
     × AreJudged files terminals ms vs between is
+AreJudged _ _ _ _ was is = ⊥
 
 -- the outputs of modules, one after another, with an empty line between two reports
 abbrev pub reports_after : Manner → Bool → List Governed → List Verdict → List ℕ

@@ -225,7 +225,8 @@ impl Streams {
     /// Reports that standard output failed, if it did.
     fn finish(&mut self, rt: &impl Abort) {
         if self.out.has_failed && !self.err.has_failed {
-            self.err.push_chunks(rt, b"tffmt-all: error: write failed\n");
+            self.err
+                .push_chunks(rt, b"tffmt-all: error: write failed\n");
         }
     }
 

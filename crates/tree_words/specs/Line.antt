@@ -20,12 +20,7 @@ count_rule name = record (new_rule name) { long = Some name; action = Some Count
 
 -- `-0` and `--null`
 abbrev pub null_rule : Rule
-null_rule =
-    record (new_rule (codes "null")) {
-      long = Some (codes "null");
-      short = Some 48;
-      action = Some Count;
-    }
+null_rule = record (count_rule (codes "null")) { short = Some 48 }
 
 abbrev pub file_rule : Rule
 file_rule = record (new_rule (codes "file")) { action = Some Append }
@@ -55,11 +50,10 @@ number_in text = if is_number text then Some (digits_value 10 text) else None
 -- ---- a part of the files
 
 abbrev pub shard_by : Option ℕ → Option ℕ → Option Shard
-shard_by None count = None
-shard_by (Some number) None = None
 shard_by (Some number) (Some count) =
     if nat_le 1 number && nat_le number count then Some (record { number = number; count = count })
     else None
+shard_by _ _ = None
 
 -- `K/N`
 abbrev pub shard_in : Text → Option Shard
@@ -69,19 +63,13 @@ shard_in text =
 
 -- no part if there is no text, and nothing if the text names no part
 abbrev pub shard_given : Option Text → Option (Option Shard)
-shard_given None = Some None
-shard_given (Some text) = option_map Some (shard_in text)
+shard_given text = option_map_or (λ t. option_map Some (shard_in t)) text (Some None)
 
 -- ---- jobs
 
 -- `-j NUMBER` and `--jobs NUMBER`, which may be given more than once
 abbrev pub jobs_rule : Rule
-jobs_rule =
-    record (new_rule (codes "jobs")) {
-      long = Some (codes "jobs");
-      short = Some 106;
-      action = Some Append;
-    }
+jobs_rule = record (count_rule (codes "jobs")) { short = Some 106; action = Some Append }
 
 abbrev pub max_jobs : ℕ
 max_jobs = 9999

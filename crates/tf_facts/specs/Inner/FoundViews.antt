@@ -3,7 +3,7 @@ use Rattle.std.specs.Prelude.{ℕ, List, [], ◌∷◌, Option, Some, None}
 use Rattle.tf_facts.specs.Comments.{Comment}
 use Rattle.tf_facts.specs.Declarations.{Declaration, Declarer}
 use Rattle.tf_facts.specs.Found.{comment, declaration}
-use Rattle.tf_facts.specs.VariableBlocks.{block_view}
+use Rattle.tf_facts.specs.Inner.Blocks.{block_view}
 use Rattle.tf_facts.specs.References.{VariableSpan}
 use Rattle.tf_facts.specs.declared.found.Declared.{Declared}
 use Rattle.tf_facts.specs.declared.found.Declarer as found

@@ -3,7 +3,7 @@ use Rattle.std.specs.Str.{bytes_eq}
 use Rattle.indexmap.specs.IndexSet.{insert_all}
 use Rattle.hcl_tokens.specs.Scanned.{Scanned}
 use Rattle.hcl_grammar.specs.Numbered.{number_tokens}
-use Rattle.tf_facts.specs.VariableBlocks.{block_view}
+use Rattle.tf_facts.specs.Inner.Blocks.{block_view}
 use Rattle.tf_facts.specs.References.{variable_blocks, references_from}
 use Rattle.tf_facts.specs.Inner.Seen.{seen_from}
 use Rattle.tf_facts.specs.declared.variable_block.VariableBlock.{VariableBlock}

@@ -1,5 +1,5 @@
 use Rattle.std.proofs.Common.{map, ◌-◌, ◌≤◌, length}
-use Rattle.tf_facts.specs.VariableBlocks.{block_view, ArePassed}
+use Rattle.tf_facts.specs.Inner.Blocks.{block_view, ArePassed}
 use Rattle.tf_facts.proofs.references.count_passed.Given as goal
 
 abbrev pub invariant-loop-next : goal.invariant-loop-next

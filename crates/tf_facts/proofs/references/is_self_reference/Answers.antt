@@ -1,5 +1,5 @@
 use Rattle.std.proofs.Common.{◌∙◌, ap, sym, map}
-use Rattle.tf_facts.specs.VariableBlocks.{block_view}
+use Rattle.tf_facts.specs.Inner.Blocks.{block_view}
 use Rattle.tf_facts.specs.References.{is_self_reference}
 use Rattle.tf_facts.specs.Inner.Spelled.{spelling_of}
 use Rattle.tf_facts.proofs.OwnLemmas.{decides, none_left, own_other}

@@ -1,7 +1,7 @@
 use Rattle.std.proofs.Common.{None, arith, false}
 use Rattle.file_tree.specs.declared.tree.Writing.{Writing}
 use Rattle.tree_devices.specs.MemoryFiles.{files_in}
-use Rattle.tree_devices.specs.Runs.{IsReadyIn}
+use Rattle.tree_devices.specs.Inner.Told.{IsReadyIn}
 use Rattle.tree_format.specs.declared.mode.Mode.TheVariants.{Write}
 use Rattle.tree_devices.proofs.RunLemmas.{all_ready, ready_more}
 use Rattle.tree_devices.proofs.runs.has_good_run.Goals as goal

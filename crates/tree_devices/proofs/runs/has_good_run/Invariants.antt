@@ -1,6 +1,6 @@
 use Rattle.std.proofs.Common.{◌≡◌, All, true, take}
 use Rattle.tree_devices.specs.MemoryFiles.{files_in}
-use Rattle.tree_devices.specs.Runs.{IsReadyIn}
+use Rattle.tree_devices.specs.Inner.Told.{IsReadyIn}
 use Rattle.tree_devices.proofs.runs.has_good_run.Given as goal
 
 -- the files so far are ready
