@@ -8,7 +8,7 @@ ghost use Rattle.file_tree.specs.Finds.{AreReal, Finds};
 ghost use Rattle.file_tree.specs.FolderFiles.{AreHeard, FindsIn};
 ghost use Rattle.file_tree.specs.Inner.Chosen.{chooser_view};
 ghost use Rattle.file_tree.specs.Inner.Searching.{AreOrdered, Keeps, LooksInto, Searches, SeesAll};
-ghost use Rattle.file_tree.specs.Inner.Walking.{Adds, Enters, Hears, HearsGiven, TakesAll, TakesAsked, TakesEntry, TakesFolder, TakesGiven, TakesIf, TakesKind, TakesKindGiven, TakesLink, TakesLinked, TakesMet, TakesNamedFile, TakesSpecial, TakesWanted, Walked, walk_view};
+ghost use Rattle.file_tree.specs.Inner.Walking.{Adds, Enters, Hears, HearsGiven, TakesAll, TakesAsked, TakesEntry, TakesFolder, TakesGiven, TakesIf, TakesKind, TakesKindGiven, TakesLink, TakesLinked, TakesMet, TakesNamedFile, TakesSpecial, TakesWanted, Walked, walk_view, WalkHears};
 ghost use Rattle.file_tree.specs.Ordered.{Orders};
 ghost use Rattle.file_tree.specs.Seen.{Sees};
 ghost use Rattle.file_tree.specs.Names.{is_passed_over, is_taken};
@@ -181,8 +181,8 @@ impl Walk {
         ensures unchanged { Unchanged T.Tree tree.old tree.new }
         ensures takes { OnOk result (TakesLink is_taken specials (T.files tree.old) path.items
             (walk_view self.old) (walk_view self.new)) }
-        ensures hears { OnOk result (Hears (walk_view self.old).found (walk_view self.new).found
-            (T.faults tree.old) (T.faults tree.new)) }
+        ensures hears { OnOk result
+            (WalkHears self.old self.new (T.faults tree.old) (T.faults tree.new)) }
     {
         if !is_taken {
             return Ok(());
@@ -206,8 +206,8 @@ impl Walk {
         ensures unchanged { Unchanged T.Tree tree.old tree.new }
         ensures takes { OnOk result (TakesKind specials kind (T.files tree.old)
             met.entry.path.items met.entry.name.now (walk_view self.old) (walk_view self.new)) }
-        ensures hears { OnOk result (Hears (walk_view self.old).found (walk_view self.new).found
-            (T.faults tree.old) (T.faults tree.new)) }
+        ensures hears { OnOk result
+            (WalkHears self.old self.new (T.faults tree.old) (T.faults tree.new)) }
     {
         let FolderEntry { name, path } = met;
         match kind {
@@ -233,8 +233,8 @@ impl Walk {
         ensures unchanged { Unchanged T.Tree tree.old tree.new }
         ensures takes { OnOk result (TakesMet specials (T.files tree.old) met.entry.path.items
             met.entry.name.now (walk_view self.old) (walk_view self.new)) }
-        ensures hears { OnOk result (Hears (walk_view self.old).found (walk_view self.new).found
-            (T.faults tree.old) (T.faults tree.new)) }
+        ensures hears { OnOk result
+            (WalkHears self.old self.new (T.faults tree.old) (T.faults tree.new)) }
     {
         match tree.entry_kind(met.path.as_slice()) {
             Ok(kind) => self.take_kind(alloc, specials, kind, met, tree),
@@ -255,8 +255,8 @@ impl Walk {
         ensures unchanged { Unchanged T.Tree tree.old tree.new }
         ensures takes { OnOk result (TakesEntry (T.files tree.old) (chooser_view chooser.now)
             folder.now name.now (walk_view self.old) (walk_view self.new)) }
-        ensures hears { OnOk result (Hears (walk_view self.old).found (walk_view self.new).found
-            (T.faults tree.old) (T.faults tree.new)) }
+        ensures hears { OnOk result
+            (WalkHears self.old self.new (T.faults tree.old) (T.faults tree.new)) }
     {
         if !is_met(name) {
             return Ok(());
@@ -284,9 +284,10 @@ impl Walk {
     ) -> Result<(), AllocError>
         ensures unchanged { Unchanged T.Tree tree.old tree.new }
         ensures takes { OnOk result (TakesAll (T.files tree.old) (chooser_view chooser.now)
-            folder.now (map (λ name. name.now) names.now) (walk_view self.old) (walk_view self.new)) }
-        ensures hears { OnOk result (Hears (walk_view self.old).found (walk_view self.new).found
-            (T.faults tree.old) (T.faults tree.new)) }
+            folder.now (map (λ name. name.now) names.now)
+            (walk_view self.old) (walk_view self.new)) }
+        ensures hears { OnOk result
+            (WalkHears self.old self.new (T.faults tree.old) (T.faults tree.new)) }
     {
         for name in names {
             self.take_entry(alloc, chooser, folder, name, tree)?;
@@ -306,8 +307,8 @@ impl Walk {
         ensures unchanged { Unchanged T.Tree tree.old tree.new }
         ensures takes { OnOk result (TakesFolder (T.files tree.old) (chooser_view chooser.now)
             folder.now (walk_view self.old) (walk_view self.new)) }
-        ensures hears { OnOk result (Hears (walk_view self.old).found (walk_view self.new).found
-            (T.faults tree.old) (T.faults tree.new)) }
+        ensures hears { OnOk result
+            (WalkHears self.old self.new (T.faults tree.old) (T.faults tree.new)) }
     {
         let place = place(folder);
         match tree.listing(place) {
@@ -335,8 +336,8 @@ impl Walk {
         ensures unchanged { Unchanged T.Tree tree.old tree.new }
         ensures takes { OnOk result (TakesNamedFile (T.files tree.old) identity
             operand.entry.path.now (walk_view self.old) (walk_view self.new)) }
-        ensures hears { OnOk result (Hears (walk_view self.old).found (walk_view self.new).found
-            (T.faults tree.old) (T.faults tree.new)) }
+        ensures hears { OnOk result
+            (WalkHears self.old self.new (T.faults tree.old) (T.faults tree.new)) }
     {
         match tree.entry_kind(operand.tidied.as_slice()) {
             Ok(entry) => {
@@ -363,8 +364,8 @@ impl Walk {
         ensures unchanged { Unchanged T.Tree tree.old tree.new }
         ensures takes { OnOk result (TakesWanted kind (T.files tree.old) operand.entry.path.now
             (walk_view self.old) (walk_view self.new)) }
-        ensures hears { OnOk result (Hears (walk_view self.old).found (walk_view self.new).found
-            (T.faults tree.old) (T.faults tree.new)) }
+        ensures hears { OnOk result
+            (WalkHears self.old self.new (T.faults tree.old) (T.faults tree.new)) }
     {
         match kind {
             Kind::File(identity) => self.take_named_file(alloc, identity, operand, tree),
@@ -382,7 +383,8 @@ impl Walk {
         tree: &mut T,
     ) -> Result<(), AllocError>
         requires tidied { operand.tidied.items ≡ tidy_path operand.path.now }
-        requires allowed { is_excluded (chooser_view chooser.now) (tidy_path operand.path.now) ≡ false }
+        requires allowed { is_excluded (chooser_view chooser.now) (tidy_path operand.path.now)
+            ≡ false }
         requires told { Tells ((T.files tree.old).kind operand.path.now) kind }
         ensures unchanged { Unchanged T.Tree tree.old tree.new }
         ensures takes { OnOk result (TakesKindGiven (T.files tree.old) (chooser_view chooser.now)
@@ -411,7 +413,8 @@ impl Walk {
         tree: &mut T,
     ) -> Result<(), AllocError>
         requires tidied { operand.tidied.items ≡ tidy_path operand.path.now }
-        requires allowed { is_excluded (chooser_view chooser.now) (tidy_path operand.path.now) ≡ false }
+        requires allowed { is_excluded (chooser_view chooser.now) (tidy_path operand.path.now)
+            ≡ false }
         ensures unchanged { Unchanged T.Tree tree.old tree.new }
         ensures takes { OnOk result (TakesAsked (T.files tree.old) (chooser_view chooser.now)
             operand.entry.path.now (walk_view self.old) (walk_view self.new)) }

@@ -9,13 +9,16 @@ use Rattle.json.proofs.Printed.Decimals.{IsNumber-decimal}
 use Rattle.rule_set.specs.Rules.{all_rules}
 use Rattle.rule_set.specs.declared.rule.Rule.{Rule}
 use Rattle.rule_set.specs.declared.rule.Rule.TheVariants.{CommentSyntax, DeprecatedIndex, DeprecatedInterpolation, DocumentedOutputs, DocumentedVariables, ModulePinnedSource, ModuleVersion, NamingConvention, TypedVariables, UnusedDeclarations}
-use Rattle.lint_forms.specs.Gitlab.{gitlab_json, quality_json}
+use Rattle.lint_forms.specs.Gitlab.{quality_json}
+use Rattle.lint_forms.specs.Documents.{gitlab_json}
 use Rattle.lint_forms.specs.Laws.{HasSmallNumbers}
 use Rattle.lint_forms.specs.Marks.{MarkedRemark, entries, entries_after, entry_after}
 use Rattle.lint_forms.specs.Places.{uri}
 use Rattle.lint_forms.specs.Remarks.{Remark}
-use Rattle.lint_forms.specs.Sarif.{comment_json, location_json, refusal_json, region_json, result_json, rule_index, rule_json, sarif_json}
-use Rattle.lint_forms.specs.Tflint.{error_json, issue_json, place_json, range_json, tflint_json}
+use Rattle.lint_forms.specs.Sarif.{comment_json, location_json, refusal_json, region_json, result_json, rule_index, rule_json}
+use Rattle.lint_forms.specs.Documents.{sarif_json}
+use Rattle.lint_forms.specs.Tflint.{error_json, issue_json, place_json, range_json}
+use Rattle.lint_forms.specs.Documents.{tflint_json}
 use Rattle.lint_forms.specs.Values.{json_items}
 use Rattle.lint_forms.specs.declared.subject.Subject.{Subject}
 use Rattle.lint_forms.specs.declared.subject.Subject.TheVariants as subject

@@ -11,13 +11,17 @@ use Rattle.json.specs.Token as token
 use Rattle.json.specs.Tree.{items_tokens, json_tokens}
 use Rattle.json.proofs.Printed.Tokens.{print_from-append}
 use Rattle.json.proofs.Printed.Trees.{document-print}
-use Rattle.lint_forms.specs.Forms.{form_foot, form_head, is_some, module_text, modules_text, tflint_foot, run_text}
-use Rattle.lint_forms.specs.Gitlab.{gitlab_json, quality_json}
+use Rattle.lint_forms.specs.Forms.{form_foot, form_head, module_text, tflint_foot}
+use Rattle.lint_forms.specs.Documents.{is_some, modules_text, run_text}
+use Rattle.lint_forms.specs.Gitlab.{quality_json}
+use Rattle.lint_forms.specs.Documents.{gitlab_json}
 use Rattle.lint_forms.specs.Laws.{HasSmallNumbers}
 use Rattle.lint_forms.specs.Marks.{MarkedRemark, entries}
 use Rattle.lint_forms.specs.Remarks.{Remark}
-use Rattle.lint_forms.specs.Sarif.{invocation_json, result_json, sarif_foot, sarif_head, sarif_json, tool_json}
-use Rattle.lint_forms.specs.Tflint.{error_json, issue_json, tflint_json}
+use Rattle.lint_forms.specs.Sarif.{invocation_json, result_json, sarif_foot, sarif_head, tool_json}
+use Rattle.lint_forms.specs.Documents.{sarif_json}
+use Rattle.lint_forms.specs.Tflint.{error_json, issue_json}
+use Rattle.lint_forms.specs.Documents.{tflint_json}
 use Rattle.lint_forms.specs.Values.{json_items, array_text}
 use Rattle.lint_forms.specs.declared.kind.Form.{Form}
 use Rattle.lint_forms.specs.declared.kind.Form.TheVariants.{Gitlab, Json as TflintForm, Sarif}

@@ -1,7 +1,7 @@
 -- THE FORMS: the text before all modules, the text of each module's issues, and the text after them: the refusals, and
 -- the end.
-use Rattle.std.specs.Prelude.{ℕ, ◌||◌, Bool, true, false, List, [], ◌∷◌, ◌++◌, codes, map}
-use Rattle.std.specs.List.{flat_map, list_any}
+use Rattle.std.specs.Prelude.{ℕ, Bool, false, List, [], ◌∷◌, ◌++◌, codes, map}
+use Rattle.std.specs.List.{flat_map}
 use Rattle.json.specs.Print.{print}
 use Rattle.json.specs.Token.{begin_array, begin_object, end_array, end_object, key}
 use Rattle.lint_forms.specs.Gitlab.{quality_json}
@@ -54,19 +54,3 @@ form_foot Gitlab status is_after rs =
 form_foot Github status is_after rs = flat_map github_line rs
 
 -- ---- the whole
-
-abbrev pub is_some : List Remark → Bool
-is_some [] = false
-is_some (r ∷ rs) = true
-
--- the issues of modules, in turn
-abbrev pub modules_text : Form → Bool → List (List Remark) → List ℕ
-modules_text form is_after [] = []
-modules_text form is_after (rs ∷ ms) =
-    module_text form is_after rs ++ modules_text form (is_after || is_some rs) ms
-
--- THE TEXT of a run in which these are the issues of modules, and the refusals
-abbrev pub run_text : Form → List ℕ → ℕ → List (List Remark) → List Remark → List ℕ
-run_text form version status ms rs =
-    form_head form version
-    ++ (modules_text form false ms ++ form_foot form status (list_any is_some ms) rs)

@@ -1,9 +1,8 @@
 -- The report of GitLab's code quality.
-use Rattle.std.specs.Prelude.{List, ℕ, codes, decimal, map}
-use Rattle.json.specs.Json.{Json, array, member, no_members, number, object, string}
+use Rattle.std.specs.Prelude.{List, ℕ, codes, decimal}
+use Rattle.json.specs.Json.{Json, member, no_members, number, object, string}
 use Rattle.lint_forms.specs.Marks.{MarkedRemark}
 use Rattle.lint_forms.specs.Remarks.{Remark}
-use Rattle.lint_forms.specs.Values.{json_items}
 use Rattle.lint_forms.specs.Words.{quality_word, rule_id}
 
 abbrev pub spot_json : Remark → Json
@@ -22,7 +21,3 @@ quality_by name severity e =
 -- AN ENTRY
 abbrev pub quality_json : MarkedRemark → Json
 quality_json e = quality_by (rule_id e.said.subject) (quality_word e.said.subject) e
-
--- THE DOCUMENT of the remarks on all modules
-abbrev pub gitlab_json : List MarkedRemark → Json
-gitlab_json es = array (json_items (map quality_json es))

@@ -2,12 +2,12 @@
 use Rattle.std.specs.Prelude.{◌≡◌, ◌++◌, ℕ, ◌<◌, ◌^◌, All, List, Some}
 use Rattle.std.specs.List.{flat_map}
 use Rattle.json.specs.Json.{Json as JsonValue, document}
-use Rattle.lint_forms.specs.Forms.{run_text}
-use Rattle.lint_forms.specs.Gitlab.{gitlab_json}
+use Rattle.lint_forms.specs.Documents.{run_text}
+use Rattle.lint_forms.specs.Documents.{gitlab_json}
 use Rattle.lint_forms.specs.Marks.{entries}
 use Rattle.lint_forms.specs.Remarks.{Remark}
-use Rattle.lint_forms.specs.Sarif.{sarif_json}
-use Rattle.lint_forms.specs.Tflint.{tflint_json}
+use Rattle.lint_forms.specs.Documents.{sarif_json}
+use Rattle.lint_forms.specs.Documents.{tflint_json}
 use Rattle.lint_forms.specs.declared.kind.Form.{Form}
 use Rattle.lint_forms.specs.declared.kind.Form.TheVariants.{Gitlab, Json, Sarif}
 

@@ -116,20 +116,6 @@ invocation_json status =
     object (member (codes "executionSuccessful") (boolean (not (status == 1))) (member (codes
     "exitCode") (number (decimal status)) no_members))
 
-abbrev pub run_json : List ℕ → ℕ → List MarkedRemark → Json
-run_json version status es =
-    object (member (codes "tool") (tool_json version) (member (codes "results") (array (json_items
-    (map result_json es)))
-    (member (codes "invocations") (array (item (invocation_json status) no_items)) no_members)))
-
--- THE DOCUMENT of the remarks on all modules, by the program of a version in a run of a status
-abbrev pub sarif_json : List ℕ → ℕ → List MarkedRemark → Json
-sarif_json version status es =
-    object (member (codes "$schema") (string (codes
-    "https://json.schemastore.org/sarif-2.1.0.json"))
-    (member (codes "version") (string (codes "2.1.0"))
-    (member (codes "runs") (array (item (run_json version status es) no_items)) no_members)))
-
 -- ---- its parts
 
 -- the tokens before the results

@@ -1,9 +1,8 @@
 -- The form of TFLint's own JSON: its issues, among them comments that are meant to silence a rule and don't, and as its
 -- errors the reasons why files are refused. Each range ends where it begins.
-use Rattle.std.specs.Prelude.{ℕ, List, codes, decimal, map}
+use Rattle.std.specs.Prelude.{ℕ, List, codes, decimal}
 use Rattle.json.specs.Json.{Json, array, member, no_items, no_members, number, object, string}
 use Rattle.lint_forms.specs.Remarks.{Remark}
-use Rattle.lint_forms.specs.Values.{json_items}
 use Rattle.lint_forms.specs.Words.{rule_id, severity_word}
 
 abbrev pub place_json : ℕ → ℕ → Json
@@ -38,9 +37,3 @@ abbrev pub error_json : Remark → Json
 error_json r =
     object (member (codes "message") (string r.text) (member (codes "severity") (string (codes
     "error")) (member (codes "range") (range_json r) no_members)))
-
--- THE DOCUMENT of these issues and refusals
-abbrev pub tflint_json : List Remark → List Remark → Json
-tflint_json issues refusals =
-    object (member (codes "issues") (array (json_items (map issue_json issues))) (member (codes
-    "errors") (array (json_items (map error_json refusals))) no_members))

@@ -31,9 +31,9 @@ impl Draw {
         drawn % bound
     }
 
-    /// One of some pieces, or nothing if there is none.
-    pub fn one_of<'a, T>(&mut self, pieces: &'a [T]) -> Option<&'a T> {
-        let number = self.below(pieces.len());
-        pieces.get(number)
+    /// One of some fragments, or nothing if there is none.
+    pub fn one_of<'a, T>(&mut self, fragments: &'a [T]) -> Option<&'a T> {
+        let number = self.below(fragments.len());
+        fragments.get(number)
     }
 }

@@ -1,8 +1,8 @@
 //! Files that are formatted, in turn.
 
 use crate::digest::{Digest, DigestSink};
+use crate::fragments::{CARRIAGE, DEEP, HEREDOCS, MESSY, PARTS, SCRIPTS, SHORT, SIGNS, TIDY};
 use crate::made_text::MadeText;
-use crate::pieces::{CARRIAGE, DEEP, HEREDOCS, MESSY, PARTS, SCRIPTS, SHORT, SIGNS, TIDY};
 use crate::texts::{Maker, Shape};
 use std::alloc::{AllocError, Global};
 use tffmt_command::run::program;
@@ -24,7 +24,7 @@ static SIZES: [usize; 16] = [
     1_000_000, 5_000, 18_000, 600,
 ];
 
-/// Formats files of pieces of a shape, of all sizes, a number of times.
+/// Formats files of fragments of a shape, of all sizes, a number of times.
 fn format_sizes(
     alloc: Global,
     shape: &Shape,

@@ -3,8 +3,8 @@
 ghost use Rattle.std.specs.Prelude.{◌≡◌, ◌||◌, false, None};
 
 use crate::digest::{Digest, DigestSink};
+use crate::fragments::{DECLARED, TIDY};
 use crate::made_text::MadeText;
-use crate::pieces::{DECLARED, TIDY};
 use crate::texts::{Maker, Shape};
 use hcl_scan::ByteSource;
 use std::alloc::{AllocError, Global};
@@ -79,7 +79,7 @@ fn lint_module<'a>(alloc: Global, words: &[&str], files: &mut MadeFiles<'a>, dig
     digest.add_words(err.digest());
 }
 
-/// Modules of pieces of a shape, and the words with which they are linted.
+/// Modules of fragments of a shape, and the words with which they are linted.
 #[derive(Clone, Copy)]
 struct Load<'w> {
     shape: &'w Shape,

@@ -5,9 +5,9 @@
 mod digest;
 mod draw;
 mod formatter;
+mod fragments;
 mod linter;
 mod made_text;
-mod pieces;
 mod texts;
 mod trees;
 

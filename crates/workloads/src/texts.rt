@@ -1,37 +1,37 @@
-//! Texts made of pieces.
+//! Texts made of fragments.
 
 ghost use Rattle.std.specs.Prelude.{◌≤◌};
 
 use crate::draw::Draw;
 use std::alloc::{AllocError, Global};
 
-/// A piece, as the texts between its numbers.
+/// A fragment, as the texts between its numbers.
 #[derive(Drop)]
-pub struct Piece {
+pub struct Fragment {
     parts: Vec<&'static str>,
 }
 
-/// A kind of text: the pieces that it is made of.
+/// A kind of text: the fragments that it is made of.
 #[derive(Drop)]
 pub struct Shape {
-    pieces: Vec<Piece>,
+    fragments: Vec<Fragment>,
 }
 
-fn piece_of(alloc: Global, text: &'static str) -> Result<Piece, AllocError> {
+fn fragment_of(alloc: Global, text: &'static str) -> Result<Fragment, AllocError> {
     let mut parts = Vec::new(alloc);
     for part in text.split('@') {
         parts.push(part)?;
     }
-    Ok(Piece { parts })
+    Ok(Fragment { parts })
 }
 
 impl Shape {
     pub fn new(alloc: Global, texts: &[&'static str]) -> Result<Shape, AllocError> {
-        let mut pieces = Vec::new(alloc);
+        let mut fragments = Vec::new(alloc);
         for text in texts {
-            pieces.push(piece_of(alloc, text)?)?;
+            fragments.push(fragment_of(alloc, text)?)?;
         }
-        Ok(Shape { pieces })
+        Ok(Shape { fragments })
     }
 }
 
@@ -49,11 +49,11 @@ fn digits_of(number: u32) -> [u8; 7] {
     digits
 }
 
-/// Adds a piece with this number.
-fn add_piece(text: &mut Vec<u8>, piece: &Piece, number: u32) -> Result<(), AllocError> {
+/// Adds a fragment with this number.
+fn add_fragment(text: &mut Vec<u8>, fragment: &Fragment, number: u32) -> Result<(), AllocError> {
     let digits = digits_of(number);
     let mut is_after = false;
-    for part in piece.parts.as_slice() {
+    for part in fragment.parts.as_slice() {
         if is_after {
             text.extend_from_slice(&digits)?;
         }
@@ -84,7 +84,7 @@ impl Maker {
         self.draw.below(bound)
     }
 
-    /// Appends pieces of a shape until the text has at least this many bytes.
+    /// Appends fragments of a shape until the text has at least this many bytes.
     pub fn add(
         &mut self,
         text: &mut Vec<u8>,
@@ -95,16 +95,16 @@ impl Maker {
             if text.len() >= size {
                 return Ok(());
             }
-            let Some(piece) = self.draw.one_of(shape.pieces.as_slice()) else {
+            let Some(fragment) = self.draw.one_of(shape.fragments.as_slice()) else {
                 return Ok(());
             };
-            add_piece(text, piece, self.number)?;
+            add_fragment(text, fragment, self.number)?;
             self.number = self.number.wrapping_add(1);
         }
         Ok(())
     }
 
-    /// A text of pieces of a shape, of at least this many bytes.
+    /// A text of fragments of a shape, of at least this many bytes.
     pub fn text(
         &mut self,
         alloc: Global,

@@ -4,8 +4,8 @@ ghost use Rattle.std.specs.Prelude.{◌≡◌, false, None};
 ghost use Rattle.file_tree.specs.Files.{silent_files};
 
 use crate::digest::{Digest, DigestSink};
+use crate::fragments::{DECLARED, MESSY, TIDY};
 use crate::made_text::MadeText;
-use crate::pieces::{DECLARED, MESSY, TIDY};
 use crate::texts::{Maker, Shape};
 use command_line::Streams;
 use file_tree::fault::TreeFault;

@@ -157,6 +157,10 @@ pub record Hears (old new : List Found) (before after : Faults) : Type 0 where
   pub found : new ≡ old ++ more
   pub heard : after ≡ with_failures before (failures_in more)
 
+-- a walk hears of each failed call of the device, and keeps it
+abbrev pub WalkHears : Walk → Walk → Faults → Faults → Type 0
+WalkHears old new before after = Hears (walk_view old).found (walk_view new).found before after
+
 -- everything that a given path adds is real
 pub record HearsGiven (files : Files) (chosen : Chosen) (path : Name) (old new : List Found) (before after : Faults) : Type 0 where
   pub more : List Found

@@ -1,4 +1,4 @@
-//! The pieces that texts are made of. Each `@` in one stands for a number of seven digits.
+//! The fragments that texts are made of. Each `@` in one stands for a number of seven digits.
 
 /// Blocks in the style.
 pub static TIDY: &[&str] = &[
