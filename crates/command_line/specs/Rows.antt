@@ -106,10 +106,6 @@ TookBy true before after text = (n : ℕ) × (n ≤ length text) × Appends befo
 abbrev pub Took : Writer → List ℕ → Type 0
 Took w text = TookBy w.failed w.before w.after text
 
--- the writer was flushed once in this run
-abbrev pub IsFlushedOnce : Writer → Type 0
-IsFlushedOnce w = w.flushes_after ≡ one_more w.flushes_before
-
 abbrev pub IsUnflushed : Writer → Type 0
 IsUnflushed w = w.flushes_after ≡ w.flushes_before
 
@@ -121,7 +117,7 @@ error_output program out_failed row = if out_failed then write_failed program el
 -- and none of standard error.
 pub record IsFlushed (row : Row) (message : List ℕ) (end : End) : Type 0 where
   pub flush : end.out.failed ≡ false → 0 < length row.out
-      → (end.out.flushed ≡ true) × IsFlushedOnce end.out
+      → (end.out.flushed ≡ true) × (end.out.flushes_after ≡ one_more end.out.flushes_before)
   pub no_output : length row.out ≡ 0 → IsUnflushed end.out
   pub unflushed : end.err.failed ≡ false → 0 < length message → end.err.flushed ≡ false
   pub no_flush : IsUnflushed end.err

@@ -5,13 +5,10 @@ use Rattle.std.specs.Str.{bytes_eq}
 use Rattle.std.specs.List.{onto_first}
 use Rattle.std.specs.List as list
 
-abbrev pub line_onto : ℕ → List (List ℕ) → List (List ℕ)
-line_onto b lines = if b == 10 then (b ∷ []) ∷ lines else onto_first b lines
-
 -- the lines of a text, each with its LF; one without is at the end
 abbrev pub lines_of : List ℕ → List (List ℕ)
 lines_of [] = []
-lines_of (b ∷ bs) = line_onto b (lines_of bs)
+lines_of (b ∷ bs) = if b == 10 then (b ∷ []) ∷ lines_of bs else onto_first b (lines_of bs)
 
 -- two texts by lines, which are numbered from 0
 pub record Texts : Type 0 where

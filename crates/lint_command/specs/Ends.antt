@@ -177,9 +177,6 @@ pub record Lints (terminals : Terminals) (job : Job) (paths : List Name) (files 
 
 -- ---- runs that look at no file
 
-abbrev pub version_line : List ℕ
-version_line = codes "tfrules-all 0.3.0\n"
-
 abbrev pub help_text : List ℕ
 help_text =
     codes
@@ -196,7 +193,7 @@ wrong_value front value = fails_with tree_linter (front ++ in_quotes value)
 -- THE ROW of these texts, if they request a text, or are no line of this program
 abbrev pub usage_row : List Text → Usage → Row
 usage_row texts Help = output_row help_text 0
-usage_row texts Version = output_row version_line 0
+usage_row texts Version = output_row (codes "tfrules-all 0.3.0\n") 0
 usage_row texts ListRules = output_row rule_list 0
 usage_row texts (Explain rule) = output_row (explanation_of rule) 0
 usage_row texts BadLine = message_row (bad_line_words linter_words texts) 1

@@ -2,5 +2,4 @@ pub mod Ends
 pub mod Explained
 pub mod Inner
 pub mod Line
-pub mod Linter
 pub mod LinterWords

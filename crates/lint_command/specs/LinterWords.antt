@@ -1,7 +1,6 @@
 -- The vocabulary with which `tfrules-all` finds and explains a wrong word. Our own choice.
 use Rattle.std.specs.Prelude.{[], ◌∷◌, codes}
 use Rattle.lint_command.specs.Line.{tfrules_all}
-use Rattle.lint_command.specs.Linter.{usage_line}
 use Rattle.tree_words.specs.WrongWords.{Vocabulary, letters_of, names_of}
 
 -- besides its own options, some of TFLint and of `terraform`
@@ -17,5 +16,7 @@ linter_words = record {
       ∷ record { option = codes "--chdir"; hint = codes "; name the folder instead" }
       ∷ record { option = codes "--only"; hint = codes "; write --rules LIST" }
       ∷ record { option = codes "--fix"; hint = codes "; no file is ever changed" } ∷ [];
-  usage = usage_line;
+  usage =
+      codes
+      "usage: tfrules-all [--rules LIST] [--naming NAMING]\n                   [--minimum-failure-severity SEVERITY] [--force]\n                   [--check-comments] [--no-config] [--format FORM] [--quiet]\n                   [--shard K/N] [--null] [--] [FILE|FOLDER]...\n       tfrules-all --list-rules\n       tfrules-all --explain RULE\n";
 }

@@ -116,11 +116,8 @@ abbrev pub is_file_by : Option TreeFault → Name → Bool
 is_file_by None name = is_module_file name
 is_file_by (Some fault) name = false
 
-abbrev pub file_of : Found → List Name
-file_of f = if is_file_by f.fault f.name.items then f.name.items ∷ [] else []
-
 abbrev pub file_in : Found → List Name
-file_in f = file_of (judge f)
+file_in f = if is_file_by (judge f).fault f.name.items then f.name.items ∷ [] else []
 
 -- the module isn't whole without it: it can't be linted, and is a file of the module, or a folder
 abbrev pub breaks_by : Option TreeFault → Name → Bool

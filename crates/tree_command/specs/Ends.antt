@@ -62,9 +62,6 @@ SaysOnly row before after end =
 
 -- ---- runs that look at no file
 
-abbrev pub version_line : List ℕ
-version_line = codes "tffmt-all 0.3.0\n"
-
 abbrev pub help_text : List ℕ
 help_text =
     codes
@@ -73,7 +70,7 @@ help_text =
 -- THE ROW of these texts, if they request a text, or are no line of this program
 abbrev pub usage_row : List Text → Usage → Row
 usage_row texts Help = output_row help_text 0
-usage_row texts Version = output_row version_line 0
+usage_row texts Version = output_row (codes "tffmt-all 0.3.0\n") 0
 usage_row texts BadLine = message_row (bad_line_words formatter_words texts) 2
 usage_row texts TwoModes =
     message_row (codes "tffmt-all: error: --list takes neither --check nor --diff beside it\n") 2

@@ -1,6 +1,5 @@
 -- The vocabulary with which `tffmt-all` finds and explains a wrong word. Our own choice.
 use Rattle.std.specs.Prelude.{[], ◌∷◌, codes}
-use Rattle.tree_command.specs.Formatter.{usage_line}
 use Rattle.tree_command.specs.Line.{tffmt_all}
 use Rattle.tree_words.specs.WrongWords.{Vocabulary, letters_of, names_of}
 
@@ -16,5 +15,7 @@ formatter_words = record {
       ∷ record { option = codes "-write=false"; hint = codes "; write --list, --check or --diff" }
       ∷ record { option = codes "--write=false"; hint = codes "; write --list, --check or --diff" }
       ∷ [];
-  usage = usage_line;
+  usage =
+      codes
+      "usage: tffmt-all [--check | --diff | --list] [--in-place] [--sync] [--quiet]\n                 [--shard K/N] [--exclude PATH]... [--any-name] [--null] [--]\n                 [FILE|FOLDER]...\n";
 }

@@ -26,14 +26,11 @@ abbrev pub name_line : Ending → Name → List ℕ
 name_line Line name = line (shown_name name)
 name_line Null name = name ++ 0 ∷ []
 
--- the group of a file that was written couldn't be kept
-abbrev pub narrowed_text : List ℕ
-narrowed_text = codes "its group cannot be kept: group and others have the rights that both had"
-
 -- the message about the rights to a file that was written
 abbrev pub rights_words : Replaced → Name → List ℕ
 rights_words Kept name = []
-rights_words Narrowed name = about name narrowed_text
+rights_words Narrowed name =
+    about name (codes "its group cannot be kept: group and others have the rights that both had")
 
 -- a file isn't formatted, or wasn't before
 abbrev pub changed_report : Mode → Replaced → Name → Row

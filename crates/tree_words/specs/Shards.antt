@@ -11,12 +11,9 @@ use Rattle.tree_words.specs.declared.shard.Shard.{Shard}
 abbrev pub worth : ℕ → ℕ
 worth byte = if byte == 10 then 1 else byte
 
-abbrev pub add_byte : ℕ → ℕ → ℕ
-add_byte sum byte = (sum * 31 + worth byte) % 4294967291
-
 -- THE SUM of a name's bytes, which decides its part
 abbrev pub sum_of : List ℕ → ℕ
-sum_of name = fold add_byte 0 name
+sum_of name = fold (λ sum byte. (sum * 31 + worth byte) % 4294967291) 0 name
 
 -- whether the name is in this part; if there are 0 parts, no name is in any
 abbrev pub has_name : Shard → List ℕ → Bool
