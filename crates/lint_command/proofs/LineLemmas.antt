@@ -6,7 +6,8 @@ use Rattle.rule_set.specs.declared.rule.Rule.{Rule}
 use Rattle.rule_set.specs.declared.rule.Severity.{Severity}
 use Rattle.tf_rules.specs.declared.naming.Naming.{Naming}
 use Rattle.tree_words.specs.declared.shard.Shard.{Shard}
-use Rattle.lint_command.specs.Line.{Given, request_by, given_by, is_good}
+use Rattle.lint_command.specs.Line.{Given, request_by, given_by}
+use Rattle.lint_command.specs.Inner.Asked.{is_good}
 use Rattle.lint_command.specs.declared.usage.Usage.{Usage}
 
 pub given_parts : (r r' : Result (Option (List Rule)) Usage) (n n' : Result (Option Naming) Usage) (m m' : Result (Option Severity) Usage) (f f' c c' v v' : Bool) → r ≡ r' → n ≡ n' → m ≡ m' → f ≡ f' → c ≡ c' → v ≡ v' → given_by r n m f c v ≡ given_by r' n' m' f' c' v'

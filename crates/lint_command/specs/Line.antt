@@ -118,9 +118,6 @@ form_given (Some text) = form_of_text text
 -- ---- the line
 
 -- names come from the line or from standard input, and not from both
-abbrev pub is_good : Bool → ℕ → Bool
-is_good null names = not null || names == 0
-
 abbrev pub request_by : Result Given Usage → Bool → Option (Option Shard) → Option (Option Form)
     → Bool → Bool → Bool → List Name → Result Request Usage
 request_by (Err usage) quiet shard form are_jobs is_good null names = Err usage
@@ -139,7 +136,7 @@ abbrev pub request_with : List Row → List Name → Result Request Usage
 request_with rows names =
     request_by (given_of_rows rows) (is_given (codes "quiet") rows)
     (shard_given (first_of (codes "shard") rows)) (form_given (first_of (codes "format") rows))
-    (are_jobs_good rows) (is_good (is_given (codes "null") rows) (length names))
+    (are_jobs_good rows) (not (is_given (codes "null") rows) || length names == 0)
     (is_given (codes "null") rows) names
 
 -- the usage for the rule that `--explain` names

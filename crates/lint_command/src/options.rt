@@ -5,7 +5,8 @@ ghost use Rattle.clap.specs.Words.{app_of, first_of, found_of, rows_of};
 ghost use Rattle.rule_lists.specs.Lists.{rules_in};
 ghost use Rattle.tfrules_command.specs.Line.{naming_of_text, severity_of_text};
 ghost use Rattle.lint_command.specs.Inner.Asked.{result_request, given_in, rules_view};
-ghost use Rattle.lint_command.specs.Line.{request_by, request_of_rows, request_of_texts, request_with, explain_request, form_of_text, form_given, given_of_rows, given_by, is_good, rules_taken, value_or_usage, text_requested, tfrules_all};
+ghost use Rattle.lint_command.specs.Line.{request_by, request_of_rows, request_of_texts, request_with, explain_request, form_of_text, form_given, given_of_rows, given_by, rules_taken, value_or_usage, text_requested, tfrules_all};
+ghost use Rattle.lint_command.specs.Inner.Asked.{is_good};
 ghost use Rattle.lint_command.specs.declared.usage.Usage.TheVariants.{BadNaming, BadSeverity, OutOfMemory};
 
 use crate::usage::Usage;

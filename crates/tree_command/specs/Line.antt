@@ -72,27 +72,21 @@ mode_by false false true ending writing = Some (Listed ending)
 mode_by _ _ _ ending writing = None
 
 -- with `--null` a printed name ends as those that are read
-abbrev pub ending_by : Bool → Ending
-ending_by null = if null then Null else Line
-
 abbrev pub mode_asked : List Row → Option Mode
 mode_asked rows =
     mode_by (is_given (codes "check") rows) (is_given (codes "diff") rows)
-    (is_given (codes "list") rows) (ending_by (is_given (codes "null") rows))
+    (is_given (codes "list") rows) (if is_given (codes "null") rows then Null else Line)
     (record { in_place = is_given (codes "in-place") rows; sync = is_given (codes "sync") rows })
 
 -- ---- the line
 
--- names are to be read from standard input, and the line has names too
-abbrev pub has_names_twice : Given → Bool
-has_names_twice given = given.null && not (length given.names == 0)
-
+-- names are read from standard input or are on the line, and not both
 abbrev pub request_by : Option Mode → Option (Option Shard) → Bool → Given → Result Request Usage
 request_by None shard are_jobs given = Err TwoModes
 request_by (Some mode) None are_jobs given = Err BadPart
 request_by (Some mode) (Some shard) false given = Err BadJobs
 request_by (Some mode) (Some shard) true given =
-    if has_names_twice given then Err NamesTwice
+    if given.null && not (length given.names == 0) then Err NamesTwice
     else Ok (record { mode = mode; shard = shard; given = given })
 
 -- the names of a line are those that clap finds, and then the words that aren't UTF-8
@@ -105,15 +99,11 @@ given_by others rows = record {
   names = texts_of (codes "file") rows ++ others;
 }
 
-abbrev pub request_with : List Row → Given → Result Request Usage
-request_with rows given =
-    request_by (mode_asked rows) (shard_given (first_of (codes "shard") rows)) (are_jobs_good rows)
-    given
-
 abbrev pub request_of_rows : List Name → List Row → Result Request Usage
 request_of_rows others rows =
     if is_given (codes "version") rows then Err Version
-    else request_with rows (given_by others rows)
+    else request_by (mode_asked rows) (shard_given (first_of (codes "shard") rows))
+    (are_jobs_good rows) (given_by others rows)
 
 -- the request in these texts, and these other words, which are names, unless memory runs out
 abbrev pub request_of_texts : List Text → List Name → Result Request Usage

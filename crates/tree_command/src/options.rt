@@ -3,7 +3,8 @@
 ghost use Rattle.std.specs.Prelude.{◌≡◌, ◌⊎◌, false, codes, Err, IfOk, Some, map};
 ghost use Rattle.clap.specs.Words.{app_of, found_of, rows_of, rule_of};
 ghost use Rattle.tree_command.specs.Inner.Asked.{result_request, given_of};
-ghost use Rattle.tree_command.specs.Line.{request_by, request_of_rows, request_of_texts, request_with, ending_by, exclude_rule, given_by, has_names_twice, mode_asked, mode_by, mode_of_texts, tffmt_all};
+ghost use Rattle.tree_command.specs.Line.{request_by, request_of_rows, request_of_texts, exclude_rule, given_by, mode_asked, mode_by, mode_of_texts, tffmt_all};
+ghost use Rattle.tree_command.specs.Inner.Asked.{request_with, ending_by, has_names_twice};
 ghost use Rattle.tree_command.specs.declared.usage.Usage.TheVariants.{OutOfMemory};
 ghost use Rattle.tree_words.specs.Line.{texts_of};
 

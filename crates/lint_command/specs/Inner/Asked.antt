@@ -1,5 +1,5 @@
 -- The request in the code's options, as the definitions have it.
-use Rattle.std.specs.Prelude.{List, Option, Result, Ok, Err, map, option_map}
+use Rattle.std.specs.Prelude.{◌==◌, ◌||◌, not, ℕ, Bool, List, Option, Result, Ok, Err, map, option_map}
 use Rattle.lint_config.specs.Options.{options_of}
 use Rattle.rule_set.specs.RuleSets.{rules_of}
 use Rattle.rule_set.specs.declared.rule.Rule.{Rule}
@@ -32,3 +32,7 @@ request_of o =
 abbrev pub result_request : Result LintOptions Usage → Result Request Usage
 result_request (Ok o) = Ok (request_of o)
 result_request (Err usage) = Err usage
+
+-- names come from the line or from standard input, and not from both
+abbrev pub is_good : Bool → ℕ → Bool
+is_good null names = not null || names == 0

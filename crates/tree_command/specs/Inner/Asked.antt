@@ -1,7 +1,11 @@
 -- The request in the code's options, as the definitions have it.
-use Rattle.std.specs.Prelude.{Result, Ok, Err, map}
+use Rattle.std.specs.Prelude.{◌==◌, ◌&&◌, not, Bool, List, Result, Ok, Err, codes, length, map, if◌then◌else◌}
+use Rattle.clap.specs.Words.{Row, first_of}
 use Rattle.file_tree.specs.Choices.{choice_view}
-use Rattle.tree_command.specs.Line.{Request, Given, Selection}
+use Rattle.tree_format.specs.declared.mode.Ending.{Ending}
+use Rattle.tree_format.specs.declared.mode.Ending.TheVariants.{Line, Null}
+use Rattle.tree_words.specs.Line.{are_jobs_good, shard_given}
+use Rattle.tree_command.specs.Line.{Request, Given, Selection, mode_asked, request_by}
 use Rattle.tree_command.specs.declared.options.Given.{Given as GivenWords}
 use Rattle.tree_command.specs.declared.options.TreeOptions.{TreeOptions}
 use Rattle.tree_command.specs.declared.selection.Selection.{Selection as CodeSelection}
@@ -26,3 +30,14 @@ result_request (Err usage) = Err usage
 -- the view of a part of the files
 abbrev pub selection_view : CodeSelection → Selection
 selection_view selection = record { shard = selection.shard; chosen = choice_view selection.choice }
+
+-- names are to be read from standard input, and the line has names too
+abbrev pub has_names_twice : Given → Bool
+has_names_twice given = given.null && not (length given.names == 0)
+
+abbrev pub ending_by : Bool → Ending
+ending_by null = if null then Null else Line
+
+abbrev pub request_with : List Row → Given → Result Request Usage
+request_with rows given =
+    request_by (mode_asked rows) (shard_given (first_of (codes "shard") rows)) (are_jobs_good rows) given
