@@ -25,7 +25,7 @@ pub struct Choice<'a> {
 impl<'a> Choice<'a> {
     /// Nothing is excluded, and pipes, sockets and devices are taken.
     pub fn whole_tree() -> Choice<'a>
-        ensures { chosen result ≡ whole_tree }
+        ensures { choice_view result ≡ whole_tree }
     {
         Choice {
             any_name: false,
@@ -36,7 +36,7 @@ impl<'a> Choice<'a> {
 
     /// This choice, but a named file is taken whatever its name.
     pub fn any() -> Choice<'a>
-        ensures { chosen result ≡ any }
+        ensures { choice_view result ≡ any }
     {
         Choice {
             any_name: true,

@@ -53,7 +53,7 @@ impl Buffer {
     /// Appends bytes for which there is room.
     fn hold(&mut self, text: &[u8])
         requires { self.old.len + length text.now ≤ 8192 }
-        ensures buffered { buffered self.new ≡ buffered_bytes self.old ++ text.now }
+        ensures buffered { buffered_bytes self.new ≡ buffered_bytes self.old ++ text.now }
         ensures len { self.new.len ≡ self.old.len + length text.now }
         ensures sent { self.new.sent ≡ self.old.sent }
     {
@@ -65,7 +65,7 @@ impl Buffer {
     /// Appends a number of spaces, for which there is room.
     fn hold_blanks(&mut self, count: usize)
         requires { self.old.len + count ≤ 8192 }
-        ensures buffered { buffered self.new ≡ buffered_bytes self.old ++ replicate count 32 }
+        ensures buffered { buffered_bytes self.new ≡ buffered_bytes self.old ++ replicate count 32 }
         ensures len { self.new.len ≡ self.old.len + count }
         ensures sent { self.new.sent ≡ self.old.sent }
     {
@@ -78,7 +78,7 @@ impl Buffer {
     fn hold_few_blanks(&mut self, count: usize)
         requires few { count ≤ 16 }
         requires room { self.old.len + 16 ≤ 8192 }
-        ensures buffered { buffered self.new ≡ buffered_bytes self.old ++ replicate count 32 }
+        ensures buffered { buffered_bytes self.new ≡ buffered_bytes self.old ++ replicate count 32 }
         ensures len { self.new.len ≡ self.old.len + count }
         ensures sent { self.new.sent ≡ self.old.sent }
     {
@@ -91,7 +91,8 @@ impl Buffer {
     fn hold_front(&mut self, block: &[u8; 32], count: usize)
         requires few { count ≤ 32 }
         requires room { self.old.len + 32 ≤ 8192 }
-        ensures buffered { buffered self.new ≡ buffered_bytes self.old ++ take count block.now }
+        ensures buffered { buffered_bytes self.new
+            ≡ buffered_bytes self.old ++ take count block.now }
         ensures len { self.new.len ≡ self.old.len + count }
         ensures sent { self.new.sent ≡ self.old.sent }
     {
@@ -158,7 +159,7 @@ fn send_past<W: ByteSink>(to: &mut W, buffer: &mut Buffer, text: &[u8]) -> Resul
 #[inline(always)]
 fn push<W: ByteSink>(to: &mut W, buffer: &mut Buffer, text: &[u8]) -> Result<(), WriteFault>
     requires fresh { W.failed to.old ≡ false }
-    requires room { passed buffer.old + length text.now < 2 ^ 63 }
+    requires room { passed_count buffer.old + length text.now < 2 ^ 63 }
     ensures ok { OnOk result
         (Pushes (W.taken to.old) (W.taken to.new) buffer.old buffer.new text.now) }
     ensures err { IfErr result (Fails (W.taken to.old) (W.taken to.new) buffer.old text.now) }
@@ -184,7 +185,7 @@ fn push<W: ByteSink>(to: &mut W, buffer: &mut Buffer, text: &[u8]) -> Result<(),
 /// Writes a number of spaces.
 fn push_blanks<W: ByteSink>(to: &mut W, buffer: &mut Buffer, gap: u64) -> Result<(), WriteFault>
     requires fresh { W.failed to.old ≡ false }
-    requires room { passed buffer.old + gap < 2 ^ 63 }
+    requires room { passed_count buffer.old + gap < 2 ^ 63 }
     ensures ok { OnOk result
         (Pushes (W.taken to.old) (W.taken to.new) buffer.old buffer.new (replicate gap 32)) }
     ensures err { IfErr result
@@ -222,7 +223,7 @@ fn push_text<W: ByteSink>(
     text: &[u8],
 ) -> Result<(), WriteFault>
     requires fresh { W.failed to.old ≡ false }
-    requires room { passed buffer.old + gap + length text.now < 2 ^ 63 }
+    requires room { passed_count buffer.old + gap + length text.now < 2 ^ 63 }
     ensures ok { OnOk result
         (Pushes (W.taken to.old) (W.taken to.new) buffer.old buffer.new
         (replicate gap 32 ++ text.now)) }
@@ -250,7 +251,7 @@ fn push_stretch<W: ByteSink>(
 ) -> Result<(), WriteFault>
     requires fresh { W.failed to.old ≡ false }
     requires lies { Lies source.now stretch }
-    requires room { passed buffer.old + stretch_len stretch < 2 ^ 63 }
+    requires room { passed_count buffer.old + stretch_len stretch < 2 ^ 63 }
     ensures ok { OnOk result
         (Pushes (W.taken to.old) (W.taken to.new) buffer.old buffer.new
         (stretch_text source.now stretch)) }
@@ -282,7 +283,7 @@ fn finish<W: ByteSink>(
 ) -> Result<(), WriteFault>
     requires fresh { W.failed to.old ≡ false }
     requires lies { Lies source.now stretch }
-    requires room { passed buffer.old + stretch_len stretch < 2 ^ 62 }
+    requires room { passed_count buffer.old + stretch_len stretch < 2 ^ 62 }
     ensures ok { OnOk result
         (Finishes (W.taken to.old) (W.taken to.new) buffer.old (stretch_text source.now stretch)) }
     ensures err { IfErr result

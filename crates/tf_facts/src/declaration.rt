@@ -127,7 +127,7 @@ fn declared_by<'s>(
 ) -> Option<Declared<'s>>
     requires items { items.now ≡ outline accepted.now.tokens }
     requires token { token < length accepted.now.tokens }
-    ensures { listed result ≡ by_declarer (number_tokens accepted.now.tokens) token
+    ensures { declared_list result ≡ by_declarer (number_tokens accepted.now.tokens) token
         (labels_in (number_tokens accepted.now.tokens) (drop from items.now))
         (attributes_in (number_tokens accepted.now.tokens) (drop from items.now))
         (declarer (text_of (number_tokens accepted.now.tokens) token)) }
@@ -170,7 +170,7 @@ fn push_declaration<'s>(
 /// The declaration of an item in the body of a `locals` block.
 fn local_of<'s>(accepted: &Accepted<'_, 's>, item: Item) -> Option<Declared<'s>>
     requires { (i : ℕ) × (slice_get (outline accepted.now.tokens) i ≡ Some item) }
-    ensures { listed result ≡ map of_local
+    ensures { declared_list result ≡ map of_local
         (with_attribute (attribute (number_tokens accepted.now.tokens) item) []) }
 {
     let Item::Attribute { level, name, .. } = item else {
