@@ -65,7 +65,7 @@ fn gap(has_step: bool) -> &'static [u8]
 /// now.
 fn add_step(tidied: &mut Vec<u8>, has_step: bool, part: &[u8]) -> Result<bool, AllocError>
     ensures { IfOk result
-        (λ has. (tidy_path.new.items ≡ tidy_path.old.items ++ added_text has_step part.now)
+        (λ has. (tidied.new.items ≡ tidied.old.items ++ added_text has_step part.now)
         × (has ≡ (has_step || is_step part.now))) }
 {
     if !is_step(part) {

@@ -15,12 +15,12 @@ one_if b = if b then 1 else 0
 
 -- no kind both opens and closes
 pub disjoint : (k : Kind) → is_opener k ≡ true → is_closer k ≡ false
-disjoint k e = disjoint (is_opener k) (is_closer k) (each (λ j. not (is_opener j && is_closer j)) refl k) e
+disjoint k e = not_both (is_opener k) (is_closer k) (each (λ j. not (is_opener j && is_closer j)) refl k) e
   where
-    disjoint : (a b : Bool) → not (a && b) ≡ true → a ≡ true → b ≡ false
-    disjoint true true h e = sym h
-    disjoint true false h e = refl
-    disjoint false b h e = cc
+    not_both : (a b : Bool) → not (a && b) ≡ true → a ≡ true → b ≡ false
+    not_both true true h e = sym h
+    not_both true false h e = refl
+    not_both false b h e = cc
 
 -- every front of the list, from a depth on
 abbrev Fronts : ℕ → List Lexeme → Type 0
