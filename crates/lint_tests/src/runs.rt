@@ -222,12 +222,12 @@ fn the_status_is_the_worst(rt: HostRuntime) {
 fn issues_fail_a_run_as_they_are_asked_to(rt: HostRuntime) {
     let severe = Given {
         minimum: Severity::Error,
-        ..steady(A_ALONE)
+        ..steady_run(A_ALONE)
     };
     shows(&rt, rt.alloc(), severe, A_REPORT, "", 0);
     let forced = Given {
         force: true,
-        ..steady(A_THEN_B)
+        ..steady_run(A_THEN_B)
     };
     shows(&rt, rt.alloc(), forced, A_REPORT, B_REFUSAL, 1);
 }
@@ -239,7 +239,7 @@ fn what_fails_at_one_module_stops_no_other(rt: HostRuntime) {
             call: Some(0),
             ..STEADY
         },
-        ..steady(A_THEN_D)
+        ..steady_run(A_THEN_D)
     };
     shows(
         &rt,
@@ -254,7 +254,7 @@ fn what_fails_at_one_module_stops_no_other(rt: HostRuntime) {
             read: Some((0, 0)),
             ..STEADY
         },
-        ..steady(A_THEN_D)
+        ..steady_run(A_THEN_D)
     };
     shows(
         &rt,
@@ -270,7 +270,7 @@ fn what_fails_at_one_module_stops_no_other(rt: HostRuntime) {
 fn a_failed_write_ends_the_run(rt: HostRuntime) {
     let unwritten = Given {
         write: Some(0),
-        ..steady(C_A_B)
+        ..steady_run(C_A_B)
     };
     shows(&rt, rt.alloc(), unwritten, "", "", 1);
 }

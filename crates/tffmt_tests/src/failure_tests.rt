@@ -392,7 +392,7 @@ fn a_full_writer_fails(rt: HostRuntime) {
 fn a_writer_of_messages_takes_nothing(rt: HostRuntime) {
     let devices = Devices {
         most_told: 0,
-        ..steady(100)
+        ..steady_devices(100)
     };
     let row = row_of(&PRINT, b"a=\n", (b"", b"", 4));
     let run = run(rt.alloc(), &row, &devices);

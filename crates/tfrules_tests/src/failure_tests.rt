@@ -392,7 +392,7 @@ fn both_writers_fail(rt: HostRuntime) {
         most: 5,
         write: Some(0),
         message: Some(1),
-        ..steady(5)
+        ..steady_devices(5)
     };
     let run = run(rt.alloc(), &["tfrules", "main.tf"], REGISTRY, &devices);
     run.check(&rt, (b"", b"tfrul", 1), REGISTRY);

@@ -22,7 +22,7 @@ pub fn check(
 ) {
     let devices = Devices {
         file: failure,
-        ..steady(SINK_ROOM)
+        ..steady_devices(SINK_ROOM)
     };
     let run = run(alloc, words, files, &devices);
     run.check(rt, wanted, files);

@@ -139,7 +139,7 @@ fn fail_by(rt: &impl Abort, alloc: Global, row: &Row, tree: Failures, most: usiz
     };
     let devices = Devices {
         tree,
-        ..steady(most)
+        ..steady_devices(most)
     };
     fail_each(rt, alloc, row, devices)
 }

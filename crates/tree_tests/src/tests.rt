@@ -399,7 +399,7 @@ fn tells_refused(rt: &impl Abort, alloc: Global, shows: bool, told: &[u8]) {
         words: ALL,
         devices: Devices {
             shows,
-            ..steady(SINK_ROOM)
+            ..steady_devices(SINK_ROOM)
         },
     };
     let words: [&[u8]; 2] = [b"tffmt-all", b"--quiet"];

@@ -12,4 +12,4 @@ returns-then-not-is_inside c =
 pub loop-number-preserved : goal.loop-number-preserved
 loop-number-preserved c =
     locals_more (number_tokens c.args.accepted.now.tokens) c.args.items.now c.args.from c.args.found.now.items c.loop-number.found.items c.loop-number.number c.get-item.result c.get-item.ensures c.push_declaration.new.found.items
-    (sym c.is_inside.ensures ∙ c.if-not-is_inside.false) (c.in_ok-put.ensures ∙ ap (λ r. map declaration c.loop-number.found.items ++ r) c.local_of.ensures) c.loop-number.invariant
+    (sym c.is_inside.ensures ∙ c.if-not-is_inside.false) (c.in_ok-push_declaration.ensures ∙ ap (λ r. map declaration c.loop-number.found.items ++ r) c.local_of.ensures) c.loop-number.invariant

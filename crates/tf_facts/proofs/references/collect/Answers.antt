@@ -77,7 +77,7 @@ loop-next-preserved c =
     record {
       walked = record {
         collected = over_no_idents own ts c.args.into.now c.insert_reference.new.into (n + 1) c.next_ident-next-in-loop-next.result next.order next.within next.none
-            (collected own ts c.args.into.now c.loop-next.into c.insert_reference.new.into c.insert_reference.new.into (after_dot ts n) (after_dot ts (n + 1)) n t e seen (sym c.is_after_dot.ensures ∙ c.if-is_after_dot.false) dot refl c.in_ok-put.ensures.ok c.loop-next.invariant.walked.collected);
+            (collected own ts c.args.into.now c.loop-next.into c.insert_reference.new.into c.insert_reference.new.into (after_dot ts n) (after_dot ts (n + 1)) n t e seen (sym c.is_after_dot.ensures ∙ c.if-is_after_dot.false) dot refl c.in_ok-insert_reference.ensures.ok c.loop-next.invariant.walked.collected);
         passed = still_passed own c.count_passed-passed_blocks.result n c.next_ident-next-in-loop-next.result (omega (arith, next.order)) c.count_passed-passed_blocks.ensures.passed;
         within = c.count_passed-passed_blocks.ensures.within;
       };
