@@ -2,3 +2,4 @@ mod CollectLemmas
 mod EndingLemmas
 mod LineLemmas
 mod UsageLemmas
+pub mod RequestLemmas

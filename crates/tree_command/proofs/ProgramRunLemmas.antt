@@ -1,7 +1,7 @@
 -- From a run over found names to the end of the program.
 use Rattle.std.proofs.Common.{◌≡◌, ◌∙◌, ◌++◌, [], ℕ, Bool, true, false, List, All, ap, append-nil, map, refl, subst, sym}
-use Rattle.std.specs.Prelude.{◌≢◌, ◌||◌, if◌then◌else◌}
-use Rattle.command_line.specs.Rows.{End, TookBy, Writer}
+use Rattle.std.specs.Prelude.{◌≢◌, ◌||◌, Option, if◌then◌else◌}
+use Rattle.command_line.specs.Rows.{End, TookBy, Writer, out_of_memory}
 use Rattle.file_tree.specs.Asked.{Asked}
 use Rattle.file_tree.specs.Files.{Faults, Files, Name}
 use Rattle.file_tree.specs.declared.walk.Found.{Found}
@@ -14,8 +14,11 @@ use Rattle.tree_format.specs.declared.tally.Tally.{Tally}
 use Rattle.tree_format.specs.declared.outcome.Outcome.{Outcome}
 use Rattle.tree_format.specs.declared.mode.Mode.{Mode}
 use Rattle.command_line.proofs.WriterLemmas.{took_after, took_front}
-use Rattle.tree_command.specs.Ends.{Formats, IsSelected, last_words, words_at_end}
-use Rattle.tree_command.specs.Line.{Selection}
+use Rattle.tree_words.specs.Ends.{EndsBy}
+use Rattle.tree_command.specs.Ends.{Formats, IsSelected, SaysOnly, last_words, words_at_end}
+use Rattle.tree_command.specs.Formatter.{formatter}
+use Rattle.tree_command.specs.Inner.Runs.{EndsByRequest, FormatsNamed, read_failed}
+use Rattle.tree_command.specs.Line.{Request, Selection, selection_of}
 
 either_false : (f g : Bool) → g ≡ false → (f || g) ≡ f
 either_false true g e = refl
@@ -121,3 +124,16 @@ module _ (shows quiet : Bool) (mode : Mode) (selection : Selection) (paths : Lis
         (run_said shows mode found (record { files = mid; faults = walked; asked = asked' }) after out err s run.0 (last_words quiet mode out.failed) fin s' good before
         (subst (λ (t : Tally). TookBy fin.failed err.after fin.after (words_at_end quiet mode out.failed t)) run.1 took) status)
         (λ ne. done (status_kept (out.failed || fin.failed) s s' status ne)) untouched
+
+-- the end of a run over the names of the line
+pub ends_named : (shows : Bool) (asking : Request) (selection : Selection) (names : List Name) (failed : Bool) (input : Option (List ℕ)) (before after : State) (end : End)
+    → asking.given.null ≡ false → selection ≡ selection_of asking → names ≡ asking.given.names
+    → FormatsNamed shows asking.given.quiet asking.mode selection names before after end → EndsByRequest shows asking failed input before after end
+ends_named shows asking selection names failed input before after end line selected named ends =
+    let here : FormatsNamed shows asking.given.quiet asking.mode (selection_of asking) asking.given.names before after end =
+      subst (λ (s : Selection). FormatsNamed shows asking.given.quiet asking.mode s asking.given.names before after end) selected
+      (subst (λ (l : List Name). FormatsNamed shows asking.given.quiet asking.mode selection l before after end) named ends) in
+    subst
+    (λ (null : Bool). EndsBy (SaysOnly (out_of_memory formatter) before after end) (SaysOnly read_failed before after end)
+      (λ paths. Formats shows asking.given.quiet asking.mode (selection_of asking) paths before after end) null asking.given.names failed input)
+    (sym line) here
