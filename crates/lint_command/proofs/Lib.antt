@@ -1,5 +1,5 @@
 mod CollectLemmas
 mod EndingLemmas
 mod LineLemmas
+mod RequestLemmas
 mod UsageLemmas
-pub mod RequestLemmas
