@@ -131,9 +131,9 @@ pub ends_named : (shows : Bool) (asking : Request) (selection : Selection) (name
     → FormatsNamed shows asking.given.quiet asking.mode selection names before after end → EndsByRequest shows asking failed input before after end
 ends_named shows asking selection names failed input before after end line selected named ends =
     let here : FormatsNamed shows asking.given.quiet asking.mode (selection_of asking) asking.given.names before after end =
-      subst (λ (s : Selection). FormatsNamed shows asking.given.quiet asking.mode s asking.given.names before after end) selected
-      (subst (λ (l : List Name). FormatsNamed shows asking.given.quiet asking.mode selection l before after end) named ends) in
+    subst (λ (s : Selection). FormatsNamed shows asking.given.quiet asking.mode s asking.given.names before after end) selected
+    (subst (λ (l : List Name). FormatsNamed shows asking.given.quiet asking.mode selection l before after end) named ends) in
     subst
     (λ (null : Bool). EndsBy (SaysOnly (out_of_memory formatter) before after end) (SaysOnly read_failed before after end)
-      (λ paths. Formats shows asking.given.quiet asking.mode (selection_of asking) paths before after end) null asking.given.names failed input)
+    (λ paths. Formats shows asking.given.quiet asking.mode (selection_of asking) paths before after end) null asking.given.names failed input)
     (sym line) here
