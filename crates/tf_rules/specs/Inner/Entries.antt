@@ -31,7 +31,7 @@ abbrev pub text_of : Statement → List ℕ
 text_of (Fixed text) = text.now
 text_of (About d rest) = findings.kind_text d.now.kind ++ open_quote (last_of (stored_names d.now.names)) rest.now
 text_of (DefaultBranch d branch) = findings.about (stored_declaration d.now) (codes " source uses a default branch: " ++ branch.now)
-text_of (Misnamed d naming) = findings.kind_text d.now.kind ++ (codes " name" ++ findings.quoting (last_of (stored_names d.now.names)) (codes " must match " ++ naming_text naming))
+text_of (Misnamed d naming) = findings.kind_text d.now.kind ++ (codes " name" ++ findings.quote_name (last_of (stored_names d.now.names)) (codes " must match " ++ naming_text naming))
 text_of (Unused d) = findings.kind_text d.now.kind ++ findings.both_quoted (stored_names d.now.names) (codes " is declared but not used")
 
 abbrev pub issue_of : IssueEntry → Issue
