@@ -1,4 +1,3 @@
-pub mod AddsLemmas
 pub mod NumberLemmas
 pub mod NumberingLemmas
 pub mod SarifLemmas

@@ -5,12 +5,11 @@ ghost use Rattle.json.specs.Print.{print};
 ghost use Rattle.json.specs.Token.{begin_array, end_array};
 ghost use Rattle.lint_forms.specs.Gitlab.{quality_json};
 ghost use Rattle.lint_forms.specs.Inner.Shapes.{entry_by};
-ghost use Rattle.lint_forms.specs.Values.{json_text};
+ghost use Rattle.json_parts.specs.Values.{json_text};
 
 use crate::entry::MarkedRemark;
-use crate::part::JsonPart;
-use crate::parts::with_parts;
 use crate::words::{quality_word, rule_id};
+use json_parts::{JsonPart, with_parts};
 use std::alloc::{AllocError, Global};
 
 /// A text with an entry appended.
@@ -40,7 +39,7 @@ pub(crate) fn with_entry(text: Vec<u8>, entry: &MarkedRemark<'_>) -> Result<Vec<
             JsonPart::Key("lines"),
             JsonPart::Object,
             JsonPart::Key("begin"),
-            JsonPart::Number(entry.said.line),
+            JsonPart::Number(entry.said.line as u64),
             JsonPart::EndObject,
             JsonPart::EndObject,
             JsonPart::EndObject,

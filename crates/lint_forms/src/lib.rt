@@ -10,8 +10,6 @@ mod gitlab;
 mod kind;
 pub mod laws;
 mod lines;
-mod part;
-mod parts;
 mod places;
 mod remark;
 pub mod rule_texts;

@@ -4,23 +4,22 @@ ghost use Rattle.std.specs.Prelude.{◌≡◌, ◌++◌, IfOk};
 ghost use Rattle.std.specs.String.{string_bytes};
 ghost use Rattle.json.specs.Print.{print};
 ghost use Rattle.json.specs.Tree.{json_tokens};
-ghost use Rattle.lint_forms.specs.Inner.AddsTokens.{AddsTokens};
+ghost use Rattle.json_parts.specs.AddsTokens.{AddsTokens};
 ghost use Rattle.lint_forms.specs.Inner.Shapes.{entry_by};
 ghost use Rattle.lint_forms.specs.Inner.SarifParts.{results_head, rules_tokens, sarif_start};
 ghost use Rattle.lint_forms.specs.Remarks.{said_by};
 ghost use Rattle.lint_forms.specs.Sarif.{brief_rule, described_rule, full_text, page_of, result_by, result_json, rule_index, rule_json, sarif_foot, sarif_head};
-ghost use Rattle.lint_forms.specs.Values.{json_text};
+ghost use Rattle.json_parts.specs.Values.{json_text};
 ghost use Rattle.lint_forms.specs.Words.{level_word, rule_id};
 
 use crate::entry::MarkedRemark;
-use crate::part::JsonPart;
-use crate::parts::{with_parts, write_parts};
 use crate::places::uri_of;
 use crate::remark::Remark;
 use crate::rule_texts::{reason, reports};
 use crate::subject::Subject;
 use crate::words::{level_word, rule_id};
 use json::Writer;
+use json_parts::{JsonPart, with_parts, write_parts};
 use rule_set::{ALL_RULES, Rule, rank};
 use std::alloc::{AllocError, Global};
 
@@ -57,7 +56,7 @@ fn with_marked<'a>(
             JsonPart::Key("ruleId"),
             JsonPart::Text(name),
             JsonPart::Key("ruleIndex"),
-            JsonPart::Number(index),
+            JsonPart::Number(index as u64),
             JsonPart::Key("level"),
             JsonPart::Text(level),
             JsonPart::Key("message"),
@@ -78,7 +77,7 @@ fn with_marked<'a>(
             JsonPart::Key("region"),
             JsonPart::Object,
             JsonPart::Key("startLine"),
-            JsonPart::Number(said.line),
+            JsonPart::Number(said.line as u64),
             JsonPart::EndObject,
             JsonPart::EndObject,
             JsonPart::EndObject,
@@ -316,7 +315,7 @@ pub(crate) fn with_foot(text: Vec<u8>, status: u8) -> Result<Vec<u8>, AllocError
             JsonPart::Key("executionSuccessful"),
             JsonPart::Flag(status != 1),
             JsonPart::Key("exitCode"),
-            JsonPart::Number(status as u32),
+            JsonPart::Number(status as u64),
             JsonPart::EndObject,
             JsonPart::EndArray,
             JsonPart::EndObject,

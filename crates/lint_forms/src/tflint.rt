@@ -3,12 +3,11 @@
 ghost use Rattle.std.specs.Prelude.{◌≡◌, ◌++◌, IfOk};
 ghost use Rattle.lint_forms.specs.Remarks.{said_by};
 ghost use Rattle.lint_forms.specs.Tflint.{error_json, issue_json};
-ghost use Rattle.lint_forms.specs.Values.{json_text};
+ghost use Rattle.json_parts.specs.Values.{json_text};
 
-use crate::part::JsonPart;
-use crate::parts::with_parts;
 use crate::remark::Remark;
 use crate::words::{rule_id, severity_word};
+use json_parts::{JsonPart, with_parts};
 use std::alloc::AllocError;
 
 /// A text with an issue appended.
@@ -40,16 +39,16 @@ pub(crate) fn with_issue(text: Vec<u8>, remark: Remark<'_>) -> Result<Vec<u8>, A
             JsonPart::Key("start"),
             JsonPart::Object,
             JsonPart::Key("line"),
-            JsonPart::Number(remark.line),
+            JsonPart::Number(remark.line as u64),
             JsonPart::Key("column"),
-            JsonPart::Number(remark.column),
+            JsonPart::Number(remark.column as u64),
             JsonPart::EndObject,
             JsonPart::Key("end"),
             JsonPart::Object,
             JsonPart::Key("line"),
-            JsonPart::Number(remark.line),
+            JsonPart::Number(remark.line as u64),
             JsonPart::Key("column"),
-            JsonPart::Number(remark.column),
+            JsonPart::Number(remark.column as u64),
             JsonPart::EndObject,
             JsonPart::EndObject,
             JsonPart::Key("callers"),
@@ -80,16 +79,16 @@ pub(crate) fn with_error(text: Vec<u8>, remark: Remark<'_>) -> Result<Vec<u8>, A
             JsonPart::Key("start"),
             JsonPart::Object,
             JsonPart::Key("line"),
-            JsonPart::Number(remark.line),
+            JsonPart::Number(remark.line as u64),
             JsonPart::Key("column"),
-            JsonPart::Number(remark.column),
+            JsonPart::Number(remark.column as u64),
             JsonPart::EndObject,
             JsonPart::Key("end"),
             JsonPart::Object,
             JsonPart::Key("line"),
-            JsonPart::Number(remark.line),
+            JsonPart::Number(remark.line as u64),
             JsonPart::Key("column"),
-            JsonPart::Number(remark.column),
+            JsonPart::Number(remark.column as u64),
             JsonPart::EndObject,
             JsonPart::EndObject,
             JsonPart::EndObject,

@@ -36,7 +36,7 @@ use Rattle.file_tree.specs.declared.fault.TreeFault.{TreeFault}
 use Rattle.file_tree.specs.declared.fault.TreeFault.TheVariants.{OutOfMemory}
 use Rattle.file_tree.specs.declared.tree.Replaced.{Replaced}
 use Rattle.file_tree.specs.declared.tree.Writing.{Writing}
-use Rattle.tree_format.specs.Format.{IsFault, IsFormat}
+use Rattle.text_format.specs.Format.{IsFault, IsFormat}
 use Rattle.tree_format.specs.Looks.{Asks, AsksIn, Left, Looks, Notes, Visits, failure_of}
 use Rattle.source_snippet.specs.Snippets.{snippet_if}
 use Rattle.tree_format.specs.Refusals.{is_about_line, shown_line}

@@ -18,7 +18,7 @@ use Rattle.file_tree.specs.declared.tree.Replaced.{Replaced}
 use Rattle.file_tree.specs.declared.tree.Replaced.TheVariants.{Kept as AllKept, Narrowed}
 use Rattle.file_tree.specs.declared.walk.Found.{Found}
 use Rattle.tree_format.specs.GoodRuns.{AreTold, is_narrowed}
-use Rattle.tree_format.specs.Format.{IsFault, IsFormat, IsTextFault}
+use Rattle.text_format.specs.Format.{IsFault, IsFormat, IsTextFault}
 use Rattle.tree_format.specs.Looks.{Left, Looks, Visits, shown_diff}
 use Rattle.tree_format.specs.Refusals.{shown_line}
 use Rattle.command_line.specs.Rows.{Row}

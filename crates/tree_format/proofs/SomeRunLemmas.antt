@@ -33,7 +33,7 @@ use Rattle.file_tree.specs.Asked.{Asked, with_asked}
 use Rattle.file_tree.specs.declared.tree.Replaced.TheVariants.{Kept as AllKept}
 use Rattle.file_tree.specs.declared.walk.Found.{Found}
 use Rattle.tree_format.specs.GoodRuns.{HasFormatOrFault, AreReady, HasLineRoom, HasRoom, Holds, IsReady}
-use Rattle.tree_format.specs.Format.{IsFault, IsFormat}
+use Rattle.text_format.specs.Format.{IsFault, IsFormat}
 use Rattle.tree_format.specs.Looks.{Asks, Looks, Visits, failure_of, shown_diff}
 use Rattle.tree_format.specs.Refusals.{shown_line}
 use Rattle.tree_format.specs.Reports.{worst_status}

@@ -5,7 +5,7 @@ use Rattle.hcl_source.specs.declared.fault.Fault.{Fault}
 use Rattle.file_tree.specs.Files.{Files, Name}
 use Rattle.file_tree.specs.declared.tree.Replaced.TheVariants.{Narrowed}
 use Rattle.file_tree.specs.declared.walk.Found.{Found}
-use Rattle.tree_format.specs.Format.{IsFormat, IsFault}
+use Rattle.text_format.specs.Format.{IsFormat, IsFault}
 use Rattle.tree_format.specs.Looks.{shown_diff}
 use Rattle.tree_format.specs.Refusals.{shown_line}
 use Rattle.tree_format.specs.declared.mode.Mode.{Mode}

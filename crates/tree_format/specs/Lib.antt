@@ -1,4 +1,3 @@
-pub mod Format
 pub mod Refusals
 pub mod Looks
 pub mod Reports

@@ -9,7 +9,7 @@ use Rattle.file_tree.specs.declared.tree.Replaced.{Replaced}
 use Rattle.file_tree.specs.declared.tree.Writing.{Writing}
 use Rattle.file_tree.specs.Quotes.{shown_head}
 use Rattle.line_diff.specs.Diffs.{diff_of}
-use Rattle.tree_format.specs.Format.{IsFormat, IsFault}
+use Rattle.text_format.specs.Format.{IsFormat, IsFault}
 use Rattle.tree_format.specs.Refusals.{shown_line}
 use Rattle.tree_format.specs.Reports.{snippet_text}
 use Rattle.tree_format.specs.declared.mode.Mode.{Mode}

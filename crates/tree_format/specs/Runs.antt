@@ -9,7 +9,7 @@ use Rattle.tree_format.specs.Looks.{Asks, Notes, Visits}
 use Rattle.tree_format.specs.Reports.{report_of, worst_status}
 use Rattle.tree_format.specs.States.{State}
 use Rattle.hcl_source.specs.declared.fault.Fault.{Fault}
-use Rattle.tree_format.specs.Format.{IsFormat, IsFault}
+use Rattle.text_format.specs.Format.{IsFormat, IsFault}
 use Rattle.tree_format.specs.declared.mode.Mode.{Mode}
 use Rattle.tree_format.specs.declared.mode.Mode.TheVariants.{Write}
 use Rattle.tree_format.specs.declared.outcome.Outcome.{Outcome}

@@ -4,7 +4,6 @@
 pub mod laws;
 pub mod mode;
 pub mod outcome;
-mod printed;
 pub mod progress;
 pub mod report;
 pub mod run;

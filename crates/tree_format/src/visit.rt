@@ -14,12 +14,11 @@ ghost use Rattle.tree_format.specs.Inner.Steps.{Completes, IsShown, LoadNotes, L
 
 use crate::mode::Mode;
 use crate::outcome::Outcome;
-use crate::printed::Printed;
 use file_tree::fault::TreeFault;
 use file_tree::path::join;
 use file_tree::quote::shown_head;
 use file_tree::tree::{Replaced, Tree, WritableTree, Writing};
-use hcl_layout::{emit, fits, is_formatted};
+use hcl_layout::{fits, is_formatted};
 use hcl_scan::{
     ByteSink, Fault, FaultKind, LoadError, MAX_SOURCE, Position, ScanError, Source, scan,
 };
@@ -27,19 +26,7 @@ use hcl_syntax::{Accepted, accepts};
 use line_diff::diff::diff;
 use source_snippet::snippet_of;
 use std::alloc::{AllocError, Global};
-
-/// The print, in memory.
-fn print_of(alloc: Global, accepted: &Accepted<'_, '_>) -> Result<Printed, TreeFault>
-    ensures print { IfOk result
-        (λ p. ⟦<Printed as ByteSink>⟧.taken p ≡ Some (print accepted.now.tokens)) }
-    ensures fault { IfErr result (λ fault. fault ≡ OutOfMemory) }
-{
-    let mut printed = Printed::new(alloc);
-    match emit(accepted, &mut printed) {
-        Ok(()) => Ok(printed),
-        Err(_) => Err(TreeFault::OutOfMemory),
-    }
-}
+use text_format::print_of;
 
 /// Replaces a file by its print.
 #[tactic(auto, using(crate::proofs::KeptFormatLemmas::notes_call, crate::proofs::KeptFormatLemmas::notes_fault, crate::proofs::KeptFormatLemmas::notes_memory))]
@@ -62,7 +49,7 @@ fn write_print<T: WritableTree>(
 {
     let printed = match print_of(alloc, accepted) {
         Ok(printed) => printed,
-        Err(fault) => return Outcome::Failed(fault),
+        Err(_) => return Outcome::Failed(TreeFault::OutOfMemory),
     };
     let old = accepted.tokens().source().text().as_bytes();
     match tree.replace(name, old, printed.bytes(), writing) {
@@ -94,7 +81,7 @@ fn show_print(alloc: Global, name: &[u8], accepted: &Accepted<'_, '_>) -> Outcom
 {
     let printed = match print_of(alloc, accepted) {
         Ok(printed) => printed,
-        Err(fault) => return Outcome::Failed(fault),
+        Err(_) => return Outcome::Failed(TreeFault::OutOfMemory),
     };
     let old = accepted.tokens().source().text().as_bytes();
     match shown_diff(alloc, name, old, printed.bytes()) {

@@ -1,5 +1,5 @@
 -- The formatter's answer for bytes: they have a format, or a fault because of which they have none.
-use Rattle.std.specs.Prelude.{◌≡◌, ◌⊎◌, ◌≤◌, ◌<◌, ℕ, List, Ok, Err, length}
+use Rattle.std.specs.Prelude.{◌≡◌, ◌⊎◌, ◌≤◌, ◌<◌, ℕ, List, Ok, Err, Option, Some, None, length}
 use Rattle.hcl_source.specs.Load.{max_source, IsText, IsLoadFault, print_too_large}
 use Rattle.hcl_source.specs.declared.fault.Fault.{Fault}
 use Rattle.hcl_tokens.specs.Scanned.{Scanned}
@@ -24,3 +24,8 @@ IsTextFault text fault =
 -- THE FAULT because of which bytes have no format
 abbrev pub IsFault : List ℕ → Fault → Type 0
 IsFault bytes fault = IsLoadFault bytes fault ⊎ (IsText bytes × IsTextFault bytes fault)
+
+-- the format of bytes, or none if they are refused
+abbrev pub HasFormat : List ℕ → Option (List ℕ) → Type 0
+HasFormat bytes (Some formatted) = IsFormat bytes formatted
+HasFormat bytes None = (fault : Fault) × IsFault bytes fault

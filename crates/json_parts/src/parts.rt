@@ -2,8 +2,8 @@
 
 ghost use Rattle.std.specs.Prelude.{◌≡◌, ◌++◌, ◌∷◌, [], IfOk, map};
 ghost use Rattle.json.specs.Print.{print};
-ghost use Rattle.lint_forms.specs.Inner.AddsTokens.{AddsTokens};
-ghost use Rattle.lint_forms.specs.Inner.Parts.{part_token};
+ghost use Rattle.json_parts.specs.AddsTokens.{AddsTokens};
+ghost use Rattle.json_parts.specs.Parts.{part_token};
 
 use crate::part::JsonPart;
 use json::Writer;
@@ -19,13 +19,13 @@ fn write_part(writer: &mut Writer, part: JsonPart<'_>) -> Result<(), AllocError>
         JsonPart::EndArray => writer.end_array(),
         JsonPart::Key(name) => writer.key(name),
         JsonPart::Text(text) => writer.string(text),
-        JsonPart::Number(number) => writer.u64(number as u64),
+        JsonPart::Number(number) => writer.u64(number),
         JsonPart::Flag(flag) => writer.boolean(flag),
     }
 }
 
 /// Writes parts.
-pub(crate) fn write_parts(writer: &mut Writer, parts: &[JsonPart<'_>]) -> Result<(), AllocError>
+pub fn write_parts(writer: &mut Writer, parts: &[JsonPart<'_>]) -> Result<(), AllocError>
     ensures { AddsTokens result writer.old writer.new (map part_token parts.now) }
 {
     for part in parts {
@@ -35,7 +35,7 @@ pub(crate) fn write_parts(writer: &mut Writer, parts: &[JsonPart<'_>]) -> Result
 }
 
 /// A text with these parts appended.
-pub(crate) fn with_parts(text: Vec<u8>, parts: &[JsonPart<'_>]) -> Result<Vec<u8>, AllocError>
+pub fn with_parts(text: Vec<u8>, parts: &[JsonPart<'_>]) -> Result<Vec<u8>, AllocError>
     ensures { IfOk result (λ l. l.items ≡ text.items ++ print (map part_token parts.now)) }
 {
     let mut writer = Writer::new(text);

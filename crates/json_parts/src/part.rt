@@ -9,6 +9,6 @@ pub enum JsonPart<'a> {
     EndArray,
     Key(&'a str),
     Text(&'a str),
-    Number(u32),
+    Number(u64),
     Flag(bool),
 }

@@ -32,6 +32,12 @@ impl Printed {
     {
         self.bytes.as_slice()
     }
+
+    pub fn into_bytes(self) -> Vec<u8>
+        ensures { Some result.items ≡ ⟦<Printed as ByteSink>⟧.taken self }
+    {
+        self.bytes
+    }
 }
 
 impl ByteSink for Printed {

@@ -1,0 +1,3 @@
+pub mod AddsTokens
+pub mod Parts
+pub mod Values
