@@ -1,0 +1,3 @@
+pub mod EditTokenLemmas
+pub mod ItemLemmas
+pub mod ReplyLemmas

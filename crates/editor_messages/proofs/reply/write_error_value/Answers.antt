@@ -1,0 +1,14 @@
+use Rattle.std.proofs.Common.{ap₂}
+use Rattle.json.specs.Tree.{json_tokens}
+use Rattle.json_parts.proofs.AddsLemmas.{added_then, adds_as, adds_then}
+use Rattle.editor_messages.specs.Replies.{error_by}
+use Rattle.editor_messages.proofs.reply.write_error_value.Goals as goal
+
+pub returns : goal.returns
+returns c =
+    let w0 = c.args.writer.now in
+    let w1 = c.write_parts.new.writer in
+    let w2 = c.write_number.new.writer in
+    let w3 = c.write_parts-2.new.writer in
+    adds_as c.write_parts-2.result w0 w3 _ _ (ap₂ (λ code text. json_tokens (error_by code text)) c.code.ensures.code c.text-text.ensures)
+    (adds_then c.write_parts-2.result w0 w2 w3 _ _ (added_then w0 w1 w2 _ _ c.in_ok-write_parts.ensures c.in_ok-write_number.ensures) c.write_parts-2.ensures)

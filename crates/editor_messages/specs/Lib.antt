@@ -1,0 +1,5 @@
+pub mod Errors
+pub mod Inner
+pub mod Messages
+pub mod Replies
+pub mod Views

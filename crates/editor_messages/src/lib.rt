@@ -1,0 +1,12 @@
+//! The messages of an editor and the replies to them, in JSON (Language Server Protocol 3.17).
+#![tactic(auto)]
+
+mod error;
+mod message;
+mod read;
+mod reply;
+
+pub use error::ReplyError;
+pub use message::{Id, Message, Notification, Request};
+pub use read::message_of;
+pub use reply::{capabilities_reply, edits_reply, error_reply, null_reply};

@@ -1,0 +1,306 @@
+//! The replies to an editor.
+
+ghost use Rattle.std.specs.Prelude.{◌≡◌, ◌<◌, ◌^◌, ◌∷◌, [], IfOk, length, map};
+ghost use Rattle.json.specs.Json.{null};
+ghost use Rattle.json.specs.Print.{IsNumber};
+ghost use Rattle.json.specs.Token.{end_object};
+ghost use Rattle.json.specs.Token as Token;
+ghost use Rattle.json.specs.Tree.{HasNumbers, json_tokens};
+ghost use Rattle.json_parts.specs.AddsTokens.{AddsTokens};
+ghost use Rattle.json_parts.specs.Values.{json_text};
+ghost use Rattle.line_edits.specs.Edits.{EditsAscend, edit_of};
+ghost use Rattle.line_edits.specs.PlacedEdits.{in_range, placed_edits};
+ghost use Rattle.editor_messages.specs.Inner.Heads.{edits_tokens, reply_head};
+ghost use Rattle.editor_messages.specs.Replies.{capabilities_json, edit_json, edits_json, encoding_name, error_json, error_value, result_json};
+ghost use Rattle.editor_messages.specs.Views.{id_seen};
+
+use crate::error::ReplyError;
+use crate::message::Id;
+use json::Writer;
+use json_parts::{JsonPart, write_parts};
+use line_edits::{Range, TextEdit, place_edit};
+use std::alloc::{AllocError, Global};
+use text_places::{Units, Walk};
+
+fn write_id(writer: &mut Writer, id: Id<'_>) -> Result<(), AllocError>
+    requires { HasNumbers (id_seen id) }
+    ensures { AddsTokens result writer.old writer.new (json_tokens (id_seen id.entry)) }
+{
+    match id {
+        Id::Null => writer.null(),
+        Id::Number(text) => writer.number(text),
+        Id::Text(text) => writer.string(text),
+    }
+}
+
+/// Begins a reply, up to the member of this name.
+fn write_head(writer: &mut Writer, id: Id<'_>, name: &str) -> Result<(), AllocError>
+    requires { HasNumbers (id_seen id) }
+    ensures { AddsTokens result writer.old writer.new (reply_head (id_seen id.entry) name.now) }
+{
+    write_parts(
+        writer,
+        &[
+            JsonPart::Object,
+            JsonPart::Key("jsonrpc"),
+            JsonPart::Text("2.0"),
+            JsonPart::Key("id"),
+        ],
+    )?;
+    write_id(writer, id)?;
+    write_parts(writer, &[JsonPart::Key(name)])
+}
+
+/// Ends a reply.
+fn write_end(writer: &mut Writer) -> Result<(), AllocError>
+    ensures { AddsTokens result writer.old writer.new (end_object ∷ []) }
+{
+    writer.end_object()
+}
+
+fn write_number(writer: &mut Writer, number: &str) -> Result<(), AllocError>
+    requires { IsNumber number.now }
+    ensures { AddsTokens result writer.old writer.new (Token.number number.now ∷ []) }
+{
+    writer.number(number)
+}
+
+fn write_error_value(writer: &mut Writer, error: ReplyError) -> Result<(), AllocError>
+    ensures { AddsTokens result writer.old writer.new (json_tokens (error_value error)) }
+{
+    write_parts(writer, &[JsonPart::Object, JsonPart::Key("code")])?;
+    write_number(writer, error.code())?;
+    let text = error.text();
+    write_parts(
+        writer,
+        &[
+            JsonPart::Key("message"),
+            JsonPart::Text(text),
+            JsonPart::EndObject,
+        ],
+    )
+}
+
+fn write_error(writer: &mut Writer, id: Id<'_>, error: ReplyError) -> Result<(), AllocError>
+    requires { HasNumbers (id_seen id) }
+    ensures { AddsTokens result writer.old writer.new
+        (json_tokens (error_json (id_seen id.entry) error)) }
+{
+    write_head(writer, id, "error")?;
+    write_error_value(writer, error)?;
+    write_end(writer)
+}
+
+/// The reply that is this error. An error of its own means that memory ran out.
+pub fn error_reply(alloc: Global, id: Id<'_>, error: ReplyError) -> Result<Vec<u8>, AllocError>
+    requires { HasNumbers (id_seen id) }
+    ensures { IfOk result (λ text. text.items ≡ json_text (error_json (id_seen id.entry) error)) }
+{
+    let mut writer = Writer::new(Vec::new(alloc));
+    write_error(&mut writer, id, error)?;
+    Ok(writer.into_inner())
+}
+
+fn write_null(writer: &mut Writer, id: Id<'_>) -> Result<(), AllocError>
+    requires { HasNumbers (id_seen id) }
+    ensures { AddsTokens result writer.old writer.new
+        (json_tokens (result_json (id_seen id.entry) null)) }
+{
+    write_head(writer, id, "result")?;
+    writer.null()?;
+    write_end(writer)
+}
+
+/// The reply whose result is null.
+pub fn null_reply(alloc: Global, id: Id<'_>) -> Result<Vec<u8>, AllocError>
+    requires { HasNumbers (id_seen id) }
+    ensures { IfOk result (λ text. text.items ≡ json_text (result_json (id_seen id.entry) null)) }
+{
+    let mut writer = Writer::new(Vec::new(alloc));
+    write_null(&mut writer, id)?;
+    Ok(writer.into_inner())
+}
+
+fn encoding_name(units: Units) -> &'static str
+    ensures { result.now ≡ encoding_name units }
+{
+    match units {
+        Units::Bytes => "utf-8",
+        Units::Utf16 => "utf-16",
+    }
+}
+
+fn write_capabilities(writer: &mut Writer, version: &str, units: Units) -> Result<(), AllocError>
+    ensures { AddsTokens result writer.old writer.new
+        (json_tokens (capabilities_json version.now units)) }
+{
+    let encoding = encoding_name(units);
+    write_parts(
+        writer,
+        &[
+            JsonPart::Object,
+            JsonPart::Key("capabilities"),
+            JsonPart::Object,
+            JsonPart::Key("positionEncoding"),
+            JsonPart::Text(encoding),
+            JsonPart::Key("textDocumentSync"),
+            JsonPart::Object,
+            JsonPart::Key("openClose"),
+            JsonPart::Flag(true),
+            JsonPart::Key("change"),
+            JsonPart::Number(1),
+            JsonPart::EndObject,
+            JsonPart::Key("documentFormattingProvider"),
+            JsonPart::Flag(true),
+            JsonPart::EndObject,
+            JsonPart::Key("serverInfo"),
+            JsonPart::Object,
+            JsonPart::Key("name"),
+            JsonPart::Text("tfls"),
+            JsonPart::Key("version"),
+            JsonPart::Text(version),
+            JsonPart::EndObject,
+            JsonPart::EndObject,
+        ],
+    )
+}
+
+fn write_capabilities_reply(
+    writer: &mut Writer,
+    id: Id<'_>,
+    version: &str,
+    units: Units,
+) -> Result<(), AllocError>
+    requires { HasNumbers (id_seen id) }
+    ensures { AddsTokens result writer.old writer.new
+        (json_tokens (result_json (id_seen id.entry) (capabilities_json version.now units))) }
+{
+    write_head(writer, id, "result")?;
+    write_capabilities(writer, version, units)?;
+    write_end(writer)
+}
+
+/// The reply that tells what this version of the server can do.
+pub fn capabilities_reply(
+    alloc: Global,
+    id: Id<'_>,
+    version: &str,
+    units: Units,
+) -> Result<Vec<u8>, AllocError>
+    requires { HasNumbers (id_seen id) }
+    ensures { IfOk result (λ text. text.items
+        ≡ json_text (result_json (id_seen id.entry) (capabilities_json version.now units))) }
+{
+    let mut writer = Writer::new(Vec::new(alloc));
+    write_capabilities_reply(&mut writer, id, version, units)?;
+    Ok(writer.into_inner())
+}
+
+fn write_edit<'a>(writer: &mut Writer, range: Range, text: &'a str) -> Result<(), AllocError>
+    ensures { AddsTokens result writer.old writer.new
+        (json_tokens (edit_json (in_range range text.now))) }
+{
+    write_parts(
+        writer,
+        &[
+            JsonPart::Object,
+            JsonPart::Key("range"),
+            JsonPart::Object,
+            JsonPart::Key("start"),
+            JsonPart::Object,
+            JsonPart::Key("line"),
+            JsonPart::Number(range.start.line as u64),
+            JsonPart::Key("character"),
+            JsonPart::Number(range.start.character as u64),
+            JsonPart::EndObject,
+            JsonPart::Key("end"),
+            JsonPart::Object,
+            JsonPart::Key("line"),
+            JsonPart::Number(range.end.line as u64),
+            JsonPart::Key("character"),
+            JsonPart::Number(range.end.character as u64),
+            JsonPart::EndObject,
+            JsonPart::EndObject,
+            JsonPart::Key("newText"),
+            JsonPart::Text(text),
+            JsonPart::EndObject,
+        ],
+    )
+}
+
+/// Writes edits of a text, their places by one walk through it.
+fn write_edits(
+    writer: &mut Writer,
+    units: Units,
+    text: &[u8],
+    edits: &[TextEdit<'_>],
+) -> Result<(), AllocError>
+    requires small { length text.now < 2 ^ 32 }
+    requires ascend { EditsAscend 0 (length text.now) (map edit_of edits.now) }
+    ensures { AddsTokens result writer.old writer.new
+        (edits_tokens (placed_edits units text.now (map edit_of edits.now))) }
+{
+    let mut walk = Walk::start();
+    for edit in edits {
+        let (further, range) = place_edit(walk, units, text, edit);
+        write_edit(writer, range, edit.text)?;
+        walk = further;
+    }
+    Ok(())
+}
+
+/// Writes the array of edits of a text.
+fn write_array(
+    writer: &mut Writer,
+    units: Units,
+    text: &[u8],
+    edits: &[TextEdit<'_>],
+) -> Result<(), AllocError>
+    requires small { length text.now < 2 ^ 32 }
+    requires ascend { EditsAscend 0 (length text.now) (map edit_of edits.now) }
+    ensures { AddsTokens result writer.old writer.new
+        (json_tokens (edits_json (placed_edits units text.now (map edit_of edits.now)))) }
+{
+    write_parts(writer, &[JsonPart::Array])?;
+    write_edits(writer, units, text, edits)?;
+    write_parts(writer, &[JsonPart::EndArray])
+}
+
+fn write_edits_reply(
+    writer: &mut Writer,
+    id: Id<'_>,
+    units: Units,
+    text: &[u8],
+    edits: &[TextEdit<'_>],
+) -> Result<(), AllocError>
+    requires id { HasNumbers (id_seen id) }
+    requires small { length text.now < 2 ^ 32 }
+    requires ascend { EditsAscend 0 (length text.now) (map edit_of edits.now) }
+    ensures { AddsTokens result writer.old writer.new
+        (json_tokens (result_json (id_seen id.entry)
+        (edits_json (placed_edits units text.now (map edit_of edits.now))))) }
+{
+    write_head(writer, id, "result")?;
+    write_array(writer, units, text, edits)?;
+    write_end(writer)
+}
+
+/// The reply whose result is these edits of a text.
+pub fn edits_reply(
+    alloc: Global,
+    id: Id<'_>,
+    units: Units,
+    text: &[u8],
+    edits: &[TextEdit<'_>],
+) -> Result<Vec<u8>, AllocError>
+    requires id { HasNumbers (id_seen id) }
+    requires small { length text.now < 2 ^ 32 }
+    requires ascend { EditsAscend 0 (length text.now) (map edit_of edits.now) }
+    ensures { IfOk result (λ reply. reply.items
+        ≡ json_text (result_json (id_seen id.entry)
+        (edits_json (placed_edits units text.now (map edit_of edits.now))))) }
+{
+    let mut writer = Writer::new(Vec::new(alloc));
+    write_edits_reply(&mut writer, id, units, text, edits)?;
+    Ok(writer.into_inner())
+}

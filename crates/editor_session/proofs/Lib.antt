@@ -1,0 +1,3 @@
+pub mod FormatLemmas
+pub mod ReplyLemmas
+pub mod TextLemmas

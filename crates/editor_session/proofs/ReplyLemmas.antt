@@ -1,0 +1,22 @@
+-- Replies that give an answer.
+use Rattle.std.proofs.Common.{◌≡◌, ◌∙◌, ℕ, List, ap, ap₂, map}
+use Rattle.std.proofs.lemmas.Result.{IfOk-weaker}
+use Rattle.std.specs.Prelude.{IfOk, Result, Vec}
+use Rattle.json.specs.Json.{Json}
+use Rattle.json_parts.specs.Values.{json_text}
+use Rattle.line_edits.specs.Edits.{edit_of, line_edits}
+use Rattle.line_edits.specs.PlacedEdits.{placed_edits}
+use Rattle.line_edits.specs.declared.edits.TextEdit.{TextEdit}
+use Rattle.text_places.specs.declared.place.Units.{Units}
+use Rattle.editor_messages.specs.Replies.{reply_json}
+use Rattle.editor_messages.specs.declared.error.ReplyError.{ReplyError}
+use Rattle.editor_session.specs.Inner.Replied.{Replied}
+
+pub replied : {Y E : Type 0} (IsAnswer : Result Json ReplyError → Type 0) (id : Json) (answer : Result Json ReplyError) (r : Result (Vec ℕ Y) E) → IsAnswer answer
+    → IfOk r (λ reply. reply.items ≡ json_text (reply_json id answer)) → IfOk r (Replied IsAnswer id)
+replied IsAnswer id answer r is gives = IfOk-weaker r _ _ (λ reply h. (answer, is, h)) gives
+
+pub same_edits : (units : Units) (text old again formatted new : List ℕ) (edits slice : List TextEdit) → old ≡ text → again ≡ text → new ≡ formatted → map edit_of edits ≡ line_edits old new → slice ≡ edits
+    → placed_edits units again (map edit_of slice) ≡ placed_edits units text (line_edits text formatted)
+same_edits units text old again formatted new edits slice o a n is s =
+    ap₂ (placed_edits units) a (ap (map edit_of) s ∙ is ∙ ap₂ line_edits o n)

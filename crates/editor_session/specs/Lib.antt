@@ -1,0 +1,6 @@
+pub mod Answers
+pub mod Inner
+pub mod Laws
+pub mod Sessions
+pub mod Steps
+pub mod Views

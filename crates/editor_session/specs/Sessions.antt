@@ -1,0 +1,80 @@
+-- THE SESSION of an editor with the server, and what a message makes of it (Language Server Protocol 3.17, "Server
+-- lifecycle" and "Text Document Synchronization").
+use Rattle.std.specs.Prelude.{◌≡◌, ℕ, List, Option, None, if◌then◌else◌}
+use Rattle.std.specs.Str.{bytes_eq}
+use Rattle.text_places.specs.declared.place.Units.{Units}
+use Rattle.text_places.specs.declared.place.Units.TheVariants.{Utf16}
+use Rattle.editor_messages.specs.Messages.{Notification, Request, Initialize, Shutdown, Formatting, Unknown, Text, Close, Exit, Other}
+use Rattle.editor_session.specs.declared.phase.Phase.{Phase}
+use Rattle.editor_session.specs.declared.phase.Phase.TheVariants as phase
+
+pub record Session : Type 0 where
+  pub phase : Phase
+  -- in which places are counted
+  pub units : Units
+  -- the text of the document that has a URI, if it is known
+  pub text : List ℕ → Option (List ℕ)
+
+-- before the first message
+abbrev pub new_session : Session
+new_session = record { phase = phase.Fresh; units = Utf16; text = λ uri. None }
+
+-- two sessions in which the same is known
+pub record IsSame (s t : Session) : Type 0 where
+  pub phase : s.phase ≡ t.phase
+  pub units : s.units ≡ t.units
+  pub text : (uri : List ℕ) → s.text uri ≡ t.text uri
+
+-- ---- texts
+
+-- the document that has this URI has this text now, or one that is not known
+abbrev pub with_text : List ℕ → Option (List ℕ) → Session → Session
+with_text uri text s =
+    record s { text = λ other. if bytes_eq uri other then text else s.text other }
+
+-- no text is known any more
+abbrev pub without_texts : Session → Session
+without_texts s = record s { text = λ uri. None }
+
+-- ---- requests
+
+-- the session that an editor has begun, which counts places in these units
+abbrev pub after_initialize : Units → Session → Phase → Session
+after_initialize units s phase.Fresh = record s { phase = phase.Open; units = units }
+after_initialize units s phase.Open = s
+after_initialize units s phase.ShutDown = s
+
+abbrev pub after_shutdown : Session → Phase → Session
+after_shutdown s phase.Fresh = s
+after_shutdown s phase.Open = record s { phase = phase.ShutDown }
+after_shutdown s phase.ShutDown = s
+
+-- the session after a request
+abbrev pub after_request : Session → Request → Session
+after_request s (Initialize units) = after_initialize units s s.phase
+after_request s Shutdown = after_shutdown s s.phase
+after_request s (Formatting uri) = s
+after_request s Unknown = s
+
+-- ---- notifications
+
+abbrev pub heard_while_open : Session → Notification → Session
+heard_while_open s (Text uri text) = with_text uri text s
+heard_while_open s (Close uri) = with_text uri None s
+heard_while_open s Exit = s
+heard_while_open s Other = s
+
+abbrev pub heard_in_phase : Session → Notification → Phase → Session
+heard_in_phase s n phase.Fresh = s
+heard_in_phase s n phase.Open = heard_while_open s n
+heard_in_phase s n phase.ShutDown = s
+
+-- the session after a notification: one that is not open passes it over
+abbrev pub after_notification : Session → Notification → Session
+after_notification s n = heard_in_phase s n s.phase
+
+-- the status of a run that ends in this phase, as the protocol asks
+abbrev pub exit_status : Phase → ℕ
+exit_status phase.Fresh = 1
+exit_status phase.Open = 1
+exit_status phase.ShutDown = 0

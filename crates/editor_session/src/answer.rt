@@ -1,0 +1,141 @@
+//! The answer to a request.
+
+ghost use Rattle.std.specs.Prelude.{◌≡◌, ◌<◌, ◌^◌, IfOk, Ok, Some, length};
+ghost use Rattle.json_parts.specs.Values.{json_text};
+ghost use Rattle.line_edits.specs.Edits.{line_edits};
+ghost use Rattle.line_edits.specs.PlacedEdits.{placed_edits};
+ghost use Rattle.editor_messages.specs.Replies.{edits_json, reply_json};
+ghost use Rattle.json.specs.Tree.{HasNumbers};
+ghost use Rattle.editor_messages.specs.Views.{id_seen, request_seen, text_seen};
+ghost use Rattle.editor_messages.specs.Messages.{Formatting};
+ghost use Rattle.editor_session.specs.Answers.{IsAnswer, IsFormatting, IsFreshAnswer, IsOpenAnswer};
+ghost use Rattle.editor_session.specs.Inner.Replied.{Replied};
+ghost use Rattle.editor_session.specs.Views.{session_seen};
+
+use crate::phase::Phase;
+use crate::session::Session;
+use editor_messages::{
+    Id, ReplyError, Request, capabilities_reply, edits_reply, error_reply, null_reply,
+};
+use line_edits::edits_between;
+use std::alloc::{AllocError, Global};
+use text_format::format_of;
+use text_places::Units;
+
+/// This version of the server.
+static VERSION: &str = "0.3.0";
+
+/// The reply with the edits that make a text a file's format.
+fn changes_reply(
+    alloc: Global,
+    id: Id<'_>,
+    units: Units,
+    text: &str,
+    formatted: &str,
+) -> Result<Vec<u8>, AllocError>
+    requires id { HasNumbers (id_seen id) }
+    requires small { length text.now < 2 ^ 32 }
+    ensures { IfOk result (λ reply. reply.items
+        ≡ json_text (reply_json (id_seen id.entry)
+        (Ok (edits_json (placed_edits units text.now (line_edits text.now formatted.now)))))) }
+{
+    let edits = edits_between(alloc, text.as_bytes(), formatted)?;
+    edits_reply(alloc, id, units, text.as_bytes(), edits.as_slice())
+}
+
+/// The reply with the edits that format a text.
+fn format_reply(alloc: Global, id: Id<'_>, units: Units, text: &str) -> Result<Vec<u8>, AllocError>
+    requires { HasNumbers (id_seen id) }
+    ensures { IfOk result (Replied (IsFormatting units (Some text.now)) (id_seen id.entry)) }
+{
+    match format_of(alloc, text)? {
+        Some(formatted) => changes_reply(alloc, id, units, text, formatted.as_str()),
+        None => edits_reply(alloc, id, units, b"", &[]),
+    }
+}
+
+/// The reply to a request before the editor has begun.
+fn fresh_reply(alloc: Global, id: Id<'_>, request: Request<'_>) -> Result<Vec<u8>, AllocError>
+    requires { HasNumbers (id_seen id) }
+    ensures { IfOk result
+        (Replied (IsFreshAnswer (request_seen request.entry)) (id_seen id.entry)) }
+{
+    match request {
+        Request::Initialize(units) => capabilities_reply(alloc, id, VERSION, units),
+        Request::Shutdown => error_reply(alloc, id, ReplyError::NotInitialized),
+        Request::Formatting(_) => error_reply(alloc, id, ReplyError::NotInitialized),
+        Request::Unknown => error_reply(alloc, id, ReplyError::NotInitialized),
+    }
+}
+
+impl Session {
+    /// The reply with the edits that format a document.
+    fn formatting_reply(&self, alloc: Global, id: Id<'_>, uri: &str) -> Result<Vec<u8>, AllocError>
+        requires { HasNumbers (id_seen id) }
+        ensures { IfOk result
+            (Replied (IsFormatting (session_seen self.now).units
+            ((session_seen self.now).text uri.now)) (id_seen id.entry)) }
+    {
+        match self.text(uri) {
+            Some(text) => format_reply(alloc, id, self.units, text),
+            None => error_reply(alloc, id, ReplyError::UnknownText),
+        }
+    }
+
+    /// The same, if a document is named.
+    fn named_reply(
+        &self,
+        alloc: Global,
+        id: Id<'_>,
+        uri: Option<&str>,
+    ) -> Result<Vec<u8>, AllocError>
+        requires { HasNumbers (id_seen id) }
+        ensures { IfOk result
+            (Replied (IsOpenAnswer (session_seen self.now) (Formatting (text_seen uri.entry)))
+            (id_seen id.entry)) }
+    {
+        match uri {
+            Some(uri) => self.formatting_reply(alloc, id, uri),
+            None => error_reply(alloc, id, ReplyError::NoDocument),
+        }
+    }
+
+    /// The reply to a request of an editor that has begun.
+    fn open_reply(
+        &self,
+        alloc: Global,
+        id: Id<'_>,
+        request: Request<'_>,
+    ) -> Result<Vec<u8>, AllocError>
+        requires { HasNumbers (id_seen id) }
+        ensures { IfOk result
+            (Replied (IsOpenAnswer (session_seen self.now) (request_seen request.entry))
+            (id_seen id.entry)) }
+    {
+        match request {
+            Request::Initialize(_) => error_reply(alloc, id, ReplyError::InitializedAlready),
+            Request::Shutdown => null_reply(alloc, id),
+            Request::Formatting(uri) => self.named_reply(alloc, id, uri),
+            Request::Unknown => error_reply(alloc, id, ReplyError::UnknownMethod),
+        }
+    }
+
+    /// The reply to a request.
+    pub(crate) fn reply(
+        &self,
+        alloc: Global,
+        id: Id<'_>,
+        request: Request<'_>,
+    ) -> Result<Vec<u8>, AllocError>
+        requires { HasNumbers (id_seen id) }
+        ensures { IfOk result
+            (Replied (IsAnswer (session_seen self.now) (request_seen request.entry))
+            (id_seen id.entry)) }
+    {
+        match self.phase {
+            Phase::Fresh => fresh_reply(alloc, id, request),
+            Phase::Open => self.open_reply(alloc, id, request),
+            Phase::ShutDown => error_reply(alloc, id, ReplyError::ShutDown),
+        }
+    }
+}

@@ -1,0 +1,10 @@
+//! How far a session has come.
+
+/// How far a session has come.
+#[derive(Clone, Copy, Debug, PartialEq, Eq)]
+pub enum Phase {
+    /// The editor has not begun.
+    Fresh,
+    Open,
+    ShutDown,
+}

@@ -1,0 +1,163 @@
+//! One message of an editor.
+
+ghost use Rattle.std.specs.Prelude.{◌≡◌, IfOk};
+ghost use Rattle.json.specs.Json.{null};
+ghost use Rattle.editor_messages.specs.Replies.{error_json};
+ghost use Rattle.editor_messages.specs.Views.{HasNumber, id_seen, message_seen, notification_seen, request_seen, text_seen};
+ghost use Rattle.editor_messages.specs.Messages.{Asks, Close, Tells};
+ghost use Rattle.json.specs.Tree.{HasNumbers};
+ghost use Rattle.editor_session.specs.Sessions.{IsSame, after_notification, after_request, exit_status, without_texts};
+ghost use Rattle.editor_session.specs.Steps.{IsStepOrShort, SaysReply, Steps};
+ghost use Rattle.editor_session.specs.Inner.Heard.{IsHeardText, IsTaken};
+ghost use Rattle.editor_session.specs.Views.{session_seen};
+
+use crate::phase::Phase;
+use crate::session::Session;
+use crate::turn::Turn;
+use editor_messages::{Id, Message, Notification, ReplyError, Request, error_reply, message_of};
+use json::{Error, Scratch, Value};
+use std::alloc::{AllocError, Global};
+
+/// The turn that says this error.
+fn say_error(alloc: Global, id: Id<'_>, error: ReplyError) -> Result<Turn, AllocError>
+    requires { HasNumbers (id_seen id) }
+    ensures { IfOk result (SaysReply (error_json (id_seen id.entry) error)) }
+{
+    Ok(Turn::Reply(error_reply(alloc, id, error)?))
+}
+
+/// The status of a run that ends in this phase.
+fn exit_status(phase: Phase) -> u8
+    ensures { result ≡ exit_status phase }
+{
+    match phase {
+        Phase::ShutDown => 0,
+        Phase::Fresh | Phase::Open => 1,
+    }
+}
+
+impl Session {
+    /// Goes on after a request.
+    fn go_on(&mut self, request: Request<'_>)
+        ensures { IsSame (after_request (session_seen self.old) (request_seen request.entry))
+            (session_seen self.new) }
+    {
+        match (self.phase, request) {
+            (Phase::Fresh, Request::Initialize(units)) => {
+                self.phase = Phase::Open;
+                self.units = units;
+            }
+            (Phase::Open, Request::Shutdown) => self.phase = Phase::ShutDown,
+            _ => {}
+        }
+    }
+
+    /// Answers a request.
+    fn answer(
+        &mut self,
+        alloc: Global,
+        id: Id<'_>,
+        request: Request<'_>,
+    ) -> Result<Turn, AllocError>
+        requires { HasNumbers (id_seen id) }
+        ensures { IfOk result (IsStepOrShort (Asks (id_seen id.entry) (request_seen request.entry))
+            (session_seen self.old) (session_seen self.new)) }
+    {
+        let Ok(reply) = self.reply(alloc, id, request) else {
+            return say_error(alloc, id, ReplyError::OutOfMemory);
+        };
+        self.go_on(request);
+        Ok(Turn::Reply(reply))
+    }
+
+    /// Takes in the text of a document, or that it is not known.
+    fn take_text(&mut self, alloc: Global, uri: &str, text: Option<&str>)
+        ensures { IsTaken uri.now (text_seen text.entry)
+            (session_seen self.old) (session_seen self.new) }
+    {
+        match text {
+            Some(text) => {
+                let _ = self.keep(alloc, uri, text);
+            }
+            None => self.forget(uri),
+        }
+    }
+
+    /// Takes in what a document's text is, if the editor has begun.
+    fn hear_text(&mut self, alloc: Global, uri: &str, text: Option<&str>)
+        ensures { IsHeardText uri.now (text_seen text.entry)
+            (session_seen self.old) (session_seen self.new) }
+    {
+        match self.phase {
+            Phase::Fresh => {}
+            Phase::Open => self.take_text(alloc, uri, text),
+            Phase::ShutDown => {}
+        }
+    }
+
+    /// Forgets a document that is closed, if the editor has begun.
+    fn hear_close(&mut self, uri: &str)
+        ensures { IsSame (after_notification (session_seen self.old) (Close uri.now))
+            (session_seen self.new) }
+    {
+        match self.phase {
+            Phase::Fresh => {}
+            Phase::Open => self.forget(uri),
+            Phase::ShutDown => {}
+        }
+    }
+
+    /// Takes a notification in.
+    fn hear(&mut self, alloc: Global, notification: Notification<'_>) -> Turn
+        ensures { IsStepOrShort (Tells (notification_seen notification.entry))
+            (session_seen self.old) (session_seen self.new) result }
+    {
+        match notification {
+            Notification::Text(uri, text) => {
+                self.hear_text(alloc, uri, text);
+                Turn::Quiet
+            }
+            Notification::Close(uri) => {
+                self.hear_close(uri);
+                Turn::Quiet
+            }
+            Notification::Exit => Turn::End(exit_status(self.phase)),
+            Notification::Other => Turn::Quiet,
+        }
+    }
+
+    /// Takes a message in.
+    fn take(&mut self, alloc: Global, message: Message<'_>) -> Result<Turn, AllocError>
+        requires { HasNumber message }
+        ensures { IfOk result (IsStepOrShort (message_seen message.entry)
+            (session_seen self.old) (session_seen self.new)) }
+    {
+        match message {
+            Message::Invalid(id) => say_error(alloc, id, ReplyError::NotRequest),
+            Message::Response => Ok(Turn::Quiet),
+            Message::Asks(id, request) => self.answer(alloc, id, request),
+            Message::Tells(notification) => Ok(self.hear(alloc, notification)),
+        }
+    }
+
+    /// Forgets all texts, since a body that could not be read may have been the change of one.
+    fn lose_texts(&mut self, alloc: Global, error: ReplyError) -> Result<Turn, AllocError>
+        ensures same { IsSame (without_texts (session_seen self.old)) (session_seen self.new) }
+        ensures says { IfOk result (SaysReply (error_json null error)) }
+    {
+        self.forget_texts();
+        say_error(alloc, Id::Null, error)
+    }
+
+    /// Takes in a message with this body. An error means that there was no memory even for the answer that memory ran out.
+    pub fn step(&mut self, alloc: Global, body: &[u8]) -> Result<Turn, AllocError>
+        ensures { IfOk result (Steps body.now (session_seen self.old) (session_seen self.new)) }
+    {
+        let mut scratch = Scratch::new(alloc);
+        match Value::from_slice(alloc, body, &mut scratch) {
+            Ok(value) => self.take(alloc, message_of(&value)),
+            Err(Error::OutOfMemory) => self.lose_texts(alloc, ReplyError::OutOfMemory),
+            Err(_) => self.lose_texts(alloc, ReplyError::NotJson),
+        }
+    }
+}

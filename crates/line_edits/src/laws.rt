@@ -1,0 +1,35 @@
+//! Laws of the definitions alone. No program calls these functions: their contracts are the laws.
+
+ghost use Rattle.std.specs.Prelude.{◌≡◌, ℕ, List, [], length, map};
+ghost use Rattle.std.specs.Str.{IsUtf8};
+ghost use Rattle.text_places.specs.declared.place.Units.{Units};
+ghost use Rattle.line_edits.specs.Edits.{EditsAscend, edited_text, line_edits};
+ghost use Rattle.line_edits.specs.PlacedEdits.{made_text, offset_edit, placed_edits};
+
+/// The edits make the old text the new one.
+pub fn edits_make_the_new_text()
+    ensures { (old new : List ℕ) → edited_text (line_edits old new) old ≡ new }
+{}
+
+/// They are in order of the old text, and share none of its bytes.
+pub fn edits_ascend()
+    ensures { (old new : List ℕ) → EditsAscend 0 (length old) (line_edits old new) }
+{}
+
+/// A text is made itself by no edits.
+pub fn same_text_has_no_edits()
+    ensures { (text : List ℕ) → line_edits text text ≡ [] }
+{}
+
+/// An editor reads the places of the edits as their offsets.
+pub fn editors_read_the_edits()
+    ensures { (units : Units) (old new : List ℕ) → IsUtf8 old
+        → map (offset_edit units old) (placed_edits units old (line_edits old new))
+        ≡ line_edits old new }
+{}
+
+/// AN EDITOR MAKES THE NEW TEXT: reading the places of the edits as the protocol counts them, it gets the new text.
+pub fn editors_make_the_new_text()
+    ensures { (units : Units) (old new : List ℕ) → IsUtf8 old
+        → made_text units old (placed_edits units old (line_edits old new)) ≡ new }
+{}

@@ -1,0 +1,4 @@
+pub mod Frames
+pub mod Fronts
+pub mod Inner
+pub mod Streams
