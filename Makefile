@@ -1,8 +1,8 @@
 # `make try` formats the README's example at once, with nothing proved; `make` proves the crates and builds the programs
-# as bin/tffmt, bin/tfrules, bin/tffmt-all and bin/tfrules-all, `make bin/tffmt` what that one stands on alone; `make
-# test` runs the whole gate; `make install PREFIX=FOLDER` puts the programs, the scripts around them, their man pages,
-# completions and examples below the folder; `make dist` packs the same as a release, into dist. `make check-around` needs
-# no kit: it tests scripts, documents and settings on installed programs.
+# as bin/tffmt, bin/tfrules, bin/tffmt-all, bin/tfrules-all and bin/tfls, `make bin/tffmt` what that one stands on alone;
+# `make test` runs the whole gate; `make install PREFIX=FOLDER` puts the programs, the scripts around them, their man
+# pages, completions and examples below the folder; `make dist` packs the same as a release, into dist. `make
+# check-around` needs no kit: it tests scripts, documents and settings on installed programs.
 .PHONY: all try test check-around install uninstall dist clean FORCE
 
 PREFIX = /usr/local

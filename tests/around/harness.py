@@ -39,6 +39,8 @@ class Group:
         self.trees = str(beside if beside.exists() else TOP / 'bin' / 'tffmt-all')
         beside = pathlib.Path(program).with_name('tfrules-all')
         self.linted = str(beside if beside.exists() else TOP / 'bin' / 'tfrules-all')
+        beside = pathlib.Path(program).with_name('tfls')
+        self.server = str(beside if beside.exists() else TOP / 'bin' / 'tfls')
         under_test = [self.program, self.linter, self.trees, self.linted, str(self.contrib)]
         if all(map(os.path.exists, under_test)) and not all(map(is_open, under_test)):
             self.take_in()

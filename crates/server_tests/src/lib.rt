@@ -1,0 +1,18 @@
+//! Tests of the language server by its public items. They are in a crate of their own, since a crate with tests is proved
+//! twice.
+#![tactic(auto)]
+
+#[cfg(test)]
+mod checks;
+#[cfg(test)]
+mod devices;
+#[cfg(test)]
+mod edits;
+#[cfg(test)]
+mod frames;
+#[cfg(test)]
+mod places;
+#[cfg(test)]
+mod runs;
+#[cfg(test)]
+mod sessions;
