@@ -1,5 +1,5 @@
-# Completion of tffmt, tfrules, tffmt-all, tfrules-all and tffmt-hook for bash. `make install` puts it where bash-completion
-# finds it; without that, source it in ~/.bashrc.
+# Completion of tffmt, tfrules, tffmt-all, tfrules-all, tfls and tffmt-hook for bash. `make install` puts it where
+# bash-completion finds it; without that, source it in ~/.bashrc.
 
 _tffmt() {
   local word=${COMP_WORDS[COMP_CWORD]} before=${COMP_WORDS[COMP_CWORD - 1]} options='' values='' files='' first='' i found
@@ -22,6 +22,7 @@ _tffmt() {
     tfrules-all)
       options='--rules --naming --minimum-failure-severity --force --check-comments --no-config --format --quiet --shard --jobs --null --list-rules --explain --help --version'
       files=linted ;;
+    tfls) options='--help --stdio' ;;
     tffmt-hook) options='--install --uninstall --help --version' ;;
   esac
   for ((i = 1; i < COMP_CWORD; i++)); do
@@ -60,4 +61,4 @@ _tffmt() {
   fi
 }
 
-complete -F _tffmt tffmt tfrules tffmt-all tfrules-all tffmt-hook
+complete -F _tffmt tffmt tfrules tffmt-all tfrules-all tfls tffmt-hook

@@ -1,4 +1,4 @@
-# Completion of tffmt, tfrules, tffmt-all, tfrules-all and tffmt-hook for fish.
+# Completion of tffmt, tfrules, tffmt-all, tfrules-all, tfls and tffmt-hook for fish.
 
 function __tffmt_rules
     set -l rules default all terraform_comment_syntax terraform_deprecated_index terraform_deprecated_interpolation \
@@ -54,6 +54,9 @@ complete -c tffmt-all -x -l shard -d 'Take a part of the files, K/N'
 complete -c tffmt-all -f -s 0 -l null -d 'Read names from standard input'
 complete -c tffmt-all -f -s h -l help -d 'Print help'
 complete -c tffmt-all -f -l version -d 'Print the version'
+
+complete -c tfls -f -s h -l help -d 'Print the usage line'
+complete -c tfls -f -l stdio -d 'Change nothing'
 
 complete -c tffmt-hook -f -l install -d 'Make this the hook of the repository here'
 complete -c tffmt-hook -f -l uninstall -d 'Remove it'

@@ -12,7 +12,7 @@ import subprocess
 import termios
 import time
 
-from harness import BAD, GOOD, OTHER, put
+from harness import BAD, GOOD, OTHER, TOP, put
 
 
 def on_terminal(group, words, cwd, seconds=20, keys=(), **setting):
@@ -526,6 +526,181 @@ def run_flymake(group):
         '-f',
         'batch-byte-compile',
         group.contrib / 'emacs' / 'tfrules.el',
+        cwd=here,
+    )
+    group.check('compiles without a warning', (warnings[0], warnings[2]), (0, b''))
+
+
+# --- the language server, in the editors -------------------------------------------------------------------------
+
+# A text with characters of two units of UTF-16 and several runs of lines.
+SERVED = 'a=1 # \U0001F600\n\nb   {\n  c = 2\n  # x\n d=  "\U0001F600é"\n}\n'.encode()
+SERVED_LUA = """
+vim.g.tfls_program = "PROGRAM"
+vim.cmd("source PLUGIN")
+vim.cmd("edit NAME")
+vim.fn.append(0, "TYPED")
+vim.cmd("silent write")
+vim.fn.writefile(vim.fn.readfile("NAME", "b"), "first", "b")
+vim.fn.append(1, "TYPED")
+vim.cmd("silent write")
+vim.fn.writefile(vim.fn.getline(1, "$"), "buffer")
+local clients = vim.lsp.get_active_clients()
+vim.lsp.stop_client(clients)
+vim.wait(20000, function() return #vim.lsp.get_active_clients() == 0 end, 20)
+vim.fn.writefile({ tostring(#clients) }, "clients")
+vim.cmd("qall!")
+"""
+
+
+def noting(group):
+    """The language server in a script that notes its status in the current folder."""
+    return group.script('tfls', '"%s" "$@"\necho $? >status\n' % group.server)
+
+
+def has_server(group, checks):
+    if os.access(group.server, os.X_OK):
+        return True
+    group.skip('tfls', checks, 'not built')
+    return False
+
+
+def shown_setting(language):
+    """The block of a language in the section on the server of docs/USING.md."""
+    page = (TOP / 'docs' / 'USING.md').read_text(encoding='utf-8')
+    section = page.partition('\n## By the language server\n')[2].partition('\n## ')[0]
+    return re.search('```%s\n(.*?)```' % language, section, re.S).group(1)
+
+
+def run_settings(group):
+    """The settings for the language server of editors that aren't run here are read, and name it."""
+    sublime = json.loads(shown_setting('json'))['clients']['tfls']
+    group.check('Sublime Text', (sublime['enabled'], sublime['command']), (True, ['tfls']))
+    try:
+        import tomllib
+    except ImportError:
+        group.skip('tomllib', 3, 'since Python 3.11')
+        return
+    helix = tomllib.loads((group.contrib / 'editors' / 'languages.toml').read_text())
+    group.check('Helix: the server', helix['language-server'], {'tfls': {'command': 'tfls'}})
+    served = [(it['name'], it['language-servers'], it['auto-format']) for it in helix['language']]
+    group.check('Helix: the languages', served, [('hcl', ['tfls'], True), ('tfvars', ['tfls'], True)])
+    kakoune = tomllib.loads(shown_setting('toml'))['language_server']
+    group.check('Kakoune', [(name, it['command']) for name, it in kakoune.items()], [('tfls', 'tfls')])
+
+
+def run_nvim_server(group):
+    """Neovim's client, with the language server."""
+    if not has_server(group, 22) or not group.has('nvim', checks=22):
+        return
+
+    def edit(name, text, typed='n=1', program=None):
+        """The text of the file that two lines were typed into, the number of servers, and the status of one."""
+        here = group.fresh()
+        put(here, {name: text})
+        script = SERVED_LUA.replace('PROGRAM', str(program or noting(group))).replace('TYPED', typed)
+        script = script.replace('PLUGIN', str(group.contrib / 'editors' / 'tfls.lua')).replace('NAME', name)
+        (here / 'test.lua').write_text(script)
+        done = group.call('nvim', '-u', 'NONE', '-i', 'NONE', '--headless', '-c', 'luafile test.lua', cwd=here)
+        if not (here / 'clients').exists():
+            return done
+        first, last = (here / 'first').read_bytes(), (here / name).read_bytes()
+        group.check('what is shown of ' + name, (here / 'buffer').read_bytes(), last.replace(b'\r', b''))
+        status = (here / 'status').read_text().strip() if (here / 'status').exists() else ''
+        return first, last, (here / 'clients').read_text().strip(), status, done[2].decode().strip()
+
+    def printed(text):
+        return group.call(group.program, cwd=group.top, stdin=text)[1]
+
+    wanted = printed(b'n=1\n' + SERVED), printed(b'n=1\nn=1\n' + SERVED)
+    group.check('a file is formatted when it is written', edit('a.tf', SERVED), (*wanted, '1', '0', ''))
+    with_returns = edit('a.tf', SERVED.replace(b'\n', b'\r\n'))
+    group.check('a file with CR LF', with_returns, (*(it.replace(b'\n', b'\r\n') for it in wanted), '1', '0', ''))
+    for name in ('a.tfvars', 'a.tofu', 'a.tftest.hcl', 'a.tfmock.hcl', 'a.tfquery.hcl', 'a.tofutest.hcl'):
+        group.check(name, edit(name, OTHER)[1:3], (printed(b'n=1\nn=1\n' + OTHER), '1'))
+    group.check('a refused text', edit('a.tf', OTHER, 'n=')[1:], (b'n=\nn=\n' + OTHER, '1', '0', ''))
+    group.check('another file', edit('a.txt', OTHER)[1:], (b'n=1\nn=1\n' + OTHER, '0', '', ''))
+    shown = edit('a.tf', OTHER, program='no-such-program')
+    group.check('without the program', shown[1:], (b'n=1\nn=1\n' + OTHER, '0', '', 'no-such-program: not found'))
+
+
+SERVED_EMACS = """
+(require 'package)
+(package-initialize)
+(define-derived-mode terraform-mode prog-mode "Terraform")
+(setq make-backup-files nil eglot-sync-connect 30)
+LOAD
+(find-file "a.tf")
+(terraform-mode)
+(apply #'eglot (eglot--guess-contact))
+(let ((end (+ (float-time) 30)))
+  (while (and (not (eglot-managed-p)) (< (float-time) end)) (accept-process-output nil 0.05)))
+(goto-char (point-min))
+(insert "TYPED\n")
+(save-buffer)
+(insert "TYPED\n")
+(save-buffer)
+FORM
+(princ (format "%S" (and (eglot-current-server) t)))
+(write-region (buffer-string) nil "buffer" nil 'quiet)
+(eglot-shutdown (eglot-current-server) nil 30)
+"""
+# The first write sends what was changed by edits. Then the server forgets all texts, so that it answers the request before
+# the next write by an error.
+FORGET = r"""
+(set-buffer-modified-p t)
+(save-buffer)
+(process-send-string (jsonrpc--process (eglot-current-server)) "Content-Length: 0\r\n\r\n")
+(set-buffer-modified-p t)
+(save-buffer)
+(princ (format "%S " (buffer-modified-p)))
+"""
+
+
+def run_emacs_server(group):
+    """Eglot in Emacs, with the language server."""
+    if not has_server(group, 6) or not group.has('emacs', checks=6):
+        return
+    here = group.fresh()
+    start = [
+        'emacs',
+        '-q',
+        '--no-site-file',
+        '--batch',
+        '--eval',
+        "(progn (require 'package) (package-initialize) (require 'eglot))",
+    ]
+    if group.call(*start, cwd=here)[0] != 0:
+        group.skip('eglot', 6)
+        return
+
+    def edit(text, typed='n=1', form='', load='(load "%s/emacs/tfls.el" nil t)' % group.contrib):
+        """The text of the file that two lines were typed into, and whether the server ran in the end."""
+        here = group.fresh()
+        put(here, {'a.tf': text})
+        script = SERVED_EMACS.replace('LOAD', load).replace('TYPED', typed).replace('FORM', form)
+        (here / 'test.el').write_text(script)
+        path = group.before_path(noting(group).parent)
+        done = group.call('emacs', '-q', '--no-site-file', '--batch', '-l', 'test.el', cwd=here, PATH=path)
+        return (here / 'a.tf').read_bytes(), done[1].decode() if done[0] == 0 else done
+
+    wanted = group.call(group.program, cwd=group.top, stdin=b'n=1\nn=1\n' + SERVED)[1]
+    group.check('a buffer is formatted when it is saved', edit(SERVED), (wanted, 't'))
+    with_returns = edit(SERVED.replace(b'\n', b'\r\n'))
+    group.check('a file with CR LF', with_returns, (wanted.replace(b'\n', b'\r\n'), 't'))
+    by_hand = edit(
+        SERVED, form='(eglot-format-buffer) (save-buffer)', load="(require 'eglot)\n" + shown_setting('elisp')
+    )
+    group.check('the one entry, by hand', by_hand, (wanted, 't'))
+    group.check('a refused text', edit(OTHER, 'n='), (b'n=\nn=\n' + OTHER, 't'))
+    group.check('a server that fails', edit(OTHER, form=FORGET)[1], 'nil t')
+    warnings = group.call(
+        *start,
+        '--eval',
+        '(setq byte-compile-dest-file-function (lambda (_) "%s"))' % (here / 'x.elc'),
+        '-f',
+        'batch-byte-compile',
+        group.contrib / 'emacs' / 'tfls.el',
         cwd=here,
     )
     group.check('compiles without a warning', (warnings[0], warnings[2]), (0, b''))

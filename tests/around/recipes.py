@@ -13,8 +13,8 @@ from editors import on_terminal
 from form_readers import REFUSED, read
 from harness import BAD, GOOD, OTHER, TOP, lines, put
 
-PAGES = ['tffmt', 'tfrules', 'tffmt-all', 'tfrules-all', 'tffmt-hook']
-SCRIPTS = PAGES[4:6]
+PROGRAMS, SCRIPTS = ['tffmt', 'tfrules', 'tffmt-all', 'tfrules-all', 'tfls'], ['tffmt-hook']
+PAGES = PROGRAMS + SCRIPTS
 
 
 # --- completions -----------------------------------------------------------------------------------------------
@@ -37,7 +37,7 @@ def completions(group):
     put(here, {'good.tf': GOOD, 'text.txt': GOOD, 'in/x.tf': GOOD, 't.tftest.hcl': GOOD, 'v.tfvars': GOOD})
     path = group.before_path(group.script('tffmt', 'exit 0\n').parent, group.contrib)
     every = sorted(options_of_linter())
-    if group.has('bash', checks=26):
+    if group.has('bash', checks=27):
 
         def bash(line):
             words = line.split(' ')
@@ -73,6 +73,7 @@ def completions(group):
         )
         group.check('bash: no option after --', bash('tffmt-all -- --'), [])
         group.check('bash: what is excluded', bash('tffmt-all --exclude i'), [b'in'])
+        group.check('bash: options of tfls', bash('tfls --'), [b'--help', b'--stdio'])
         for name in ('tfrules', 'tfrules-all'):
             group.check(
                 'bash: ' + name,
@@ -485,9 +486,8 @@ def plain(roff):
 def pages(group):
     version = (TOP / 'VERSION').read_text().strip()
     group.holds('the changes tell of this version', '\n## %s\n' % version in (TOP / 'CHANGELOG.md').read_text())
-    for name, path in [('tffmt-all', group.trees), ('tfrules-all', group.linted)] + [
-        (name, group.contrib / name) for name in PAGES[4:]
-    ]:
+    programs = [('tffmt-all', group.trees), ('tfrules-all', group.linted)]
+    for name, path in programs + [(name, group.contrib / name) for name in SCRIPTS]:
         group.check(
             '%s --version' % name,
             group.call(path, '--version', cwd=group.top),
@@ -503,7 +503,7 @@ def pages(group):
         )
         if group.has('mandoc'):
             group.check('mandoc -Tlint ' + name, group.call('mandoc', '-Tlint', page, cwd=group.top), (0, b'', b''))
-    for path in (group.program, group.trees, group.linted):
+    for path in (group.program, group.trees, group.linted, group.server):
         told = group.call(path, '--help', cwd=group.top)[1].decode().splitlines()
         group.check('%s --help fits 80 columns' % path, [it for it in told if len(it) > 80], [])
     rules = re.findall(r'^\| \[`(terraform_\w+)`', (TOP / 'docs/RULES.md').read_text(), re.M)
@@ -583,7 +583,7 @@ def told_shells(group):
 
 
 def installing(group):
-    if not all(os.access(str(TOP / 'bin' / name), os.X_OK) for name in PAGES[:4]):
+    if not all(os.access(str(TOP / 'bin' / name), os.X_OK) for name in PROGRAMS):
         group.skip('make install', 10, 'the programs are not built')
         return
     if not group.has('make', checks=10):

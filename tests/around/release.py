@@ -15,7 +15,7 @@ MESSAGE = b'tffmt: error: 1:3: unexpected token\n'
 
 
 NEEDS = ('git', 'make', 'gcc', 'strip', 'readelf', 'dpkg-deb', 'dpkg-query', 'rt')
-PROGRAMS = ('tffmt', 'tfrules', 'tffmt-all', 'tfrules-all')
+PROGRAMS = ('tffmt', 'tfrules', 'tffmt-all', 'tfrules-all', 'tfls')
 # The kind of a segment that names the loader.
 LOADER = 3
 
@@ -126,7 +126,7 @@ def in_tarball(group, file):
         programs = {
             it.name.rpartition('/')[2]: archive.extractfile(it).read()
             for it in entries
-            if re.search('/bin/(tffmt|tfrules|tffmt-all|tfrules-all)$', it.name)
+            if re.search('/bin/(%s)$' % '|'.join(PROGRAMS), it.name)
         }
     held = [
         path
@@ -137,7 +137,7 @@ def in_tarball(group, file):
     group.check(
         'no path of the build, no symbol table, and no loader',
         (sorted(programs), held, [(b'.symtab' in it, LOADER in segments(it)) for it in programs.values()]),
-        (sorted(PROGRAMS), [], [(False, False)] * 4),
+        (sorted(PROGRAMS), [], [(False, False)] * len(PROGRAMS)),
     )
     return programs
 
@@ -246,7 +246,7 @@ def unpacked(group, file):
 
 def told(prefix, path=False):
     """What install.sh says."""
-    names = 'tffmt tffmt-all tffmt-hook tfrules tfrules-all tfrules-modules'
+    names = 'tfls tffmt tffmt-all tffmt-hook tfrules tfrules-all tfrules-modules'
     said = ['installed in %s/bin: %s' % (prefix, names)]
     said += ['with man pages, completions, and documents in %s/share/doc/tffmt' % prefix]
     if not path:
