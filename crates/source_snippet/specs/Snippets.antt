@@ -33,9 +33,13 @@ shown_char c = if is_hidden c then 32 else c
 abbrev pub visible_part : List ℕ → List ℕ
 visible_part part = encode_utf8_all (map shown_char (chars part))
 
--- the part of a line before a column; columns count extended grapheme clusters, as in a place
+-- the first extended grapheme clusters of a line, at most this many
+abbrev pub first_clusters : ℕ → List ℕ → List ℕ
+first_clusters count line = concat (take count (graphemes true line))
+
+-- the part of a line before a column; columns count clusters, as in a place
 abbrev pub before_column : ℕ → List ℕ → List ℕ
-before_column column line = concat (take (column - 1) (graphemes true line))
+before_column column line = first_clusters (column - 1) line
 
 -- blanks as wide as a part of a line is on a terminal
 abbrev pub blanks_below : List ℕ → List ℕ

@@ -6,4 +6,4 @@ mod lines;
 mod visible;
 
 pub use lines::{Lines, snippet_of};
-pub use visible::Snippet;
+pub use visible::{Snippet, first_clusters};

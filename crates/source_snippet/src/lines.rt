@@ -52,7 +52,7 @@ impl<'t> Lines<'t> {
     }
 
     /// The text after this many lines.
-    fn after(&mut self, count: u32) -> &'t str
+    pub fn after(&mut self, count: u32) -> &'t str
         ensures rest { result.now ≡ after_lines count self.old }
         ensures same { self.new ≡ self.old }
     {

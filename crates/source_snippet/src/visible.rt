@@ -3,7 +3,7 @@
 ghost use Rattle.std.specs.Prelude.{◌≡◌, ◌≤◌, ◌+◌, ◌++◌, drop, length, replicate, true};
 ghost use Rattle.std.specs.List.{concat};
 ghost use Rattle.unicode_segmentation.specs.Grapheme.{graphemes};
-ghost use Rattle.source_snippet.specs.Snippets.{before_column as before_column_of, is_hidden as is_hidden_of, shown_char, with_caret as with_caret_of, visible_part as visible_of};
+ghost use Rattle.source_snippet.specs.Snippets.{before_column as before_column_of, first_clusters as first_clusters_of, is_hidden as is_hidden_of, shown_char, with_caret as with_caret_of, visible_part as visible_of};
 
 use crate::line::MOST_BYTES;
 use arrayvec::{ArrayString, ArrayVec};
@@ -60,13 +60,21 @@ fn after_clusters(line: &str, count: u32) -> &str
     clusters.as_str()
 }
 
+/// The first clusters of a line, or all of them if it has no more than this many.
+pub fn first_clusters(line: &str, count: u32) -> &str
+    ensures front { result.now ≡ first_clusters_of count line.now }
+    ensures within { length result.now ≤ length line.now }
+{
+    let after = after_clusters(line, count);
+    &line[..line.len() - after.len()]
+}
+
 /// The part of a line before a column.
 fn before_column(line: &str, column: u32) -> &str
     ensures before { result.now ≡ before_column_of column line.now }
     ensures within { length result.now ≤ length line.now }
 {
-    let after = after_clusters(line, column.saturating_sub(1));
-    &line[..line.len() - after.len()]
+    first_clusters(line, column.saturating_sub(1))
 }
 
 /// Appends a text for which there is room.

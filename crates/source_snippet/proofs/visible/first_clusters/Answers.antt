@@ -1,8 +1,6 @@
-use Rattle.std.proofs.Common.{◌∙◌, ◌≡◌, ◌≤◌, ◌++◌, List, ℕ, ap, arith, length, length-append, take, true}
-use Rattle.std.specs.List.{concat}
-use Rattle.unicode_segmentation.specs.Grapheme.{graphemes}
+use Rattle.std.proofs.Common.{◌∙◌, ◌≡◌, ◌≤◌, ◌++◌, List, ℕ, ap, arith, length, length-append}
 use Rattle.source_snippet.proofs.ClusterLemmas.{cluster_seam}
-use Rattle.source_snippet.proofs.visible.before_column.Goals as goal
+use Rattle.source_snippet.proofs.visible.first_clusters.Goals as goal
 
 shorter : (front before after line : List ℕ) → front ≡ before → line ≡ before ++ after → length front ≤ length line
 shorter front before after line same whole = omega (arith, ap length same, ap length whole, length-append before after)
@@ -14,10 +12,10 @@ pub range-requires-clause-end_boundary : goal.range-requires-clause-end_boundary
 range-requires-clause-end_boundary c =
     (cluster_seam c.args.line.now c.after_clusters-after.result.now _ c.utf8.line c.after_clusters-after.utf8 c.after_clusters-after.ensures).boundary
 
-pub returns-clause-before : goal.returns-clause-before
-returns-clause-before c =
+pub returns-clause-front : goal.returns-clause-front
+returns-clause-front c =
     let s = cluster_seam c.args.line.now c.after_clusters-after.result.now _ c.utf8.line c.after_clusters-after.utf8 c.after_clusters-after.ensures in
-    c.range.ensures.value ∙ s.front ∙ ap (λ n. concat (take n (graphemes true c.args.line.now))) c.saturating_sub.ensures
+    c.range.ensures.value ∙ s.front
 
 pub returns-clause-within : goal.returns-clause-within
 returns-clause-within c =

@@ -1,0 +1,5 @@
+pub mod FaultLemmas
+pub mod FrontClusterLemmas
+pub mod LineStartLemmas
+pub mod MarkLemmas
+pub mod PlaceMarkLemmas
