@@ -1,3 +1,4 @@
+pub mod DiagnosticLemmas
 pub mod EditTokenLemmas
 pub mod ItemLemmas
 pub mod ReplyLemmas

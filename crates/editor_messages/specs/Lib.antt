@@ -1,3 +1,4 @@
+pub mod Diagnostics
 pub mod Errors
 pub mod Inner
 pub mod Messages

@@ -38,11 +38,15 @@ place_json place =
     object (member (codes "line") (number (decimal place.line))
     (member (codes "character") (number (decimal place.character)) no_members))
 
+-- a range, by its first place and the place after it
+abbrev pub range_json : Place → Place → Json
+range_json start end =
+    object (member (codes "start") (place_json start) (member (codes "end") (place_json end) no_members))
+
 -- AN EDIT
 abbrev pub edit_json : PlacedEdit → Json
 edit_json edit =
-    object (member (codes "range") (object
-    (member (codes "start") (place_json edit.start) (member (codes "end") (place_json edit.end) no_members)))
+    object (member (codes "range") (range_json edit.start edit.end)
     (member (codes "newText") (string edit.text) no_members))
 
 abbrev pub edits_json : List PlacedEdit → Json

@@ -4,7 +4,9 @@ use Rattle.std.specs.Borrow.{Bor}
 use Rattle.json.specs.Json.{Json, null, number, string}
 use Rattle.json.specs.Tree.{HasNumbers}
 use Rattle.editor_messages.specs.Messages.{Message, Notification, Request}
+use Rattle.editor_messages.specs.Diagnostics.{Diagnostic}
 use Rattle.editor_messages.specs.Messages as spec
+use Rattle.editor_messages.specs.declared.diagnostic.Diagnostic.{Diagnostic as DiagnosticOf}
 use Rattle.editor_messages.specs.declared.message.Id.{Id}
 use Rattle.editor_messages.specs.declared.message.Id.TheVariants as id
 use Rattle.editor_messages.specs.declared.message.Message.{Message as MessageOf}
@@ -39,6 +41,9 @@ message_seen (message.Invalid id) = spec.Invalid (id_seen id)
 message_seen message.Response = spec.Response
 message_seen (message.Asks id request) = spec.Asks (id_seen id) (request_seen request)
 message_seen (message.Tells notification) = spec.Tells (notification_seen notification)
+
+abbrev pub diagnostic_seen : DiagnosticOf → Diagnostic
+diagnostic_seen d = record { range = d.range; text = d.text.now }
 
 -- the number in an id is one
 abbrev pub HasNumber : MessageOf → Type 0

@@ -1,11 +1,14 @@
 //! The messages of an editor and the replies to them, in JSON (Language Server Protocol 3.17).
 #![tactic(auto)]
 
+mod diagnostic;
 mod error;
 mod message;
+mod range;
 mod read;
 mod reply;
 
+pub use diagnostic::{Diagnostic, diagnostics_message};
 pub use error::ReplyError;
 pub use message::{Id, Message, Notification, Request};
 pub use read::message_of;

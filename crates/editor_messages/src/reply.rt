@@ -16,6 +16,7 @@ ghost use Rattle.editor_messages.specs.Views.{id_seen};
 
 use crate::error::ReplyError;
 use crate::message::Id;
+use crate::range::write_range;
 use json::Writer;
 use json_parts::{JsonPart, write_parts};
 use line_edits::{Range, TextEdit, place_edit};
@@ -200,27 +201,11 @@ fn write_edit<'a>(writer: &mut Writer, range: Range, text: &'a str) -> Result<()
     ensures { AddsTokens result writer.old writer.new
         (json_tokens (edit_json (in_range range text.now))) }
 {
+    write_parts(writer, &[JsonPart::Object, JsonPart::Key("range")])?;
+    write_range(writer, range)?;
     write_parts(
         writer,
         &[
-            JsonPart::Object,
-            JsonPart::Key("range"),
-            JsonPart::Object,
-            JsonPart::Key("start"),
-            JsonPart::Object,
-            JsonPart::Key("line"),
-            JsonPart::Number(range.start.line as u64),
-            JsonPart::Key("character"),
-            JsonPart::Number(range.start.character as u64),
-            JsonPart::EndObject,
-            JsonPart::Key("end"),
-            JsonPart::Object,
-            JsonPart::Key("line"),
-            JsonPart::Number(range.end.line as u64),
-            JsonPart::Key("character"),
-            JsonPart::Number(range.end.character as u64),
-            JsonPart::EndObject,
-            JsonPart::EndObject,
             JsonPart::Key("newText"),
             JsonPart::Text(text),
             JsonPart::EndObject,

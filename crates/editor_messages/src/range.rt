@@ -1,0 +1,37 @@
+//! Ranges of a document.
+
+ghost use Rattle.json.specs.Tree.{json_tokens};
+ghost use Rattle.json_parts.specs.AddsTokens.{AddsTokens};
+ghost use Rattle.editor_messages.specs.Replies.{range_json};
+
+use json::Writer;
+use json_parts::{JsonPart, write_parts};
+use line_edits::Range;
+use std::alloc::AllocError;
+
+pub(crate) fn write_range(writer: &mut Writer, range: Range) -> Result<(), AllocError>
+    ensures { AddsTokens result writer.old writer.new
+        (json_tokens (range_json range.start range.end)) }
+{
+    write_parts(
+        writer,
+        &[
+            JsonPart::Object,
+            JsonPart::Key("start"),
+            JsonPart::Object,
+            JsonPart::Key("line"),
+            JsonPart::Number(range.start.line as u64),
+            JsonPart::Key("character"),
+            JsonPart::Number(range.start.character as u64),
+            JsonPart::EndObject,
+            JsonPart::Key("end"),
+            JsonPart::Object,
+            JsonPart::Key("line"),
+            JsonPart::Number(range.end.line as u64),
+            JsonPart::Key("character"),
+            JsonPart::Number(range.end.character as u64),
+            JsonPart::EndObject,
+            JsonPart::EndObject,
+        ],
+    )
+}
