@@ -1,8 +1,7 @@
--- Neovim 0.7 or later: formats a Terraform file by the language server tfls when it is written.
+-- Neovim 0.7 or later: formats a Terraform file by the language server tfls when it is written, and shows why it is refused.
 --
--- Copy this file to ~/.config/nvim/plugin/tfls.lua. A text that is refused is written as it is, with no message. The package
--- in ../vim formats by calls of tffmt, and says why a text is refused: with both, put `let g:tffmt_on_save = 0` into the
--- settings, and `:Tffmt` says it.
+-- Copy this file to ~/.config/nvim/plugin/tfls.lua. A text that is refused is written as it is, and has a diagnostic.
+-- The package in ../vim formats by calls of tffmt: with both, put `let g:tffmt_on_save = 0` into the settings.
 --
 -- vim.g.tfls_program names the program if it isn't `tfls` on the path.
 

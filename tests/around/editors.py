@@ -546,6 +546,11 @@ vim.fn.append(1, "TYPED")
 vim.cmd("silent write")
 vim.fn.writefile(vim.fn.getline(1, "$"), "buffer")
 local clients = vim.lsp.get_active_clients()
+vim.wait(WAIT, function() return #vim.diagnostic.get(0) > 0 end, 20)
+local shown = vim.tbl_map(function(it)
+  return table.concat({ it.lnum, it.col, it.end_lnum, it.end_col, it.severity, it.source, it.message }, " ")
+end, vim.diagnostic.get(0))
+vim.fn.writefile(shown, "diagnostics")
 vim.lsp.stop_client(clients)
 vim.wait(20000, function() return #vim.lsp.get_active_clients() == 0 end, 20)
 vim.fn.writefile({ tostring(#clients) }, "clients")
@@ -591,21 +596,23 @@ def run_settings(group):
 
 def run_nvim_server(group):
     """Neovim's client, with the language server."""
-    if not has_server(group, 22) or not group.has('nvim', checks=22):
+    if not has_server(group, 36) or not group.has('nvim', checks=36):
         return
 
-    def edit(name, text, typed='n=1', program=None):
+    def edit(name, text, typed='n=1', program=None, diagnostics=b''):
         """The text of the file that two lines were typed into, the number of servers, and the status of one."""
         here = group.fresh()
         put(here, {name: text})
         script = SERVED_LUA.replace('PROGRAM', str(program or noting(group))).replace('TYPED', typed)
         script = script.replace('PLUGIN', str(group.contrib / 'editors' / 'tfls.lua')).replace('NAME', name)
+        script = script.replace('WAIT', '20000' if diagnostics else '50')
         (here / 'test.lua').write_text(script)
         done = group.call('nvim', '-u', 'NONE', '-i', 'NONE', '--headless', '-c', 'luafile test.lua', cwd=here)
         if not (here / 'clients').exists():
             return done
         first, last = (here / 'first').read_bytes(), (here / name).read_bytes()
         group.check('what is shown of ' + name, (here / 'buffer').read_bytes(), last.replace(b'\r', b''))
+        group.check('diagnostics of ' + name, (here / 'diagnostics').read_bytes(), diagnostics)
         status = (here / 'status').read_text().strip() if (here / 'status').exists() else ''
         return first, last, (here / 'clients').read_text().strip(), status, done[2].decode().strip()
 
@@ -618,7 +625,10 @@ def run_nvim_server(group):
     group.check('a file with CR LF', with_returns, (*(it.replace(b'\n', b'\r\n') for it in wanted), '1', '0', ''))
     for name in ('a.tfvars', 'a.tofu', 'a.tftest.hcl', 'a.tfmock.hcl', 'a.tfquery.hcl', 'a.tofutest.hcl'):
         group.check(name, edit(name, OTHER)[1:3], (printed(b'n=1\nn=1\n' + OTHER), '1'))
-    group.check('a refused text', edit('a.tf', OTHER, 'n=')[1:], (b'n=\nn=\n' + OTHER, '1', '0', ''))
+    refused = edit('a.tf', OTHER, 'n=', diagnostics=b'0 2 0 2 1 tfls unexpected token\n')
+    group.check('a refused text', refused[1:], (b'n=\nn=\n' + OTHER, '1', '0', ''))
+    marked = edit('a.tf', OTHER, '/*\U0001F600*/ n=]', diagnostics=b'0 11 0 12 1 tfls unexpected token\n')
+    group.check('a refused text with a mark', marked[2:], ('1', '0', ''))
     group.check('another file', edit('a.txt', OTHER)[1:], (b'n=1\nn=1\n' + OTHER, '0', '', ''))
     shown = edit('a.tf', OTHER, program='no-such-program')
     group.check('without the program', shown[1:], (b'n=1\nn=1\n' + OTHER, '0', '', 'no-such-program: not found'))
@@ -645,6 +655,14 @@ FORM
 (write-region (buffer-string) nil "buffer" nil 'quiet)
 (eglot-shutdown (eglot-current-server) nil 30)
 """
+# What flymake shows once it has asked.
+FAULTS = """
+(flymake-start)
+(let ((end (+ (float-time) 30)))
+  (while (and (not (flymake-diagnostics)) (< (float-time) end)) (accept-process-output nil 0.05)))
+(dolist (it (flymake-diagnostics))
+  (princ (format "%d %d %s " (flymake-diagnostic-beg it) (flymake-diagnostic-end it) (flymake-diagnostic-text it))))
+"""
 # The first write sends what was changed by edits. Then the server forgets all texts, so that it answers the request before
 # the next write by an error.
 FORGET = r"""
@@ -659,7 +677,7 @@ FORGET = r"""
 
 def run_emacs_server(group):
     """Eglot in Emacs, with the language server."""
-    if not has_server(group, 6) or not group.has('emacs', checks=6):
+    if not has_server(group, 7) or not group.has('emacs', checks=7):
         return
     here = group.fresh()
     start = [
@@ -671,7 +689,7 @@ def run_emacs_server(group):
         "(progn (require 'package) (package-initialize) (require 'eglot))",
     ]
     if group.call(*start, cwd=here)[0] != 0:
-        group.skip('eglot', 6)
+        group.skip('eglot', 7)
         return
 
     def edit(text, typed='n=1', form='', load='(load "%s/emacs/tfls.el" nil t)' % group.contrib):
@@ -693,6 +711,8 @@ def run_emacs_server(group):
     )
     group.check('the one entry, by hand', by_hand, (wanted, 't'))
     group.check('a refused text', edit(OTHER, 'n='), (b'n=\nn=\n' + OTHER, 't'))
+    marked = edit(OTHER, '/*\U0001F600*/ n=]', form=FAULTS)
+    group.check('what flymake shows', marked[1], '9 10 tfls: unexpected token t')
     group.check('a server that fails', edit(OTHER, form=FORGET)[1], 'nil t')
     warnings = group.call(
         *start,

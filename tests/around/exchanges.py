@@ -1,11 +1,13 @@
 """Messages to the language server, bad ones among them, with the answers that they must get, byte for byte.
 
-A row is a name, the bodies that are sent, and those that must come back. Those of `open_rows` are sent to a server that is
-initialized and knows the text of KNOWN, which it knows afterwards too; those of FRESH before `initialize`, and those of
-DOWN after `shutdown`. After one of NO_JSON it knows no text. OFFERS has parameters of `initialize`, HEADS heads of messages,
-with `%d` for the length and whether they are heads, and RUNS whole streams, with the status and the message of the end.
+A row is a name, the bodies that are sent, and the answers that must come back: what is told of documents comes between them.
+Those of `open_rows` are sent to a server that is initialized and knows the text of KNOWN, which it knows afterwards too;
+those of FRESH before `initialize`, and those of DOWN after `shutdown`. After one of NO_JSON it knows no text. OFFERS has
+parameters of `initialize`, HEADS heads of messages, with `%d` for the length and whether they are heads, and RUNS whole
+streams, with the status and the message of the end.
 """
 
+import json
 import pathlib
 
 from protocol import (
@@ -93,6 +95,16 @@ def edits(number, *each):
     return result(number, '[%s]' % ','.join(each))
 
 
+def told(uri, *each):
+    """What the server says of a document with these diagnostics."""
+    text = '{"jsonrpc":"2.0","method":"textDocument/publishDiagnostics","params":{"uri":%s,"diagnostics":[%s]}}'
+    return (text % (json.dumps(uri, ensure_ascii=False), ','.join(map(spelled, each)))).encode()
+
+
+def spelled(value):
+    return json.dumps(value, ensure_ascii=False, separators=(',', ':'))
+
+
 def kind(body):
     """What an answer says, but for its id and the places and texts of edits."""
     said = body.partition(b',"error":')[2] or body.partition(b',"result":')[2]
@@ -159,6 +171,8 @@ NO_JSON = [
     ('brackets that are never closed', b'[' * 100_000),
     ('a changed text with a byte that is no UTF-8', did_change(KNOWN, 'X').replace(b'X', b'b=\xff\n')),
 ]
+
+BODIES_OF_NO_JSON = {body for _, body in NO_JSON}
 
 # --- messages to an initialized server ---------------------------------------------------------------------------------
 
@@ -520,7 +534,7 @@ HEADS = [
     ('CR alone', b'Content-Length: %d\r\r', False),
 ]
 
-BEGIN, BEGUN = [initialize(0), did_open(KNOWN, TEXT)], [initialized('0')]
+BEGIN, BEGUN = [initialize(0), did_open(KNOWN, TEXT)], [initialized('0'), told(KNOWN)]
 EXIT = FAREWELL[1]
 ENDED = b'tfls: error: input ended without exit\n'
 MALFORMED = b'tfls: error: malformed message\n'

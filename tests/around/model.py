@@ -1,13 +1,14 @@
 """The session of the language server worked out by other means, and random messages to it.
 
-`Model` takes the bodies of messages, and says what must come back, byte for byte. `Messages` makes bodies of JSON that are
-mostly what editors send, with members that are missing, that come twice or in another order, with other spellings of the
-same string, and with values of a wrong kind.
+`Model` takes the bodies of messages, and says what must come back, byte for byte; what the fault of a text is it is told.
+`Messages` makes bodies of JSON that are mostly what editors send, with members that are missing, that come twice or in
+another order, with other spellings of the same string, and with values of a wrong kind.
 """
 
 import json
 
 import exchanges
+import protocol
 from exchanges import edit
 
 EITHER = ('utf-16', 'utf-8')
@@ -50,19 +51,22 @@ def id_of(value):
 class Model:
     """A session: what it has come to, what it knows, and its status once it has ended."""
 
-    def __init__(self):
+    def __init__(self, fault_of):
         self.phase, self.units, self.texts, self.status = 'fresh', 'utf-16', {}, None
+        self.fault_of = fault_of
 
     def answers(self, body):
         """What comes back for a message: a list of one body or none."""
+        if body in exchanges.BODIES_OF_NO_JSON:
+            self.texts = {}
+            return [exchanges.not_json()]
         value = json.loads(body, parse_int=Number, parse_float=Number)
         method, number = text_of(at(value, 'method')), at(value, 'id')
         if method is None:
             is_response = at(value, 'result') is not MISSING or at(value, 'error') is not MISSING
             return [] if is_response else [exchanges.no_request(id_of(number) or 'null')]
         if number is MISSING:
-            self.hear(method, value)
-            return []
+            return self.hear(method, value)
         number = id_of(number)
         return [exchanges.no_request() if number is None else self.answer(method, number, value)]
 
@@ -71,7 +75,7 @@ class Model:
             self.status = 0 if self.phase == 'down' else 1
         uri = text_of(at(value, 'params', 'textDocument', 'uri'))
         if self.phase != 'open' or uri is None:
-            return
+            return []
         if method == 'textDocument/didOpen':
             self.texts[uri] = text_of(at(value, 'params', 'textDocument', 'text'))
         elif method == 'textDocument/didChange':
@@ -80,6 +84,11 @@ class Model:
             self.texts[uri] = text_of(at(last, 'text')) if at(last, 'range') is MISSING else None
         elif method == 'textDocument/didClose':
             self.texts[uri] = None
+        else:
+            return []
+        text = self.texts[uri]
+        fault = None if text is None else self.fault_of(text)
+        return [exchanges.told(uri, *protocol.diagnostics(text, fault, self.units))]
 
     def answer(self, method, number, value):
         if self.phase == 'down':

@@ -13,12 +13,15 @@ import select
 import subprocess
 import tempfile
 import time
+import unicodedata
 
 # How long the server may take for one step, in seconds, however busy the machine is.
 LIMIT = 120
 CHUNK = 65536
 HEAD = re.compile(rb'Content-Length: (0|[1-9][0-9]*)\r\n\r\n')
 ENCODINGS = {'utf-16': ('utf-16-le', 2), 'utf-8': ('utf-8', 1)}
+# The faults of texts that aren't read.
+AT_FRONT = ('source too large', 'byte order mark')
 
 
 class Fault(Exception):
@@ -89,6 +92,11 @@ def bodies(stream):
     return found
 
 
+def is_told(body):
+    """Whether a body tells the diagnostics of a document."""
+    return body.startswith(b'{"jsonrpc":"2.0","method":"textDocument/publishDiagnostics",')
+
+
 # --- a run of the server -----------------------------------------------------------------------------------------------
 
 
@@ -103,6 +111,8 @@ class Client:
         self.into, self.out = self.process.stdin.fileno(), self.process.stdout.fileno()
         os.set_blocking(self.into, False)
         self.units, self.waiting, self.unsent, self.ended, self.number = units, bytearray(), b'', False, 0
+        # The diagnostics that were told last, by the URIs of their documents.
+        self.told = {}
 
     def __enter__(self):
         return self
@@ -154,11 +164,20 @@ class Client:
         del self.waiting[:last]
         return body
 
+    def answer(self):
+        """The next body that answers a request. What is told of documents before it is kept."""
+        while True:
+            body = self.receive()
+            if body is None or not is_told(body):
+                return body
+            params = json.loads(body)['params']
+            self.told[params['uri']] = params['diagnostics']
+
     def ask(self, make, *words):
         """The result of a request, which `make` makes of its number and these words."""
         self.number += 1
         self.send(make(self.number, *words))
-        body = self.receive()
+        body = self.answer()
         answer = json.loads(body) if body is not None else None
         if not answer or answer.get('id') != self.number or 'result' not in answer:
             raise Fault('answered by %r' % (body if body is None else body[:200]))
@@ -210,6 +229,47 @@ class Places:
             return begin + len(in_line[: character * size].decode(encoding))
         except UnicodeDecodeError:
             raise Fault('within a character: %r' % place) from None
+
+    def place(self, offset):
+        """The place of an offset."""
+        # A CR ends a line, so between it and its LF the next line begins.
+        line = sum(start < offset for start, _ in self.ends)
+        begin = min(self.ends[line - 1][1], offset) if line else 0
+        encoding, size = ENCODINGS[self.units]
+        return {'line': line, 'character': len(self.text[begin:offset].encode(encoding)) // size}
+
+
+def extends(text, before):
+    """Whether a character is of the cluster of the one before it. This is all of the rules that the tests need."""
+    joins = unicodedata.category(text) in ('Mn', 'Me', 'Mc') or text == '\u200d'
+    return joins and unicodedata.category(before) not in ('Cc', 'Zl', 'Zp')
+
+
+def clusters(line):
+    """The extended grapheme clusters of a line."""
+    found = []
+    for before, character in zip(' ' + line, line):
+        if found and extends(character, before):
+            found[-1] += character
+        else:
+            found.append(character)
+    return found
+
+
+def diagnostics(text, fault, units):
+    """The diagnostics of a text with this fault: its line, its column and its message. At the text's front nothing is marked
+    if no token stands there."""
+    if fault is None:
+        return []
+    line, column, message = fault
+    before = text.split('\n')[: line - 1]
+    front = sum(map(len, before)) + len(before)
+    each = clusters(text.split('\n')[line - 1])
+    begin = front + len(''.join(each[: column - 1]))
+    end = begin if message in AT_FRONT else front + len(''.join(each[:column]))
+    places = Places(text, units)
+    marked = {'start': places.place(begin), 'end': places.place(end)}
+    return [{'range': marked, 'severity': 1, 'source': 'tfls', 'message': message}]
 
 
 def replaced(text, edits, units):

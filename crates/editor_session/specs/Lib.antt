@@ -3,4 +3,5 @@ pub mod Inner
 pub mod Laws
 pub mod Sessions
 pub mod Steps
+pub mod Told
 pub mod Views

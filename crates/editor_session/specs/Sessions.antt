@@ -58,20 +58,18 @@ after_request s Unknown = s
 
 -- ---- notifications
 
-abbrev pub heard_while_open : Session → Notification → Session
-heard_while_open s (Text uri text) = with_text uri text s
-heard_while_open s (Close uri) = with_text uri None s
-heard_while_open s Exit = s
-heard_while_open s Other = s
+-- a session, or in its place the second one if it is open
+abbrev pub while_open : Session → Session → Phase → Session
+while_open s t phase.Fresh = s
+while_open s t phase.Open = t
+while_open s t phase.ShutDown = s
 
-abbrev pub heard_in_phase : Session → Notification → Phase → Session
-heard_in_phase s n phase.Fresh = s
-heard_in_phase s n phase.Open = heard_while_open s n
-heard_in_phase s n phase.ShutDown = s
-
--- the session after a notification: one that is not open passes it over
+-- the session after a notification: the text of a document that is closed is not known
 abbrev pub after_notification : Session → Notification → Session
-after_notification s n = heard_in_phase s n s.phase
+after_notification s (Text uri text) = while_open s (with_text uri text s) s.phase
+after_notification s (Close uri) = while_open s (with_text uri None s) s.phase
+after_notification s Exit = s
+after_notification s Other = s
 
 -- the status of a run that ends in this phase, as the protocol asks
 abbrev pub exit_status : Phase → ℕ

@@ -8,6 +8,7 @@ pub mod laws;
 mod phase;
 mod session;
 mod step;
+mod told;
 mod turn;
 
 pub use phase::Phase;

@@ -1,18 +1,19 @@
 //! One message of an editor.
 
-ghost use Rattle.std.specs.Prelude.{◌≡◌, IfOk};
+ghost use Rattle.std.specs.Prelude.{◌≡◌, IfOk, None, OnErr, OnOk};
 ghost use Rattle.json.specs.Json.{null};
 ghost use Rattle.editor_messages.specs.Replies.{error_json};
 ghost use Rattle.editor_messages.specs.Views.{HasNumber, id_seen, message_seen, notification_seen, request_seen, text_seen};
-ghost use Rattle.editor_messages.specs.Messages.{Asks, Close, Tells};
+ghost use Rattle.editor_messages.specs.Messages.{Asks, Tells, Text};
 ghost use Rattle.json.specs.Tree.{HasNumbers};
-ghost use Rattle.editor_session.specs.Sessions.{IsSame, after_notification, after_request, exit_status, without_texts};
-ghost use Rattle.editor_session.specs.Steps.{IsStepOrShort, SaysReply, Steps};
-ghost use Rattle.editor_session.specs.Inner.Heard.{IsHeardText, IsTaken};
+ghost use Rattle.editor_session.specs.Sessions.{IsSame, after_request, exit_status, with_text, without_texts};
+ghost use Rattle.editor_session.specs.Steps.{IsStepOrShort, Says, Steps};
+ghost use Rattle.editor_session.specs.Inner.Heard.{IsTold};
 ghost use Rattle.editor_session.specs.Views.{session_seen};
 
 use crate::phase::Phase;
 use crate::session::Session;
+use crate::told::{text_message, withdrawal};
 use crate::turn::Turn;
 use editor_messages::{Id, Message, Notification, ReplyError, Request, error_reply, message_of};
 use json::{Error, Scratch, Value};
@@ -21,9 +22,9 @@ use std::alloc::{AllocError, Global};
 /// The turn that says this error.
 fn say_error(alloc: Global, id: Id<'_>, error: ReplyError) -> Result<Turn, AllocError>
     requires { HasNumbers (id_seen id) }
-    ensures { IfOk result (SaysReply (error_json (id_seen id.entry) error)) }
+    ensures { IfOk result (Says (error_json (id_seen id.entry) error)) }
 {
-    Ok(Turn::Reply(error_reply(alloc, id, error)?))
+    Ok(Turn::Say(error_reply(alloc, id, error)?))
 }
 
 /// The status of a run that ends in this phase.
@@ -67,43 +68,46 @@ impl Session {
             return say_error(alloc, id, ReplyError::OutOfMemory);
         };
         self.go_on(request);
-        Ok(Turn::Reply(reply))
+        Ok(Turn::Say(reply))
     }
 
-    /// Takes in the text of a document, or that it is not known.
-    fn take_text(&mut self, alloc: Global, uri: &str, text: Option<&str>)
-        ensures { IsTaken uri.now (text_seen text.entry)
-            (session_seen self.old) (session_seen self.new) }
+    /// Takes in the text of a document, or that it is not known, and returns the message about it. If memory runs out, the
+    /// text is not known.
+    fn take_text(
+        &mut self,
+        alloc: Global,
+        uri: &str,
+        text: Option<&str>,
+    ) -> Result<Vec<u8>, AllocError>
+        ensures taken { OnOk result
+            (IsSame (with_text uri.now (text_seen text.entry) (session_seen self.old))
+            (session_seen self.new)) }
+        ensures forgotten { OnErr result
+            (IsSame (with_text uri.now None (session_seen self.old)) (session_seen self.new)) }
+        ensures told { IfOk result
+            (IsTold (session_seen self.old).units uri.now (text_seen text.entry)) }
     {
-        match text {
-            Some(text) => {
-                let _ = self.keep(alloc, uri, text);
-            }
-            None => self.forget(uri),
-        }
+        self.forget(uri);
+        let Some(text) = text else {
+            return withdrawal(alloc, uri);
+        };
+        let message = text_message(alloc, self.units, uri, text)?;
+        self.keep(alloc, uri, text)?;
+        Ok(message)
     }
 
-    /// Takes in what a document's text is, if the editor has begun.
-    fn hear_text(&mut self, alloc: Global, uri: &str, text: Option<&str>)
-        ensures { IsHeardText uri.now (text_seen text.entry)
-            (session_seen self.old) (session_seen self.new) }
+    /// Takes in what a document's text is, if the editor has begun. That of a closed document is not known.
+    fn hear_text(&mut self, alloc: Global, uri: &str, text: Option<&str>) -> Turn
+        ensures { IsStepOrShort (Tells (Text uri.now (text_seen text.entry)))
+            (session_seen self.old) (session_seen self.new) result }
     {
         match self.phase {
-            Phase::Fresh => {}
-            Phase::Open => self.take_text(alloc, uri, text),
-            Phase::ShutDown => {}
-        }
-    }
-
-    /// Forgets a document that is closed, if the editor has begun.
-    fn hear_close(&mut self, uri: &str)
-        ensures { IsSame (after_notification (session_seen self.old) (Close uri.now))
-            (session_seen self.new) }
-    {
-        match self.phase {
-            Phase::Fresh => {}
-            Phase::Open => self.forget(uri),
-            Phase::ShutDown => {}
+            Phase::Fresh => Turn::Quiet,
+            Phase::Open => match self.take_text(alloc, uri, text) {
+                Ok(message) => Turn::Say(message),
+                Err(_) => Turn::Quiet,
+            },
+            Phase::ShutDown => Turn::Quiet,
         }
     }
 
@@ -113,14 +117,8 @@ impl Session {
             (session_seen self.old) (session_seen self.new) result }
     {
         match notification {
-            Notification::Text(uri, text) => {
-                self.hear_text(alloc, uri, text);
-                Turn::Quiet
-            }
-            Notification::Close(uri) => {
-                self.hear_close(uri);
-                Turn::Quiet
-            }
+            Notification::Text(uri, text) => self.hear_text(alloc, uri, text),
+            Notification::Close(uri) => self.hear_text(alloc, uri, None),
             Notification::Exit => Turn::End(exit_status(self.phase)),
             Notification::Other => Turn::Quiet,
         }
@@ -143,7 +141,7 @@ impl Session {
     /// Forgets all texts, since a body that could not be read may have been the change of one.
     fn lose_texts(&mut self, alloc: Global, error: ReplyError) -> Result<Turn, AllocError>
         ensures same { IsSame (without_texts (session_seen self.old)) (session_seen self.new) }
-        ensures says { IfOk result (SaysReply (error_json null error)) }
+        ensures says { IfOk result (Says (error_json null error)) }
     {
         self.forget_texts();
         say_error(alloc, Id::Null, error)

@@ -6,7 +6,7 @@ pub enum Turn {
     /// Nothing is said.
     Quiet,
     /// A message with this body is said.
-    Reply(Vec<u8>),
+    Say(Vec<u8>),
     /// The run ends with this status.
     End(u8),
 }

@@ -1,7 +1,23 @@
 //! The comparisons of the tests, with one assertion each, so that it is proved once.
 
+use line_edits::Range;
 use std::alloc::Global;
 use std::process::Abort;
+use text_places::Place;
+
+/// A range by its first line and character, and its last.
+pub fn range_of(places: [usize; 4]) -> Range {
+    Range {
+        start: Place {
+            line: places[0],
+            character: places[1],
+        },
+        end: Place {
+            line: places[2],
+            character: places[3],
+        },
+    }
+}
 
 /// Checks a property of a text.
 pub fn holds(rt: &impl Abort, is_so: bool, text: &[u8]) {

@@ -1,8 +1,8 @@
 //! The edits that make one text another.
 
-use crate::checks::{holds, with_copies};
+use crate::checks::{holds, range_of, with_copies};
 use line_edits::{Range, TextEdit, edits_between, place_edit};
-use text_places::{Place, Units, Walk};
+use text_places::{Units, Walk};
 
 /// An edit by its offsets and its text.
 type Edit = (usize, usize, &'static str);
@@ -108,15 +108,7 @@ fn range_in(units: Units, text: &[u8], from: usize, to: usize) -> Option<Range> 
 }
 
 fn is_range(found: Option<Range>, wanted: [usize; 4]) -> bool {
-    let start = Place {
-        line: wanted[0],
-        character: wanted[1],
-    };
-    let end = Place {
-        line: wanted[2],
-        character: wanted[3],
-    };
-    found == Some(Range { start, end })
+    found == Some(range_of(wanted))
 }
 
 #[test]

@@ -19,7 +19,7 @@ static SESSION: [Said; 6] = [
     ),
     (
         b"Content-Length: 107\r\n\r\n{\"jsonrpc\":\"2.0\",\"method\":\"textDocument/didOpen\",\"params\":{\"textDocument\":{\"uri\":\"a\",\"text\":\"a=1\\nb = 2\"}}}",
-        b"",
+        b"Content-Length: 98\r\n\r\n{\"jsonrpc\":\"2.0\",\"method\":\"textDocument/publishDiagnostics\",\"params\":{\"uri\":\"a\",\"diagnostics\":[]}}",
     ),
     (
         b"Content-Length: 99\r\n\r\n{\"jsonrpc\":\"2.0\",\"id\":\"x\",\"method\":\"textDocument/formatting\",\"params\":{\"textDocument\":{\"uri\":\"a\"}}}",

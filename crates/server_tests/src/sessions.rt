@@ -5,14 +5,14 @@ use editor_session::{Session, Turn};
 use std::alloc::Global;
 use std::process::Abort;
 
-/// The body of a message, and the answer: none is `-`, and the end of the run is its status.
+/// The body of a message, and the message that it leads to: none is `-`, and the end of the run is its status.
 type Said = (&'static str, &'static str);
 
 /// What a step leads to.
 fn said(turn: &Turn) -> &[u8] {
     match turn {
         Turn::Quiet => b"-",
-        Turn::Reply(body) => body,
+        Turn::Say(body) => body,
         Turn::End(0) => b"0",
         Turn::End(1) => b"1",
         Turn::End(_) => b"another status",
@@ -47,6 +47,9 @@ const SHUT_DOWN: &str = r#"{"jsonrpc":"2.0","id":1,"error":{"code":-32600,"messa
 
 const NOT_KNOWN: &str =
     r#"{"jsonrpc":"2.0","id":1,"error":{"code":-32801,"message":"the text of this document is not known"}}"#;
+
+const NO_FAULT: &str =
+    r#"{"jsonrpc":"2.0","method":"textDocument/publishDiagnostics","params":{"uri":"a","diagnostics":[]}}"#;
 
 const NO_EDITS: &str = r#"{"jsonrpc":"2.0","id":1,"result":[]}"#;
 
@@ -101,7 +104,7 @@ static PHASES: [Said; 21] = [
     ),
     (r#"{"method":"initialized","params":{}}"#, "-"),
     (r#"{"method":"$/cancelRequest","params":{"id":1}}"#, "-"),
-    (OPEN, "-"),
+    (OPEN, NO_FAULT),
     (EXIT, "1"),
     (SHUTDOWN, NOTHING),
     (SHUTDOWN, SHUT_DOWN),
@@ -183,69 +186,69 @@ fn phases_and_messages(rt: HostRuntime) {
 static DOCUMENTS: [Said; 34] = [
     BEGIN,
     (FORMAT, NOT_KNOWN),
-    (OPEN, "-"),
+    (OPEN, NO_FAULT),
     (FORMAT, ONE_EDIT),
     (FORMAT, ONE_EDIT),
     // another document
     (
         r#"{"method":"textDocument/didOpen","params":{"textDocument":{"uri":"A","text":"b\n"}}}"#,
-        "-",
+        r#"{"jsonrpc":"2.0","method":"textDocument/publishDiagnostics","params":{"uri":"A","diagnostics":[{"range":{"start":{"line":0,"character":1},"end":{"line":0,"character":1}},"severity":1,"source":"tfls","message":"unexpected token"}]}}"#,
     ),
     (
         r#"{"method":"textDocument/didClose","params":{"textDocument":{"uri":"A"}}}"#,
-        "-",
+        r#"{"jsonrpc":"2.0","method":"textDocument/publishDiagnostics","params":{"uri":"A","diagnostics":[]}}"#,
     ),
     (FORMAT, ONE_EDIT),
     // the last change counts
     (
         r#"{"method":"textDocument/didChange","params":{"textDocument":{"uri":"a"},"contentChanges":[{"text":"a"},{"text":"a = 1\n"}]}}"#,
-        "-",
+        NO_FAULT,
     ),
     (FORMAT, NO_EDITS),
     // a text that is refused has no edits
     (
         r#"{"method":"textDocument/didChange","params":{"textDocument":{"uri":"a"},"contentChanges":[{"text":"a={\n"}]}}"#,
-        "-",
+        r#"{"jsonrpc":"2.0","method":"textDocument/publishDiagnostics","params":{"uri":"a","diagnostics":[{"range":{"start":{"line":1,"character":0},"end":{"line":1,"character":0}},"severity":1,"source":"tfls","message":"unexpected end"}]}}"#,
     ),
     (FORMAT, NO_EDITS),
     // of a change of a range the text is not known
     (
         r#"{"method":"textDocument/didChange","params":{"textDocument":{"uri":"a"},"contentChanges":[{"text":"a=1\n"},{"range":null,"text":"b=1\n"}]}}"#,
-        "-",
+        NO_FAULT,
     ),
     (FORMAT, NOT_KNOWN),
     // a document that was not opened has the text to which it changes
     (
         r#"{"method":"textDocument/didChange","params":{"textDocument":{"uri":"a"},"contentChanges":[{"range":1,"text":"b"},{"text":"a=1\n"}]}}"#,
-        "-",
+        NO_FAULT,
     ),
     (FORMAT, ONE_EDIT),
     // no changes
     (
         r#"{"method":"textDocument/didChange","params":{"textDocument":{"uri":"a"},"contentChanges":[]}}"#,
-        "-",
+        NO_FAULT,
     ),
     (FORMAT, NOT_KNOWN),
-    (OPEN, "-"),
+    (OPEN, NO_FAULT),
     (
         r#"{"method":"textDocument/didChange","params":{"textDocument":{"uri":"a"}}}"#,
-        "-",
+        NO_FAULT,
     ),
     (FORMAT, NOT_KNOWN),
     // an opened document without a text
-    (OPEN, "-"),
+    (OPEN, NO_FAULT),
     (
         r#"{"method":"textDocument/didOpen","params":{"textDocument":{"uri":"a"}}}"#,
-        "-",
+        NO_FAULT,
     ),
     (FORMAT, NOT_KNOWN),
     // a body that is no JSON
-    (OPEN, "-"),
+    (OPEN, NO_FAULT),
     (FORMAT, ONE_EDIT),
     ("{\"method\":", NO_JSON),
     (FORMAT, NOT_KNOWN),
     // what has no effect on a text
-    (OPEN, "-"),
+    (OPEN, NO_FAULT),
     ("[]", NO_REQUEST),
     (
         r#"{"method":"textDocument/didSave","params":{"textDocument":{"uri":"a","text":"b\n"}}}"#,
@@ -255,7 +258,7 @@ static DOCUMENTS: [Said; 34] = [
     // a document that is closed
     (
         r#"{"method":"textDocument/didClose","params":{"textDocument":{"uri":"a"}}}"#,
-        "-",
+        NO_FAULT,
     ),
     (FORMAT, NOT_KNOWN),
 ];
@@ -263,7 +266,7 @@ static DOCUMENTS: [Said; 34] = [
 /// A request that names no document.
 static NAMELESS: [Said; 4] = [
     BEGIN,
-    (OPEN, "-"),
+    (OPEN, NO_FAULT),
     (
         r#"{"id":"f","method":"textDocument/formatting","params":{}}"#,
         r#"{"jsonrpc":"2.0","id":"f","error":{"code":-32602,"message":"no document is named"}}"#,
@@ -277,7 +280,7 @@ static NAMELESS: [Said; 4] = [
 /// A text with two runs of lines that differ. Its last line has no LF.
 const RUNS: Said = (
     "{\"method\":\"textDocument/didOpen\",\"params\":{\"textDocument\":{\"uri\":\"a\",\"text\":\"a=1\\r\\n\\r\\nb = 2 # \u{1f600}\\nc  = 3 # \\ud83d\\ude00\"}}}",
-    "-",
+    NO_FAULT,
 );
 
 static RUNS_IN_UTF16: [Said; 3] = [
@@ -341,7 +344,7 @@ fn a_large_document(rt: HostRuntime) {
         BEGIN.0.as_bytes(),
         BEGIN.1.as_bytes(),
     );
-    says(&rt, alloc, &mut session, &open, b"-");
+    says(&rt, alloc, &mut session, &open, NO_FAULT.as_bytes());
     says(&rt, alloc, &mut session, FORMAT.as_bytes(), &wanted);
 }
 

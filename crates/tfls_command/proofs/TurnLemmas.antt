@@ -23,16 +23,16 @@ module _ (left : Option (List ℕ)) (read_failed : Bool) (waiting bytes body res
   by_end turns.Quiet failed end steps e =
       subst (λ o. TakenBy o left read_failed failed waiting bytes rest [] s t) (sym e.0)
       (record { body = body; begins = begins; goes = λ bodies more last runs. (t, turns.Quiet, steps, runs) })
-  by_end (turns.Reply reply) false end steps e =
+  by_end (turns.Say reply) false end steps e =
       subst (λ o. TakenBy o left read_failed false waiting bytes rest (frame reply.items) s t) (sym e)
-      (record { body = body; begins = begins; goes = λ bodies more last runs. (t, turns.Reply reply, steps, (more, refl, runs)) })
-  by_end (turns.Reply reply) true end steps e =
+      (record { body = body; begins = begins; goes = λ bodies more last runs. (t, turns.Say reply, steps, (more, refl, runs)) })
+  by_end (turns.Say reply) true end steps e =
       subst (λ o. TakenBy o left read_failed true waiting bytes rest (frame reply.items) s t) (sym e)
       (record {
         bodies = body ∷ [];
         last = rest;
         messages = one_taken;
-        runs = (t, turns.Reply reply, steps, ([], sym (append-nil (frame reply.items)), (refl, tt)));
+        runs = (t, turns.Say reply, steps, ([], sym (append-nil (frame reply.items)), (refl, tt)));
         ended = refl;
       })
   by_end (turns.End status) failed end steps e =
@@ -70,6 +70,6 @@ IsSomeEnding (Some end) = Unit {0}
 
 pub goes_out : (turn : Turn) (failed : Bool) (end : Option Ending) → EndsTurn turn failed end → end ≡ None → failed ≡ false
 goes_out turns.Quiet failed end e n = e.1
-goes_out (turns.Reply reply) false end e n = refl
-goes_out (turns.Reply reply) true end e n = absurd (subst IsSomeEnding (sym e ∙ n) tt)
+goes_out (turns.Say reply) false end e n = refl
+goes_out (turns.Say reply) true end e n = absurd (subst IsSomeEnding (sym e ∙ n) tt)
 goes_out (turns.End status) failed end e n = absurd (subst IsSomeEnding (sym e ∙ n) tt)

@@ -27,7 +27,7 @@ IsUnasked ending.OutOfMemory = Unit {0}
 -- what a message leads to, and then the messages after it
 abbrev pub LeadsOn : Turn → (List ℕ → Ending → Type 0) → List (List ℕ) → List ℕ → Ending → Type 0
 LeadsOn turn.Quiet rest bodies out end = rest out end
-LeadsOn (turn.Reply body) rest bodies out end =
+LeadsOn (turn.Say body) rest bodies out end =
     (more : List ℕ) × (out ≡ frame body.items ++ more) × rest more end
 LeadsOn (turn.End status) rest bodies out end =
     (bodies ≡ []) × (out ≡ []) × (end ≡ ending.Exit status)

@@ -20,7 +20,7 @@ fn send<O: ByteSink>(out: &mut O, turn: Turn) -> Option<Ending>
     match turn {
         Turn::Quiet => None,
         Turn::End(status) => Some(Ending::Exit(status)),
-        Turn::Reply(body) => match write_frame(out, body.as_slice()) {
+        Turn::Say(body) => match write_frame(out, body.as_slice()) {
             Ok(()) => None,
             Err(_) => Some(Ending::WriteFailed),
         },

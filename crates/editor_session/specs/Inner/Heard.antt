@@ -1,11 +1,10 @@
--- The text of a document is taken in, or is not known since memory ran out for it.
-use Rattle.std.specs.Prelude.{◌⊎◌, ℕ, List, Option, None}
-use Rattle.editor_messages.specs.Messages.{Text}
-use Rattle.editor_session.specs.Sessions.{IsSame, Session, after_notification, with_text}
+-- A message that tells of a document, and what becomes of its text.
+use Rattle.std.specs.Prelude.{◌≡◌, ℕ, List, Option, Vec}
+use Rattle.json_parts.specs.Values.{json_text}
+use Rattle.editor_messages.specs.Diagnostics.{Diagnostic, diagnostics_json}
+use Rattle.text_places.specs.declared.place.Units.{Units}
+use Rattle.editor_session.specs.Told.{AreDiagnostics}
 
-abbrev pub IsTaken : List ℕ → Option (List ℕ) → Session → Session → Type 0
-IsTaken uri text before after = IsSame (with_text uri text before) after ⊎ IsSame (with_text uri None before) after
-
-abbrev pub IsHeardText : List ℕ → Option (List ℕ) → Session → Session → Type 0
-IsHeardText uri text before after =
-    IsSame (after_notification before (Text uri text)) after ⊎ IsSame (after_notification before (Text uri None)) after
+-- a message that tells the diagnostics of a document with this text
+abbrev pub IsTold : {Y : Type 0} → Units → List ℕ → Option (List ℕ) → Vec ℕ Y → Type 0
+IsTold units uri text message = (ds : List Diagnostic) × AreDiagnostics units text ds × (message.items ≡ json_text (diagnostics_json uri ds))

@@ -14,14 +14,14 @@ use Rattle.tfls_command.specs.declared.ending.Ending.TheVariants as ending
 -- what goes out for a turn
 abbrev pub turn_text : Turn → List ℕ
 turn_text turn.Quiet = []
-turn_text (turn.Reply body) = frame body.items
+turn_text (turn.Say body) = frame body.items
 turn_text (turn.End status) = []
 
 -- how the run ends with a turn, if it does, by whether a write failed
 abbrev pub EndsTurn : Turn → Bool → Option Ending → Type 0
 EndsTurn turn.Quiet failed end = (end ≡ None) × (failed ≡ false)
-EndsTurn (turn.Reply body) false end = end ≡ None
-EndsTurn (turn.Reply body) true end = end ≡ Some ending.WriteFailed
+EndsTurn (turn.Say body) false end = end ≡ None
+EndsTurn (turn.Say body) true end = end ≡ Some ending.WriteFailed
 EndsTurn (turn.End status) failed end = end ≡ Some (ending.Exit status)
 
 abbrev pub IsSent : Turn → Writer → Option Ending → Type 0
