@@ -8,4 +8,3 @@ pub mod laws;
 mod mark;
 
 pub use fault::{MarkedFault, fault_of};
-pub use mark::marked_range;
