@@ -1,3 +1,4 @@
+pub mod ColumnLemmas
 pub mod FaultLemmas
 pub mod FrontClusterLemmas
 pub mod LineStartLemmas

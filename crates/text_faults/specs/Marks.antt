@@ -31,3 +31,8 @@ marked_range units text at = record {
   start = place_at units text (marked_from text at);
   end = place_at units text (marked_to text at);
 }
+
+-- a text in which places are marked, and the units in which an editor counts
+pub record MarkedText : Type 0 where
+  pub units : Units
+  pub text : List ℕ

@@ -3,8 +3,10 @@
 //! The module [`laws`] has a law of the definitions alone.
 #![tactic(auto)]
 
+mod columns;
 mod fault;
 pub mod laws;
 mod mark;
 
 pub use fault::{MarkedFault, fault_of};
+pub use mark::Marker;

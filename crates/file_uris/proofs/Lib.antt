@@ -1,0 +1,2 @@
+pub mod EncodeLemmas
+pub mod UriLemmas

@@ -1,0 +1,92 @@
+//! The documents that are open.
+
+ghost use Rattle.std.specs.Prelude.{◌≡◌, ◌++◌, [], OnErr, OnOk, option_map};
+ghost use Rattle.open_files.specs.OpenTexts.{open_names, text_of, text_open, uri_open, with_open_text, without};
+
+use crate::document::{OpenFile, add_names, open_file, text_of, text_open, uri_open};
+use std::alloc::{AllocError, Global};
+use std::marker::Model;
+
+/// The documents that are open, the newest first.
+#[derive(Drop)]
+pub struct Documents {
+    files: Vec<OpenFile>,
+}
+
+impl Model for Documents {
+    ghost use Rattle.std.specs.Prelude.{List};
+    ghost use Rattle.open_files.specs.OpenTexts.{OpenText};
+    ghost use Rattle.open_files.specs.Views.{open_seen};
+
+    ghost Value = { List OpenText };
+
+    ghost view = { λ d. open_seen d.files.items };
+}
+
+impl Documents {
+    /// None.
+    pub fn new(alloc: Global) -> Documents
+        ensures { result ≡ [] }
+    {
+        Documents {
+            files: Vec::new(alloc),
+        }
+    }
+
+    /// The text of the document that has this URI, if it is open.
+    pub fn text(&self, uri: &str) -> Option<&str>
+        ensures { option_map (λ text. text.now) result ≡ text_of self.now uri.now }
+    {
+        text_of(self.files.as_slice(), uri)
+    }
+
+    /// The text that is open for the file of a path.
+    pub(crate) fn text_at(&self, path: &[u8]) -> Option<&str>
+        ensures { option_map (λ text. text.now) result ≡ text_open self.now path.now }
+    {
+        text_open(self.files.as_slice(), path)
+    }
+
+    /// The URI of the document that is open for the file of a path.
+    pub fn uri_at(&self, path: &[u8]) -> Option<&str>
+        ensures { option_map (λ uri. uri.now) result ≡ uri_open self.now path.now }
+    {
+        uri_open(self.files.as_slice(), path)
+    }
+
+    /// Opens the document of a URI with this text, in place of any text that it has. An error means that memory ran
+    /// out: the document isn't open any more.
+    pub fn set(&mut self, alloc: Global, uri: &str, text: &str) -> Result<(), AllocError>
+        ensures ok { OnOk result (self.new ≡ with_open_text uri.now text.now self.old) }
+        ensures err { OnErr result (self.new ≡ without uri.now self.old) }
+    {
+        self.remove(uri);
+        let file = open_file(alloc, uri, text)?;
+        match self.files.insert(0, file) {
+            Ok(()) => Ok(()),
+            Err(_) => Err(AllocError),
+        }
+    }
+
+    /// Closes the document of a URI, if it is open.
+    pub fn remove(&mut self, uri: &str)
+        ensures { self.new ≡ without uri.now self.old }
+    {
+        self.files.retain(|file| *uri != *file.uri.as_str());
+    }
+
+    /// Closes all documents.
+    pub fn clear(&mut self)
+        ensures { self.new ≡ [] }
+    {
+        self.files.clear();
+    }
+
+    /// Adds the names that the documents have in a folder.
+    pub(crate) fn add_names(&self, names: &mut Vec<u8>, folder: &[u8]) -> Result<(), AllocError>
+        ensures { OnOk result
+            (names.new.items ≡ names.old.items ++ open_names folder.now self.now) }
+    {
+        add_names(names, folder, self.files.as_slice())
+    }
+}

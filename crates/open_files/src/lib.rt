@@ -1,0 +1,14 @@
+//! A tree with the texts of open documents over its files.
+#![tactic(auto)]
+
+mod disk;
+mod document;
+mod documents;
+mod reader;
+mod tree;
+
+pub use disk::Disk;
+pub use document::OpenFile;
+pub use documents::Documents;
+pub use reader::OpenReader;
+pub use tree::OpenFiles;
