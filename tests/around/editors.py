@@ -535,6 +535,8 @@ def run_flymake(group):
 
 # A text with characters of two units of UTF-16 and several runs of lines.
 SERVED = 'a=1 # \U0001F600\n\nb   {\n  c = 2\n  # x\n d=  "\U0001F600é"\n}\n'.encode()
+# A text that uses a variable.
+OUTPUT = b'output "o" {\n  value = var.y\n}\n'
 SERVED_LUA = """
 vim.g.tfls_program = "PROGRAM"
 vim.cmd("source PLUGIN")
@@ -546,7 +548,7 @@ vim.fn.append(1, "TYPED")
 vim.cmd("silent write")
 vim.fn.writefile(vim.fn.getline(1, "$"), "buffer")
 local clients = vim.lsp.get_active_clients()
-vim.wait(WAIT, function() return #vim.diagnostic.get(0) > 0 end, 20)
+vim.wait(WAIT, function() return #vim.diagnostic.get(0) >= COUNT end, 20)
 local shown = vim.tbl_map(function(it)
   return table.concat({ it.lnum, it.col, it.end_lnum, it.end_col, it.severity, it.source, it.message }, " ")
 end, vim.diagnostic.get(0))
@@ -596,7 +598,7 @@ def run_settings(group):
 
 def run_nvim_server(group):
     """Neovim's client, with the language server."""
-    if not has_server(group, 36) or not group.has('nvim', checks=36):
+    if not has_server(group, 39) or not group.has('nvim', checks=39):
         return
 
     def edit(name, text, typed='n=1', program=None, diagnostics=b''):
@@ -606,6 +608,7 @@ def run_nvim_server(group):
         script = SERVED_LUA.replace('PROGRAM', str(program or noting(group))).replace('TYPED', typed)
         script = script.replace('PLUGIN', str(group.contrib / 'editors' / 'tfls.lua')).replace('NAME', name)
         script = script.replace('WAIT', '20000' if diagnostics else '50')
+        script = script.replace('COUNT', str(max(1, diagnostics.count(b'\n'))))
         (here / 'test.lua').write_text(script)
         done = group.call('nvim', '-u', 'NONE', '-i', 'NONE', '--headless', '-c', 'luafile test.lua', cwd=here)
         if not (here / 'clients').exists():
@@ -629,6 +632,9 @@ def run_nvim_server(group):
     group.check('a refused text', refused[1:], (b'n=\nn=\n' + OTHER, '1', '0', ''))
     marked = edit('a.tf', OTHER, '/*\U0001F600*/ n=]', diagnostics=b'0 11 0 12 1 tfls unexpected token\n')
     group.check('a refused text with a mark', marked[2:], ('1', '0', ''))
+    issues = b'0 0 0 1 2 tfls variable "y" has no type\n' + b'1 0 1 1 2 tfls variable "y" has no type\n'
+    linted = edit('a.tf', OUTPUT, 'variable \\"y\\" {}', diagnostics=issues)
+    group.check('a text with issues', linted[2:], ('1', '0', ''))
     group.check('another file', edit('a.txt', OTHER)[1:], (b'n=1\nn=1\n' + OTHER, '0', '', ''))
     shown = edit('a.tf', OTHER, program='no-such-program')
     group.check('without the program', shown[1:], (b'n=1\nn=1\n' + OTHER, '0', '', 'no-such-program: not found'))

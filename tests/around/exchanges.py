@@ -25,8 +25,8 @@ from protocol import (
 
 TOP = pathlib.Path(__file__).resolve().parent.parent.parent
 VERSION = (TOP / 'VERSION').read_text().strip()
-KNOWN, TEXT, PRINTED = 'file:///known.tf', 'a=1\n', 'a = 1\n'
-OTHER = 'file:///other.tf'
+KNOWN, TEXT, PRINTED = 'file:///no/folder/known.tf', 'a=1\n', 'a = 1\n'
+OTHER = 'file:///no/folder/other.tf'
 LARGEST = 4_194_304
 MAX_HEAD, MAX_BODY = 4096, 67_108_864
 
@@ -304,7 +304,7 @@ def documents():
     ask, told = formatting(1, OTHER), edits('1', FORMATTED)
     unknown = [unknown_text('1')]
     yield 'formatting an unknown document', [ask], unknown
-    yield 'formatting a URI that is nearly the known one', [formatting(1, 'file:///known%2Etf')], unknown
+    yield 'formatting a URI that is nearly the known one', [formatting(1, 'file:///no/folder/known%2Etf')], unknown
     for params in (b'', b',"params":null', b',"params":[]', b',"params":{}', b',"params":{"textDocument":null}'):
         yield 'formatting with%s' % (params.decode() or 'out parameters'), [
             b'{"id":1,"method":"textDocument/formatting"%s}' % params

@@ -173,6 +173,21 @@ class Client:
             params = json.loads(body)['params']
             self.told[params['uri']] = params['diagnostics']
 
+    def heard_by_now(self):
+        """(URI, diagnostics) of each message that was told since the last answer."""
+        self.number += 1
+        self.send(request(self.number, 'no/such/method'))
+        found = []
+        while True:
+            body = self.receive()
+            if body is None or not is_told(body):
+                break
+            params = json.loads(body)['params']
+            found.append((params['uri'], params['diagnostics']))
+        if body is None or json.loads(body).get('id') != self.number:
+            raise Fault('answered by %r' % (body if body is None else body[:200]))
+        return found
+
     def ask(self, make, *words):
         """The result of a request, which `make` makes of its number and these words."""
         self.number += 1

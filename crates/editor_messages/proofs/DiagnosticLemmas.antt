@@ -2,11 +2,14 @@
 use Rattle.std.proofs.Common.{◌≡◌, ◌∙◌, ◌+◌, ◌<◌, ◌++◌, ◌∷◌, [], ℕ, List, ap, append-nil, append_assoc, get_or, length, map, sym, take}
 use Rattle.std.proofs.lemmas.List.{map-append, take_more}
 use Rattle.std.proofs.lemmas.List.Concat.{flat_map-append}
-use Rattle.json.specs.Token.{end_array, end_object}
+use Rattle.std.specs.Prelude.{Option, Some, None, codes}
+use Rattle.json.specs.Token.{end_array, end_object, key, string}
+use Rattle.line_edits.specs.declared.ranges.Range.{Range}
+use Rattle.rule_set.specs.declared.rule.Rule.{Rule}
 use Rattle.json.specs.Tree.{items_tokens, json_tokens}
 use Rattle.json_parts.specs.Values.{json_items}
-use Rattle.editor_messages.specs.Diagnostics.{Diagnostic as SpecDiagnostic, diagnostic_json, diagnostics_json}
-use Rattle.editor_messages.specs.Inner.Heads.{diagnostics_head, diagnostics_tokens}
+use Rattle.editor_messages.specs.Diagnostics.{Diagnostic as SpecDiagnostic, diagnostic_json, diagnostics_json, severity_by}
+use Rattle.editor_messages.specs.Inner.Heads.{diagnostics_head, diagnostics_tokens, front_tokens, rule_tokens}
 use Rattle.editor_messages.specs.Views.{diagnostic_seen}
 use Rattle.editor_messages.specs.declared.diagnostic.Diagnostic.{Diagnostic}
 use Rattle.editor_messages.proofs.EditTokenLemmas.{array_tokens}
@@ -32,3 +35,9 @@ message_tokens uri ds =
     ∙ ap (λ l. diagnostics_head uri ++ l)
     (sym (append_assoc (diagnostics_tokens ds) (end_array ∷ []) (end_object ∷ ends)) ∙ ap (λ l. l ++ end_object ∷ ends) (sym (array_tokens diagnostic_json ds))
     ∙ sym (append_assoc (items_tokens (json_items (map diagnostic_json ds))) ends ends))
+
+pub one_diagnostic : (range : Range) (rule : Option Rule) (text : List ℕ) (severity : ℕ) → severity ≡ severity_by rule
+    → (front_tokens range severity ++ rule_tokens rule) ++ (key (codes "source") ∷ string (codes "tfls") ∷ key (codes "message") ∷ string text ∷ end_object ∷ [])
+    ≡ json_tokens (diagnostic_json (record { range = range; rule = rule; text = text }))
+one_diagnostic range None text severity e = ap (λ n. (front_tokens range n ++ []) ++ (key (codes "source") ∷ string (codes "tfls") ∷ key (codes "message") ∷ string text ∷ end_object ∷ [])) e
+one_diagnostic range (Some rule) text severity e = ap (λ n. (front_tokens range n ++ rule_tokens (Some rule)) ++ (key (codes "source") ∷ string (codes "tfls") ∷ key (codes "message") ∷ string text ∷ end_object ∷ [])) e

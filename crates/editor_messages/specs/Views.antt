@@ -43,7 +43,7 @@ message_seen (message.Asks id request) = spec.Asks (id_seen id) (request_seen re
 message_seen (message.Tells notification) = spec.Tells (notification_seen notification)
 
 abbrev pub diagnostic_seen : DiagnosticOf → Diagnostic
-diagnostic_seen d = record { range = d.range; text = d.text.now }
+diagnostic_seen d = record { range = d.range; rule = d.rule; text = d.text.now }
 
 -- the number in an id is one
 abbrev pub HasNumber : MessageOf → Type 0

@@ -1,3 +1,3 @@
+pub mod ForgetLemmas
 pub mod FormatLemmas
 pub mod ReplyLemmas
-pub mod TextLemmas

@@ -3,6 +3,7 @@ use Rattle.std.specs.Prelude.{◌≡◌, ℕ, List, [], Option, Some, None, Resu
 use Rattle.json.specs.Json.{Json, null}
 use Rattle.line_edits.specs.Edits.{Edit, line_edits}
 use Rattle.line_edits.specs.PlacedEdits.{placed_edits}
+use Rattle.open_files.specs.OpenTexts.{text_of}
 use Rattle.text_format.specs.Format.{HasFormat}
 use Rattle.text_places.specs.declared.place.Units.{Units}
 use Rattle.editor_messages.specs.Messages.{Request, Initialize, Shutdown, Formatting, Unknown}
@@ -39,7 +40,8 @@ abbrev pub IsOpenAnswer : Session → Request → Result Json ReplyError → Typ
 IsOpenAnswer s (Initialize units) answer = answer ≡ Err error.InitializedAlready
 IsOpenAnswer s Shutdown answer = answer ≡ Ok null
 IsOpenAnswer s (Formatting None) answer = answer ≡ Err error.NoDocument
-IsOpenAnswer s (Formatting (Some uri)) answer = IsFormatting s.units (s.text uri) answer
+IsOpenAnswer s (Formatting (Some uri)) answer =
+    IsFormatting s.units (text_of s.documents uri) answer
 IsOpenAnswer s Unknown answer = answer ≡ Err error.UnknownMethod
 
 abbrev pub IsAnswerIn : Session → Request → Result Json ReplyError → Phase → Type 0

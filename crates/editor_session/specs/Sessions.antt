@@ -1,7 +1,7 @@
 -- THE SESSION of an editor with the server, and what a message makes of it (Language Server Protocol 3.17, "Server
 -- lifecycle" and "Text Document Synchronization").
-use Rattle.std.specs.Prelude.{◌≡◌, ℕ, List, Option, None, if◌then◌else◌}
-use Rattle.std.specs.Str.{bytes_eq}
+use Rattle.std.specs.Prelude.{ℕ, List, [], Option, Some, None}
+use Rattle.open_files.specs.OpenTexts.{OpenText, with_open_text, without}
 use Rattle.text_places.specs.declared.place.Units.{Units}
 use Rattle.text_places.specs.declared.place.Units.TheVariants.{Utf16}
 use Rattle.editor_messages.specs.Messages.{Notification, Request, Initialize, Shutdown, Formatting, Unknown, Text, Close, Exit, Other}
@@ -12,29 +12,23 @@ pub record Session : Type 0 where
   pub phase : Phase
   -- in which places are counted
   pub units : Units
-  -- the text of the document that has a URI, if it is known
-  pub text : List ℕ → Option (List ℕ)
+  -- the documents whose texts are known, the newest first
+  pub documents : List OpenText
 
 -- before the first message
 abbrev pub new_session : Session
-new_session = record { phase = phase.Fresh; units = Utf16; text = λ uri. None }
-
--- two sessions in which the same is known
-pub record IsSame (s t : Session) : Type 0 where
-  pub phase : s.phase ≡ t.phase
-  pub units : s.units ≡ t.units
-  pub text : (uri : List ℕ) → s.text uri ≡ t.text uri
+new_session = record { phase = phase.Fresh; units = Utf16; documents = [] }
 
 -- ---- texts
 
 -- the document that has this URI has this text now, or one that is not known
 abbrev pub with_text : List ℕ → Option (List ℕ) → Session → Session
-with_text uri text s =
-    record s { text = λ other. if bytes_eq uri other then text else s.text other }
+with_text uri (Some text) s = record s { documents = with_open_text uri text s.documents }
+with_text uri None s = record s { documents = without uri s.documents }
 
 -- no text is known any more
 abbrev pub without_texts : Session → Session
-without_texts s = record s { text = λ uri. None }
+without_texts s = record s { documents = [] }
 
 -- ---- requests
 

@@ -11,6 +11,7 @@ ghost use Rattle.editor_messages.specs.Messages.{Formatting};
 ghost use Rattle.editor_session.specs.Answers.{IsAnswer, IsFormatting, IsFreshAnswer, IsOpenAnswer};
 ghost use Rattle.editor_session.specs.Inner.Replied.{Replied};
 ghost use Rattle.editor_session.specs.Views.{session_seen};
+ghost use Rattle.open_files.specs.OpenTexts.{text_of};
 
 use crate::phase::Phase;
 use crate::session::Session;
@@ -74,7 +75,7 @@ impl Session {
         requires { HasNumbers (id_seen id) }
         ensures { IfOk result
             (Replied (IsFormatting (session_seen self.now).units
-            ((session_seen self.now).text uri.now)) (id_seen id.entry)) }
+            (text_of (session_seen self.now).documents uri.now)) (id_seen id.entry)) }
     {
         match self.text(uri) {
             Some(text) => format_reply(alloc, id, self.units, text),

@@ -1,13 +1,15 @@
 //! What is known of an editor and its documents.
 
 ghost use Rattle.std.specs.Prelude.{◌≡◌, Some, None, OnErr, OnOk, option_map};
-ghost use Rattle.editor_session.specs.Sessions.{IsSame, new_session, with_text, without_texts};
+ghost use Rattle.editor_session.specs.Sessions.{new_session, with_text, without_texts};
 ghost use Rattle.editor_session.specs.Views.{session_seen};
+ghost use Rattle.open_files.specs.OpenTexts.{text_of};
 
 use crate::phase::Phase;
+use open_files::Documents;
 use std::alloc::{AllocError, Global};
-use std::collections::BTreeMap;
 use text_places::Units;
+use tf_rules::Hashing;
 
 /// What is known of an editor and its documents.
 #[derive(Drop)]
@@ -15,60 +17,54 @@ pub struct Session {
     pub(crate) phase: Phase,
     /// In which places are counted.
     pub(crate) units: Units,
-    /// The known texts, by the URIs of their documents.
-    pub(crate) texts: BTreeMap<String, String>,
+    /// How names in files are hashed.
+    pub(crate) hashing: Hashing,
+    /// The documents whose texts are known.
+    pub(crate) documents: Documents,
 }
 
 impl Session {
-    /// The session before the first message.
-    pub fn new(alloc: Global) -> Session
-        ensures { IsSame new_session (session_seen result) }
+    /// The session before the first message. Names in files are hashed as `hashing` says.
+    pub fn new(alloc: Global, hashing: Hashing) -> Session
+        ensures { session_seen result ≡ new_session }
     {
         Session {
             phase: Phase::Fresh,
             units: Units::Utf16,
-            texts: BTreeMap::new(alloc),
+            hashing,
+            documents: Documents::new(alloc),
         }
     }
 
     /// The text of the document that has this URI, if it is known.
     pub(crate) fn text(&self, uri: &str) -> Option<&str>
-        ensures { option_map (λ s. s.now) result ≡ (session_seen self.now).text uri.now }
+        ensures { option_map (λ s. s.now) result
+            ≡ text_of (session_seen self.now).documents uri.now }
     {
-        match self.texts.get(uri) {
-            Some(text) => Some(text.as_str()),
-            None => None,
-        }
+        self.documents.text(uri)
     }
 
     /// Forgets all texts.
     pub(crate) fn forget_texts(&mut self)
-        ensures { IsSame (without_texts (session_seen self.old)) (session_seen self.new) }
+        ensures { session_seen self.new ≡ without_texts (session_seen self.old) }
     {
-        self.texts.clear();
+        self.documents.clear();
     }
 
     /// Forgets the text of the document that has this URI.
     pub(crate) fn forget(&mut self, uri: &str)
-        ensures { IsSame (with_text uri.now None (session_seen self.old)) (session_seen self.new) }
+        ensures { session_seen self.new ≡ with_text uri.now None (session_seen self.old) }
     {
-        let _ = self.texts.remove(uri);
+        self.documents.remove(uri);
     }
 
     /// Keeps the text of the document that has this URI. If memory runs out, its text is not known.
     pub(crate) fn keep(&mut self, alloc: Global, uri: &str, text: &str) -> Result<(), AllocError>
         ensures kept { OnOk result
-            (IsSame (with_text uri.now (Some text.now) (session_seen self.old))
-            (session_seen self.new)) }
+            (session_seen self.new ≡ with_text uri.now (Some text.now) (session_seen self.old)) }
         ensures forgotten { OnErr result
-            (IsSame (with_text uri.now None (session_seen self.old)) (session_seen self.new)) }
+            (session_seen self.new ≡ with_text uri.now None (session_seen self.old)) }
     {
-        self.forget(uri);
-        let uri = String::from_str(alloc, uri)?;
-        let text = String::from_str(alloc, text)?;
-        match self.texts.insert(uri, text) {
-            Ok(_) => Ok(()),
-            Err(_) => Err(AllocError),
-        }
+        self.documents.set(alloc, uri, text)
     }
 }

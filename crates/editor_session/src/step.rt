@@ -1,22 +1,25 @@
 //! One message of an editor.
 
-ghost use Rattle.std.specs.Prelude.{◌≡◌, IfOk, None, OnErr, OnOk};
+ghost use Rattle.std.specs.Prelude.{◌≡◌, IfOk, None, OnErr, OnOk, Some};
 ghost use Rattle.json.specs.Json.{null};
 ghost use Rattle.editor_messages.specs.Replies.{error_json};
 ghost use Rattle.editor_messages.specs.Views.{HasNumber, id_seen, message_seen, notification_seen, request_seen, text_seen};
-ghost use Rattle.editor_messages.specs.Messages.{Asks, Tells, Text};
+ghost use Rattle.editor_messages.specs.Messages.{Asks, Close, Tells, Text};
 ghost use Rattle.json.specs.Tree.{HasNumbers};
-ghost use Rattle.editor_session.specs.Sessions.{IsSame, after_request, exit_status, with_text, without_texts};
+ghost use Rattle.editor_session.specs.Sessions.{after_request, exit_status, with_text, without_texts};
 ghost use Rattle.editor_session.specs.Steps.{IsStepOrShort, Says, Steps};
-ghost use Rattle.editor_session.specs.Inner.Heard.{IsTold};
+ghost use Rattle.editor_session.specs.Inner.Heard.{TellsThose};
+ghost use Rattle.editor_session.specs.Told.{AreTold};
+ghost use Rattle.file_tree.specs.Files.{Files};
 ghost use Rattle.editor_session.specs.Views.{session_seen};
 
 use crate::phase::Phase;
 use crate::session::Session;
-use crate::told::{text_message, withdrawal};
+use crate::told::{closed_messages, lost_messages, text_messages};
 use crate::turn::Turn;
 use editor_messages::{Id, Message, Notification, ReplyError, Request, error_reply, message_of};
 use json::{Error, Scratch, Value};
+use open_files::Disk;
 use std::alloc::{AllocError, Global};
 
 /// The turn that says this error.
@@ -40,8 +43,8 @@ fn exit_status(phase: Phase) -> u8
 impl Session {
     /// Goes on after a request.
     fn go_on(&mut self, request: Request<'_>)
-        ensures { IsSame (after_request (session_seen self.old) (request_seen request.entry))
-            (session_seen self.new) }
+        ensures { session_seen self.new
+            ≡ after_request (session_seen self.old) (request_seen request.entry) }
     {
         match (self.phase, request) {
             (Phase::Fresh, Request::Initialize(units)) => {
@@ -61,7 +64,8 @@ impl Session {
         request: Request<'_>,
     ) -> Result<Turn, AllocError>
         requires { HasNumbers (id_seen id) }
-        ensures { IfOk result (IsStepOrShort (Asks (id_seen id.entry) (request_seen request.entry))
+        ensures { (disk : Files) → IfOk result (IsStepOrShort disk
+            (Asks (id_seen id.entry) (request_seen request.entry))
             (session_seen self.old) (session_seen self.new)) }
     {
         let Ok(reply) = self.reply(alloc, id, request) else {
@@ -71,89 +75,144 @@ impl Session {
         Ok(Turn::Say(reply))
     }
 
-    /// Takes in the text of a document, or that it is not known, and returns the message about it. If memory runs out, the
-    /// text is not known.
-    fn take_text(
+    /// Takes in the text of a document, and returns the messages that it leads to. If memory runs out, the text is not
+    /// known.
+    fn take_text<D: Disk>(
         &mut self,
         alloc: Global,
+        disk: &D,
         uri: &str,
-        text: Option<&str>,
-    ) -> Result<Vec<u8>, AllocError>
+        text: &str,
+    ) -> Result<Vec<Vec<u8>>, AllocError>
         ensures taken { OnOk result
-            (IsSame (with_text uri.now (text_seen text.entry) (session_seen self.old))
-            (session_seen self.new)) }
+            (session_seen self.new ≡ with_text uri.now (Some text.now) (session_seen self.old)) }
         ensures forgotten { OnErr result
-            (IsSame (with_text uri.now None (session_seen self.old)) (session_seen self.new)) }
-        ensures told { IfOk result
-            (IsTold (session_seen self.old).units uri.now (text_seen text.entry)) }
+            (session_seen self.new ≡ with_text uri.now None (session_seen self.old)) }
+        ensures told { IfOk result (TellsThose
+            (AreTold (session_seen self.new) (D.files disk.now) uri.now (Some text.now))) }
     {
-        self.forget(uri);
-        let Some(text) = text else {
-            return withdrawal(alloc, uri);
-        };
-        let message = text_message(alloc, self.units, uri, text)?;
         self.keep(alloc, uri, text)?;
-        Ok(message)
+        match text_messages(alloc, self, disk, uri, text) {
+            Ok(messages) => Ok(messages),
+            Err(error) => {
+                self.forget(uri);
+                Err(error)
+            }
+        }
     }
 
-    /// Takes in what a document's text is, if the editor has begun. That of a closed document is not known.
-    fn hear_text(&mut self, alloc: Global, uri: &str, text: Option<&str>) -> Turn
-        ensures { IsStepOrShort (Tells (Text uri.now (text_seen text.entry)))
+    /// Takes in what a document's text is, or that it is not known, and returns the messages that this leads to.
+    fn take_change<D: Disk>(
+        &mut self,
+        alloc: Global,
+        disk: &D,
+        uri: &str,
+        text: Option<&str>,
+    ) -> Result<Vec<Vec<u8>>, AllocError>
+        ensures taken { OnOk result (session_seen self.new
+            ≡ with_text uri.now (text_seen text.entry) (session_seen self.old)) }
+        ensures forgotten { OnErr result
+            (session_seen self.new ≡ with_text uri.now None (session_seen self.old)) }
+        ensures told { IfOk result (TellsThose (AreTold (session_seen self.new)
+            (D.files disk.now) uri.now (text_seen text.entry))) }
+    {
+        match text {
+            Some(text) => self.take_text(alloc, disk, uri, text),
+            None => {
+                self.forget(uri);
+                lost_messages(alloc, uri)
+            }
+        }
+    }
+
+    /// Takes in what a document's text is, if the editor has begun.
+    fn hear_text<D: Disk>(&mut self, alloc: Global, disk: &D, uri: &str, text: Option<&str>) -> Turn
+        ensures { IsStepOrShort (D.files disk.now) (Tells (Text uri.now (text_seen text.entry)))
             (session_seen self.old) (session_seen self.new) result }
     {
         match self.phase {
             Phase::Fresh => Turn::Quiet,
-            Phase::Open => match self.take_text(alloc, uri, text) {
-                Ok(message) => Turn::Say(message),
+            Phase::Open => match self.take_change(alloc, disk, uri, text) {
+                Ok(messages) => Turn::Publish(messages),
                 Err(_) => Turn::Quiet,
             },
             Phase::ShutDown => Turn::Quiet,
         }
     }
 
+    /// Takes in that a document is closed, if the editor has begun.
+    fn hear_close<D: Disk>(&mut self, alloc: Global, disk: &D, uri: &str) -> Turn
+        ensures { IsStepOrShort (D.files disk.now) (Tells (Close uri.now))
+            (session_seen self.old) (session_seen self.new) result }
+    {
+        match self.phase {
+            Phase::Fresh => Turn::Quiet,
+            Phase::Open => {
+                self.forget(uri);
+                match closed_messages(alloc, self, disk, uri) {
+                    Ok(messages) => Turn::Publish(messages),
+                    Err(_) => Turn::Quiet,
+                }
+            }
+            Phase::ShutDown => Turn::Quiet,
+        }
+    }
+
     /// Takes a notification in.
-    fn hear(&mut self, alloc: Global, notification: Notification<'_>) -> Turn
-        ensures { IsStepOrShort (Tells (notification_seen notification.entry))
+    fn hear<D: Disk>(&mut self, alloc: Global, disk: &D, notification: Notification<'_>) -> Turn
+        ensures { IsStepOrShort (D.files disk.now) (Tells (notification_seen notification.entry))
             (session_seen self.old) (session_seen self.new) result }
     {
         match notification {
-            Notification::Text(uri, text) => self.hear_text(alloc, uri, text),
-            Notification::Close(uri) => self.hear_text(alloc, uri, None),
+            Notification::Text(uri, text) => self.hear_text(alloc, disk, uri, text),
+            Notification::Close(uri) => self.hear_close(alloc, disk, uri),
             Notification::Exit => Turn::End(exit_status(self.phase)),
             Notification::Other => Turn::Quiet,
         }
     }
 
     /// Takes a message in.
-    fn take(&mut self, alloc: Global, message: Message<'_>) -> Result<Turn, AllocError>
+    fn take<D: Disk>(
+        &mut self,
+        alloc: Global,
+        disk: &D,
+        message: Message<'_>,
+    ) -> Result<Turn, AllocError>
         requires { HasNumber message }
-        ensures { IfOk result (IsStepOrShort (message_seen message.entry)
+        ensures { IfOk result (IsStepOrShort (D.files disk.now) (message_seen message.entry)
             (session_seen self.old) (session_seen self.new)) }
     {
         match message {
             Message::Invalid(id) => say_error(alloc, id, ReplyError::NotRequest),
             Message::Response => Ok(Turn::Quiet),
             Message::Asks(id, request) => self.answer(alloc, id, request),
-            Message::Tells(notification) => Ok(self.hear(alloc, notification)),
+            Message::Tells(notification) => Ok(self.hear(alloc, disk, notification)),
         }
     }
 
     /// Forgets all texts, since a body that could not be read may have been the change of one.
     fn lose_texts(&mut self, alloc: Global, error: ReplyError) -> Result<Turn, AllocError>
-        ensures same { IsSame (without_texts (session_seen self.old)) (session_seen self.new) }
+        ensures texts { session_seen self.new ≡ without_texts (session_seen self.old) }
         ensures says { IfOk result (Says (error_json null error)) }
     {
         self.forget_texts();
         say_error(alloc, Id::Null, error)
     }
 
-    /// Takes in a message with this body. An error means that there was no memory even for the answer that memory ran out.
-    pub fn step(&mut self, alloc: Global, body: &[u8]) -> Result<Turn, AllocError>
-        ensures { IfOk result (Steps body.now (session_seen self.old) (session_seen self.new)) }
+    /// Takes in a message with this body, with these files on the disk. An error means that there was no memory even for
+    /// the answer that memory ran out.
+    pub fn step<D: Disk>(
+        &mut self,
+        alloc: Global,
+        disk: &D,
+        body: &[u8],
+    ) -> Result<Turn, AllocError>
+        ensures { IfOk result (Steps (D.files disk.now) body.now
+            (session_seen self.old) (session_seen self.new)) }
     {
         let mut scratch = Scratch::new(alloc);
         match Value::from_slice(alloc, body, &mut scratch) {
-            Ok(value) => self.take(alloc, message_of(&value)),
+            Ok(value) => self.take(alloc, disk, message_of(&value)),
             Err(Error::OutOfMemory) => self.lose_texts(alloc, ReplyError::OutOfMemory),
             Err(_) => self.lose_texts(alloc, ReplyError::NotJson),
         }

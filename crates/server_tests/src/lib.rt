@@ -7,11 +7,15 @@ mod checks;
 #[cfg(test)]
 mod devices;
 #[cfg(test)]
+mod disk;
+#[cfg(test)]
 mod edits;
 #[cfg(test)]
 mod faults;
 #[cfg(test)]
 mod frames;
+#[cfg(test)]
+mod modules;
 #[cfg(test)]
 mod places;
 #[cfg(test)]

@@ -4,6 +4,7 @@ ghost use Rattle.std.specs.Prelude.{◌≡◌, false};
 
 use crate::checks::{holds, push_copies, same_bytes, with_copies};
 use crate::devices::{sink, source};
+use crate::disk::host_of;
 use hcl_source::{ByteSink, ByteSource, MemorySink, SINK_ROOM};
 use std::alloc::Global;
 use std::process::Abort;
@@ -71,7 +72,8 @@ fn shows(
     let mut from = source(input, devices.most, devices.read);
     let mut out = sink(devices.most, devices.write, devices.flush);
     let mut err = sink(devices.most, devices.told, false);
-    let status = program(alloc, words, &mut from, &mut out, &mut err);
+    let host = host_of(alloc, &[], None);
+    let status = program(alloc, &host, words, &mut from, &mut out, &mut err);
     same_bytes(rt, out.bytes(), wanted.0, input);
     same_bytes(rt, err.bytes(), wanted.1, input);
     holds(rt, status == wanted.2, input);

@@ -1,38 +1,77 @@
 //! What the server says to messages, one after another.
 
 use crate::checks::{holds, push_copies, same_bytes, with_copies};
+use crate::disk::FewFiles;
 use editor_session::{Session, Turn};
 use std::alloc::Global;
 use std::process::Abort;
+use tf_rules::Hashing;
 
 /// The body of a message, and the message that it leads to: none is `-`, and the end of the run is its status.
-type Said = (&'static str, &'static str);
+pub type Said = (&'static str, &'static str);
 
-/// What a step leads to.
-fn said(turn: &Turn) -> &[u8] {
+/// What a step leads to: messages in turn each have a line.
+fn said(rt: &impl Abort, alloc: Global, turn: &Turn) -> Vec<u8> {
+    let mut text = Vec::new(alloc);
     match turn {
-        Turn::Quiet => b"-",
-        Turn::Say(body) => body,
-        Turn::End(0) => b"0",
-        Turn::End(1) => b"1",
-        Turn::End(_) => b"another status",
+        Turn::Quiet => push_copies(rt, &mut text, b"-", 1),
+        Turn::Say(body) => push_copies(rt, &mut text, body, 1),
+        Turn::Publish(bodies) => push_lines(rt, &mut text, bodies),
+        Turn::End(0) => push_copies(rt, &mut text, b"0", 1),
+        Turn::End(1) => push_copies(rt, &mut text, b"1", 1),
+        Turn::End(_) => push_copies(rt, &mut text, b"another status", 1),
+    }
+    text
+}
+
+/// Appends these, with a newline between two.
+fn push_lines(rt: &impl Abort, text: &mut Vec<u8>, lines: &[Vec<u8>]) {
+    for line in lines {
+        if !text.is_empty() {
+            push_copies(rt, text, b"\n", 1);
+        }
+        push_copies(rt, text, line, 1);
     }
 }
 
 /// Checks the answer to a message.
-fn says(rt: &impl Abort, alloc: Global, session: &mut Session, body: &[u8], wanted: &[u8]) {
-    match session.step(alloc, body) {
-        Ok(turn) => same_bytes(rt, said(&turn), wanted, body),
+fn says(
+    rt: &impl Abort,
+    alloc: Global,
+    session: &mut Session,
+    disk: &FewFiles,
+    body: &[u8],
+    wanted: &[u8],
+) {
+    match session.step(alloc, disk, body) {
+        Ok(turn) => same_bytes(rt, &said(rt, alloc, &turn), wanted, body),
         Err(_) => holds(rt, false, body),
     }
 }
 
-/// Checks the answers to messages from the first on.
-fn plays(rt: &impl Abort, alloc: Global, messages: &[Said]) {
-    let mut session = Session::new(alloc);
+/// A session that no message has reached.
+pub fn new_session(alloc: Global) -> Session {
+    Session::new(alloc, Hashing::with_shared_seed())
+}
+
+/// Checks the answers to messages from the first on, with these files on the disk.
+pub fn plays_over(rt: &impl Abort, alloc: Global, disk: &FewFiles, messages: &[Said]) {
+    let mut session = new_session(alloc);
     for (body, wanted) in messages {
-        says(rt, alloc, &mut session, body.as_bytes(), wanted.as_bytes());
+        says(
+            rt,
+            alloc,
+            &mut session,
+            disk,
+            body.as_bytes(),
+            wanted.as_bytes(),
+        );
     }
+}
+
+/// The same with no file on the disk.
+fn plays(rt: &impl Abort, alloc: Global, messages: &[Said]) {
+    plays_over(rt, alloc, &FewFiles::new(alloc, &[], None), messages);
 }
 
 const NOT_BEGUN: &str =
@@ -61,7 +100,7 @@ const IN_UTF16: &str =
 const IN_BYTES: &str =
     r#"{"jsonrpc":"2.0","id":1,"result":{"capabilities":{"positionEncoding":"utf-8","textDocumentSync":{"openClose":true,"change":1},"documentFormattingProvider":true},"serverInfo":{"name":"tfls","version":"0.3.0"}}}"#;
 
-const BEGIN: Said = (
+pub const BEGIN: Said = (
     r#"{"jsonrpc":"2.0","id":1,"method":"initialize","params":{}}"#,
     IN_UTF16,
 );
@@ -321,8 +360,15 @@ fn deep_messages(rt: HostRuntime) {
     ] {
         let mut body = with_copies(&rt, alloc, b"", (b"[", levels), b"");
         push_copies(&rt, &mut body, b"]", levels);
-        let mut session = Session::new(alloc);
-        says(&rt, alloc, &mut session, &body, wanted.as_bytes());
+        let disk = FewFiles::new(alloc, &[], None);
+        says(
+            &rt,
+            alloc,
+            &mut new_session(alloc),
+            &disk,
+            &body,
+            wanted.as_bytes(),
+        );
     }
 }
 
@@ -336,26 +382,28 @@ fn a_large_document(rt: HostRuntime) {
     let first =
         b"{\"jsonrpc\":\"2.0\",\"id\":1,\"result\":[{\"range\":{\"start\":{\"line\":0,\"character\":0},\"end\":{\"line\":20000,\"character\":0}},\"newText\":\"";
     let wanted = with_copies(&rt, alloc, first, (b"a = 1\\n", 20_000), b"\"}]}");
-    let mut session = Session::new(alloc);
+    let disk = FewFiles::new(alloc, &[], None);
+    let mut session = new_session(alloc);
     says(
         &rt,
         alloc,
         &mut session,
+        &disk,
         BEGIN.0.as_bytes(),
         BEGIN.1.as_bytes(),
     );
-    says(&rt, alloc, &mut session, &open, NO_FAULT.as_bytes());
-    says(&rt, alloc, &mut session, FORMAT.as_bytes(), &wanted);
+    says(&rt, alloc, &mut session, &disk, &open, NO_FAULT.as_bytes());
+    says(&rt, alloc, &mut session, &disk, FORMAT.as_bytes(), &wanted);
 }
 
 /// A body that is no text.
 #[test]
 fn invalid_text(rt: HostRuntime) {
-    let mut session = Session::new(rt.alloc());
     says(
         &rt,
         rt.alloc(),
-        &mut session,
+        &mut new_session(rt.alloc()),
+        &FewFiles::new(rt.alloc(), &[], None),
         b"{\"id\":\"\xff\"}",
         NO_JSON.as_bytes(),
     );

@@ -1,3 +1,4 @@
 pub mod AnswerLemmas
+pub mod FrameLemmas
 pub mod RunLemmas
 pub mod TurnLemmas

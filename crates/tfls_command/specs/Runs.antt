@@ -1,8 +1,9 @@
 -- THE RUN of the server over the messages of its input.
-use Rattle.std.specs.Prelude.{◌≡◌, ℕ, Bool, true, List, [], ◌∷◌, ◌++◌, Option}
+use Rattle.std.specs.Prelude.{◌≡◌, ℕ, Bool, true, List, [], ◌∷◌, ◌++◌, Option, flat_map, map}
 use Rattle.std.specs.Io.KnownBytes.{Consumes, IsAtEnd}
+use Rattle.file_tree.specs.Files.{Files}
 use Rattle.command_line.specs.Rows.{Took, Writer}
-use Rattle.editor_session.specs.Sessions.{IsSame, Session, new_session}
+use Rattle.editor_session.specs.Sessions.{Session, new_session}
 use Rattle.editor_session.specs.Steps.{Steps}
 use Rattle.editor_session.specs.declared.turn.Turn.{Turn}
 use Rattle.editor_session.specs.declared.turn.Turn.TheVariants as turn
@@ -24,20 +25,26 @@ IsUnasked ending.ReadFailed = Unit {0}
 IsUnasked ending.WriteFailed = Unit {0}
 IsUnasked ending.OutOfMemory = Unit {0}
 
+-- frames of these bodies, one after another
+abbrev pub frames : List (List ℕ) → List ℕ
+frames bodies = flat_map frame bodies
+
 -- what a message leads to, and then the messages after it
 abbrev pub LeadsOn : Turn → (List ℕ → Ending → Type 0) → List (List ℕ) → List ℕ → Ending → Type 0
 LeadsOn turn.Quiet rest bodies out end = rest out end
 LeadsOn (turn.Say body) rest bodies out end =
     (more : List ℕ) × (out ≡ frame body.items ++ more) × rest more end
+LeadsOn (turn.Publish told) rest bodies out end =
+    (more : List ℕ) × (out ≡ frames (map (λ body. body.items) told.items) ++ more) × rest more end
 LeadsOn (turn.End status) rest bodies out end =
     (bodies ≡ []) × (out ≡ []) × (end ≡ ending.Exit status)
 
--- these messages in turn, from a session on: what goes out, and how the run ends
-abbrev pub Runs : Session → List (List ℕ) → List ℕ → Ending → Type 0
-Runs s [] out end = (out ≡ []) × IsUnasked end
-Runs s (body ∷ bodies) out end =
-    (t : Session) × (turn : Turn) × Steps body s t turn
-    × LeadsOn turn (Runs t bodies) bodies out end
+-- these messages in turn, from a session on, with these files on the disk: what goes out, and how the run ends
+abbrev pub Runs : Files → Session → List (List ℕ) → List ℕ → Ending → Type 0
+Runs disk s [] out end = (out ≡ []) × IsUnasked end
+Runs disk s (body ∷ bodies) out end =
+    (t : Session) × (turn : Turn) × Steps disk body s t turn
+    × LeadsOn turn (Runs disk t bodies) bodies out end
 
 -- ---- devices
 
@@ -52,17 +59,17 @@ HasEnded ending.ReadFailed rest left read_failed write_failed = read_failed ≡ 
 HasEnded ending.WriteFailed rest left read_failed write_failed = write_failed ≡ true
 HasEnded ending.OutOfMemory rest left read_failed write_failed = Unit {0}
 
--- how the server ran: what its input had left before and after, whether a read failed, and its output
+-- how the server ran with these files on the disk: what its input had left before and after, whether a read failed, and
+-- its output
 pub record HasServed
-    (old left : Option (List ℕ)) (read_failed : Bool) (out : Writer) (end : Ending) : Type 0 where
+    (disk : Files) (old left : Option (List ℕ)) (read_failed : Bool) (out : Writer) (end : Ending)
+    : Type 0 where
   pub bytes : List ℕ  -- that were read
   pub read : Consumes old left bytes
   pub bodies : List (List ℕ)  -- of the messages that were taken
   pub rest : List ℕ
   pub messages : Messages bytes bodies rest
-  pub session : Session
-  pub begins : IsSame new_session session
   pub text : List ℕ  -- for standard output
-  pub runs : Runs session bodies text end
+  pub runs : Runs disk new_session bodies text end
   pub took : Took out text
   pub ended : HasEnded end rest left read_failed out.failed

@@ -2,6 +2,7 @@
 #![tactic(auto)]
 
 pub mod ending;
+pub mod host;
 pub mod options;
 pub mod run;
 pub mod serve;

@@ -6,10 +6,12 @@ ghost use Rattle.tfls_command.specs.Answer.{IsAnswer, IsRun, server, usage_line}
 ghost use Rattle.tfls_command.specs.Endings.{ending_message, ending_status};
 
 use crate::ending::Ending;
+use crate::host::Host;
 use crate::options::{Usage, request};
 use crate::serve::serve;
 use command_line::Program;
 use hcl_source::{ByteSink, ByteSource, write_fully};
+use open_files::Disk;
 use std::alloc::Global;
 
 static USAGE: &str = "usage: tfls [--stdio] [--help]\n";
@@ -37,8 +39,9 @@ fn finish<E: ByteSink>(ending: Ending, err: &mut E) -> u8
 }
 
 /// Answers an editor, and says how the run ended.
-fn run<I: ByteSource, O: ByteSink, E: ByteSink>(
+fn run<D: Disk + Drop, I: ByteSource, O: ByteSink, E: ByteSink>(
     alloc: Global,
+    host: &Host<D>,
     input: &mut I,
     out: &mut O,
     err: &mut E,
@@ -46,10 +49,10 @@ fn run<I: ByteSource, O: ByteSink, E: ByteSink>(
     requires input { I.failed input.old ≡ false }
     requires out { O.failed out.old ≡ false }
     requires err { E.failed err.old ≡ false }
-    ensures { IsRun (I.left input.old) (I.left input.new) (I.failed input.new)
-        (end_of O.ByteSink out.old out.new E.ByteSink err.old err.new result) }
+    ensures { IsRun (D.files host.now.disk) (I.left input.old) (I.left input.new)
+        (I.failed input.new) (end_of O.ByteSink out.old out.new E.ByteSink err.old err.new result) }
 {
-    let ending = serve(alloc, input, out);
+    let ending = serve(alloc, host, input, out);
     finish(ending, err)
 }
 
@@ -65,8 +68,9 @@ pub fn bad_line<O: ByteSink, E: ByteSink>(out: &mut O, err: &mut E) -> u8
 
 /// The whole program over any devices: reads the words, with the program's name first, and then answers an editor, and
 /// returns the exit status.
-pub fn program<I: ByteSource, O: ByteSink, E: ByteSink>(
+pub fn program<D: Disk + Drop, I: ByteSource, O: ByteSink, E: ByteSink>(
     alloc: Global,
+    host: &Host<D>,
     words: &[&str],
     input: &mut I,
     out: &mut O,
@@ -75,11 +79,12 @@ pub fn program<I: ByteSource, O: ByteSink, E: ByteSink>(
     requires input { I.failed input.old ≡ false }
     requires out { O.failed out.old ≡ false }
     requires err { E.failed err.old ≡ false }
-    ensures { IsAnswer (map (λ word. word.now) words.now) (I.left input.old) (I.left input.new)
-        (I.failed input.new) (end_of O.ByteSink out.old out.new E.ByteSink err.old err.new result) }
+    ensures { IsAnswer (D.files host.now.disk) (map (λ word. word.now) words.now)
+        (I.left input.old) (I.left input.new) (I.failed input.new)
+        (end_of O.ByteSink out.old out.new E.ByteSink err.old err.new result) }
 {
     match request(alloc, words) {
-        Ok(()) => run(alloc, input, out, err),
+        Ok(()) => run(alloc, host, input, out, err),
         Err(Usage::Help) => server().deliver(out, err, USAGE, 0),
         Err(Usage::BadLine) => bad_line(out, err),
         Err(Usage::OutOfMemory) => server().tell_out_of_memory(out, err),

@@ -1,16 +1,33 @@
 //! The server over any devices.
 
-ghost use Rattle.std.specs.Prelude.{◌≡◌, Some, None, false, List, ℕ};
+ghost use Rattle.std.specs.Prelude.{◌≡◌, Some, None, false, is_err, List, ℕ, map};
 ghost use Rattle.command_line.specs.Rows.{Took, writer};
 ghost use Rattle.editor_session.specs.Views.{session_seen};
 ghost use Rattle.tfls_command.specs.Inner.Turns.{IsSent, TakesTurn};
-ghost use Rattle.tfls_command.specs.Runs.{HasServed};
+ghost use Rattle.tfls_command.specs.Runs.{HasServed, frames};
 
 use crate::ending::Ending;
+use crate::host::Host;
 use editor_session::{Session, Turn};
-use hcl_source::{ByteSink, ByteSource};
+use hcl_source::{ByteSink, ByteSource, Failed};
 use message_frames::{Inbox, Received, receive, write_frame};
+use open_files::Disk;
 use std::alloc::Global;
+
+/// Writes messages with these bodies in turn, up to the first write that fails.
+fn write_frames<O: ByteSink>(out: &mut O, bodies: &[Vec<u8>]) -> Result<(), Failed>
+    requires { O.failed out.old ≡ false }
+    ensures took { Took (writer O.ByteSink out.old out.new)
+        (frames (map (λ body. body.items) bodies.now)) }
+    ensures failed { O.failed out.new ≡ is_err result }
+{
+    for body in bodies {
+        if let Err(failed) = write_frame(out, body.as_slice()) {
+            return Err(failed);
+        }
+    }
+    Ok(())
+}
 
 /// Says what a step leads to, or returns how the run ends.
 fn send<O: ByteSink>(out: &mut O, turn: Turn) -> Option<Ending>
@@ -24,12 +41,17 @@ fn send<O: ByteSink>(out: &mut O, turn: Turn) -> Option<Ending>
             Ok(()) => None,
             Err(_) => Some(Ending::WriteFailed),
         },
+        Turn::Publish(bodies) => match write_frames(out, bodies.as_slice()) {
+            Ok(()) => None,
+            Err(_) => Some(Ending::WriteFailed),
+        },
     }
 }
 
 /// Takes the next message and answers it, or returns how the run ends.
-fn take_turn<I: ByteSource, O: ByteSink>(
+fn take_turn<D: Disk, I: ByteSource, O: ByteSink>(
     alloc: Global,
+    disk: &D,
     session: &mut Session,
     inbox: &mut Inbox,
     input: &mut I,
@@ -37,8 +59,9 @@ fn take_turn<I: ByteSource, O: ByteSink>(
 ) -> Option<Ending>
     requires input { I.failed input.old ≡ false }
     requires out { O.failed out.old ≡ false }
-    ensures takes { TakesTurn (I.left input.old) (I.left input.new) (I.failed input.new)
-        inbox.old inbox.new (session_seen session.old) (session_seen session.new)
+    ensures takes { TakesTurn (D.files disk.now) (I.left input.old) (I.left input.new)
+        (I.failed input.new) inbox.old inbox.new
+        (session_seen session.old) (session_seen session.new)
         (writer O.ByteSink out.old out.new) result }
     ensures input { result ≡ None → I.failed input.new ≡ false }
     ensures out { result ≡ None → O.failed out.new ≡ false }
@@ -50,23 +73,28 @@ fn take_turn<I: ByteSource, O: ByteSink>(
         Received::Failed => return Some(Ending::ReadFailed),
         Received::OutOfMemory => return Some(Ending::OutOfMemory),
     };
-    match session.step(alloc, body.as_slice()) {
+    match session.step(alloc, disk, body.as_slice()) {
         Ok(turn) => send(out, turn),
         Err(_) => Some(Ending::OutOfMemory),
     }
 }
 
 /// Answers an editor until a message asks for the end, the input ends, or something fails.
-pub fn serve<I: ByteSource, O: ByteSink>(alloc: Global, input: &mut I, out: &mut O) -> Ending
+pub fn serve<D: Disk + Drop, I: ByteSource, O: ByteSink>(
+    alloc: Global,
+    host: &Host<D>,
+    input: &mut I,
+    out: &mut O,
+) -> Ending
     requires input { I.failed input.old ≡ false }
     requires out { O.failed out.old ≡ false }
-    ensures { HasServed (I.left input.old) (I.left input.new) (I.failed input.new)
-        (writer O.ByteSink out.old out.new) result }
+    ensures { HasServed (D.files host.now.disk) (I.left input.old) (I.left input.new)
+        (I.failed input.new) (writer O.ByteSink out.old out.new) result }
 {
-    let mut session = Session::new(alloc);
+    let mut session = Session::new(alloc, host.hashing);
     let mut inbox = Inbox::new(alloc);
     for _ in 0..u64::MAX {
-        match take_turn(alloc, &mut session, &mut inbox, input, out) {
+        match take_turn(alloc, &host.disk, &mut session, &mut inbox, input, out) {
             Some(ending) => return ending,
             None => {}
         }

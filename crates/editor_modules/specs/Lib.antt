@@ -1,0 +1,4 @@
+pub mod Bodies
+pub mod FileDiagnostics
+pub mod Modules
+pub mod Told

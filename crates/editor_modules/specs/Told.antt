@@ -1,0 +1,66 @@
+-- WHAT AN EDITOR IS TOLD of a module: the diagnostics of each of its files, whether open or not.
+use Rattle.std.specs.Prelude.{◌≡◌, ◌&&◌, ◌+◌, not, nat_lt, ℕ, Bool, true, false, List, [], ◌∷◌, Option, Some, None, length, unwrap_or}
+use Rattle.file_tree.specs.Files.{Files, Name}
+use Rattle.file_uris.specs.Uris.{uri_of}
+use Rattle.module_check.specs.Checks.{IsChecked}
+use Rattle.module_check.specs.declared.check.Checked.{Checked}
+use Rattle.module_check.specs.declared.state.FileState.{FileState}
+use Rattle.module_find.specs.declared.module.Module.{Module}
+use Rattle.open_files.specs.OpenTexts.{OpenText, uri_open, with_open}
+use Rattle.text_places.specs.declared.place.Units.{Units}
+use Rattle.tf_rules.specs.declared.issue.Issue.{Issue}
+use Rattle.tfrules_command.specs.Line.{max_files}
+use Rattle.tree_lint.specs.Verdicts.{bytes_of_name, names_in}
+use Rattle.tree_lint.specs.declared.policy.Governed.{Governed}
+use Rattle.editor_messages.specs.Diagnostics.{Diagnostic}
+use Rattle.editor_modules.specs.FileDiagnostics.{file_diagnostics}
+use Rattle.editor_modules.specs.Modules.{HasModule}
+
+-- a document, and its diagnostics
+pub record ToldDocument : Type 0 where
+  pub uri : List ℕ
+  pub diagnostics : List Diagnostic
+
+-- the URI of a file: that of its document if one is open
+abbrev pub file_uri : List OpenText → Name → List ℕ
+file_uri documents name = unwrap_or (uri_open documents name) (uri_of name)
+
+-- each file in order, by its number and its state
+abbrev pub told_files : Units → List OpenText → List Issue → ℕ → List Name → List FileState
+    → List ToldDocument
+told_files units documents issues number (name ∷ names) (state ∷ states) =
+    record {
+      uri = file_uri documents name;
+      diagnostics = file_diagnostics units issues number state;
+    }
+    ∷ told_files units documents issues (number + 1) names states
+told_files units documents issues number _ _ = []
+
+-- its files can be judged together
+abbrev pub is_lintable : Module → Bool
+is_lintable m = m.is_whole && not (nat_lt max_files (length m.files.items))
+
+-- the module of a folder, with open documents over its files, is linted, and this is told of it
+pub record IsLinted (units : Units) (documents : List OpenText) (disk : Files) (folder : Name)
+    (told : List ToldDocument) : Type 0 where
+  pub governed : Governed
+  pub found : HasModule (with_open documents disk) folder (Some governed)
+  pub lintable : is_lintable governed.module ≡ true
+  pub checked : Checked
+  pub check : IsChecked (bytes_of_name (with_open documents disk)) (names_in governed.module)
+      governed.policy.settings checked
+  pub told_of : told ≡ told_files units documents checked.issues.items 0
+      (names_in governed.module) checked.files.items
+
+-- the module's options aren't known, or its files can't be judged together
+abbrev pub IsUnlinted : Option Governed → Type 0
+IsUnlinted None = Unit {0}
+IsUnlinted (Some governed) = is_lintable governed.module ≡ false
+
+-- THE TOLD DOCUMENTS of the module of a folder, or none if it can't be linted
+abbrev pub IsModuleTold : Units → List OpenText → Files → Name → Option (List ToldDocument)
+    → Type 0
+IsModuleTold units documents disk folder (Some told) = IsLinted units documents disk folder told
+IsModuleTold units documents disk folder None =
+    (governed : Option Governed) × HasModule (with_open documents disk) folder governed
+    × IsUnlinted governed

@@ -1,0 +1,137 @@
+//! The diagnostics of a file of a module.
+
+ghost use Rattle.std.specs.Prelude.{◌≡◌, ◌++◌, ◌∷◌, [], IfOk, OnOk, map};
+ghost use Rattle.hcl_source.specs.FaultTexts.{fault_text};
+ghost use Rattle.text_faults.specs.Marks.{marked_range as marked_range_of};
+ghost use Rattle.json_parts.specs.Values.{json_text};
+ghost use Rattle.editor_messages.specs.Diagnostics.{diagnostics_json};
+ghost use Rattle.editor_messages.specs.Views.{diagnostic_seen};
+ghost use Rattle.editor_modules.specs.FileDiagnostics.{at_front, file_diagnostics, issue_diagnostics, refusal};
+
+use editor_messages::{Diagnostic, diagnostics_message};
+use hcl_scan::{Fault, Source};
+use line_edits::Range;
+use module_check::FileState;
+use std::alloc::{AllocError, Global};
+use text_faults::Marker;
+use text_places::{Units, Walk};
+use tf_rules::Issue;
+
+/// The message that a document is refused for this reason.
+fn refusal_message(
+    alloc: Global,
+    uri: &str,
+    range: Range,
+    text: &str,
+) -> Result<Vec<u8>, AllocError>
+    ensures { IfOk result (λ message. message.items
+        ≡ json_text (diagnostics_json uri.now (refusal range text.now))) }
+{
+    let diagnostic = Diagnostic {
+        range,
+        rule: None,
+        text,
+    };
+    diagnostics_message(alloc, uri, &[diagnostic])
+}
+
+/// The message that a document is refused for this reason, which is told at its front.
+fn front_message(alloc: Global, uri: &str, text: &str) -> Result<Vec<u8>, AllocError>
+    ensures { IfOk result (λ message. message.items
+        ≡ json_text (diagnostics_json uri.now (at_front text.now))) }
+{
+    let front = Walk::start().place();
+    refusal_message(
+        alloc,
+        uri,
+        Range {
+            start: front,
+            end: front,
+        },
+        text,
+    )
+}
+
+/// The message that a text is refused for a fault.
+fn fault_message(
+    alloc: Global,
+    units: Units,
+    uri: &str,
+    source: &Source,
+    fault: Fault,
+) -> Result<Vec<u8>, AllocError>
+    ensures { IfOk result (λ message. message.items ≡ json_text (diagnostics_json uri.now
+        (refusal (marked_range_of units source.now fault.at) (fault_text fault.kind)))) }
+{
+    let range = Marker::new(units, source.text()).range(fault.at);
+    refusal_message(alloc, uri, range, fault.kind.text())
+}
+
+/// Adds the diagnostic of an issue, if it is one of the file of this number.
+fn add_issue<'i>(
+    number: u32,
+    issue: &'i Issue,
+    marker: &mut Marker<'_>,
+    all: &mut Vec<Diagnostic<'i>>,
+) -> Result<(), AllocError>
+    ensures added { OnOk result (map diagnostic_seen all.new.items
+        ≡ map diagnostic_seen all.old.items
+        ++ issue_diagnostics marker.old.units number marker.old.text (issue.now ∷ [])) }
+    ensures same { marker.new ≡ marker.old }
+{
+    if issue.file != number {
+        return Ok(());
+    }
+    let diagnostic = Diagnostic {
+        range: marker.range(issue.at),
+        rule: Some(issue.rule),
+        text: issue.message.as_str(),
+    };
+    match all.push(diagnostic) {
+        Ok(()) => Ok(()),
+        Err(_) => Err(AllocError),
+    }
+}
+
+/// The diagnostics of the issues of the file of this number.
+fn issues_in<'i>(
+    alloc: Global,
+    units: Units,
+    number: u32,
+    source: &Source,
+    issues: &'i [Issue],
+) -> Result<Vec<Diagnostic<'i>>, AllocError>
+    ensures { IfOk result (λ all. map diagnostic_seen all.items
+        ≡ issue_diagnostics units number source.now issues.now) }
+{
+    let mut marker = Marker::new(units, source.text());
+    let mut all = Vec::new(alloc);
+    for issue in issues {
+        add_issue(number, issue, &mut marker, &mut all)?;
+    }
+    Ok(all)
+}
+
+/// The message about the file of this number among those of a module.
+pub(crate) fn file_message(
+    alloc: Global,
+    units: Units,
+    uri: &str,
+    number: u32,
+    state: &FileState,
+    issues: &[Issue],
+) -> Result<Vec<u8>, AllocError>
+    ensures { IfOk result (λ message. message.items ≡ json_text (diagnostics_json uri.now
+        (file_diagnostics units issues.now number state.now))) }
+{
+    match state {
+        FileState::Good(source) => {
+            let all = issues_in(alloc, units, number, source, issues)?;
+            diagnostics_message(alloc, uri, all.as_slice())
+        }
+        FileState::Refused(source, fault) => fault_message(alloc, units, uri, source, *fault),
+        FileState::NoText(fault) => front_message(alloc, uri, fault.kind.text()),
+        FileState::TooMuch => front_message(alloc, uri, "module too large"),
+        FileState::Unread(fault) => front_message(alloc, uri, fault.text()),
+    }
+}

@@ -1,0 +1,51 @@
+//! The module of a folder.
+
+ghost use Rattle.std.specs.Prelude.{IfOk};
+ghost use Rattle.file_tree.specs.Unchanged.{Unchanged};
+ghost use Rattle.editor_modules.specs.Modules.{AreAlone, HasModule};
+
+use file_tree::path::join;
+use file_tree::tree::Tree;
+use file_tree::walk::Found;
+use lint_config::NOTHING;
+use module_config::configure::configure;
+use module_find::Module;
+use module_find::modules::modules_of;
+use std::alloc::{AllocError, Global};
+use tree_lint::policy::Governed;
+
+/// The module of a folder alone.
+fn modules_in<T: Tree>(
+    alloc: Global,
+    folder: &[u8],
+    tree: &mut T,
+) -> Result<Vec<Module>, AllocError>
+    ensures unchanged { Unchanged T.Tree tree.old tree.new }
+    ensures are { IfOk result (λ modules. AreAlone (T.files tree.old) folder.now modules.items) }
+{
+    let found = Found {
+        name: join(alloc, folder, b"")?,
+        fault: None,
+        file: None,
+    };
+    let mut folders = Vec::new(alloc);
+    let Ok(()) = folders.push(found) else {
+        return Err(AllocError);
+    };
+    let found = modules_of(alloc, folders, Vec::new(alloc), tree)?;
+    Ok(found.modules)
+}
+
+/// The module of a folder, with the policy by which it is linted, unless that isn't known.
+pub(crate) fn module_in<T: Tree>(
+    alloc: Global,
+    folder: &[u8],
+    tree: &mut T,
+) -> Result<Option<Governed>, AllocError>
+    ensures unchanged { Unchanged T.Tree tree.old tree.new }
+    ensures is { IfOk result (HasModule (T.files tree.old) folder.now) }
+{
+    let modules = modules_in(alloc, folder, tree)?;
+    let mut configured = configure(alloc, NOTHING, true, modules, tree)?;
+    Ok(configured.governed.pop())
+}

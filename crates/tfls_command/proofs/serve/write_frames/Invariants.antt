@@ -1,0 +1,10 @@
+use Rattle.std.proofs.Common.{◌≡◌, false, drop, map}
+use Rattle.command_line.proofs.WriterLemmas.{Goes}
+use Rattle.tfls_command.specs.Runs.{frames}
+use Rattle.tfls_command.proofs.serve.write_frames.Given as goal
+
+-- if the writer takes the remaining frames, it has taken all of them
+abbrev pub invariant-loop-body : goal.invariant-loop-body
+invariant-loop-body g l =
+    (g.O.ByteSink.failed l.out ≡ false)
+    × Goes (g.O.ByteSink.taken l.initial.out) (g.O.ByteSink.taken l.out) (frames (map (λ body. body.items) (drop l.body-index l.bodies))) (frames (map (λ body. body.items) l.bodies))

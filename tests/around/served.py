@@ -1,0 +1,174 @@
+"""Modules on a disk that an editor works on, and what it must be told of them.
+
+What the server tells is compared with tfrules-all on a copy of the module in which the texts of open documents stand in the
+files, and with tffmt for refused files.
+"""
+
+import pathlib
+import re
+import subprocess
+import urllib.parse
+
+import protocol
+from protocol import Fault
+
+# TFLint's pages on the rules.
+PAGES = 'https://github.com/terraform-linters/tflint-ruleset-terraform/blob/main/docs/rules/'
+NAMES = ('main.tf', 'b c.tf', 'é.tf', 'x.tofu', '%41.tf', 'notes.txt', 'values.tfvars', 'n.tf.bak')
+BLOCKS = (
+    'variable "N" {}\n',
+    'variable "N" {\n  type = string\n}\n',
+    'variable "N" { # \U0001F600\r\n  type = any\n  description = ""\n}\n',
+    'output "N" {\n  value = var.N\n}\n',
+    'output "N-x" {\n  value = "${local.N}"\n  description = "\U0001F600é e\u0301 ${local.N}"\n}\n',
+    'locals {\n  N = a.b.0.c.1 /* e\u0301\r */ + a.0\n}\n',
+    'locals {\n  Q = {\n    a = "\U0001F600${var.N}" , b = "${var.M}"\n  }\n}\n',
+    'module "N" {\n  source = "git::https://example.com/x.git"\n}\n',
+    'module "M" {\n  source = "a/b/c"\n}\n',
+    'data "x" "N" {\n  y = data.x.M\n}\n',
+    '// \U0001F600\n',
+    '# a\rb\n',
+    '# tflint-ignore: terraform_unused_declarations\n',
+    'resource "a" "N" {\n  b = [a.x.0, a.y.1]\n}\n',
+)
+REFUSED = ('a = ]\n', 'b {\n', 'c = "\n', '\U0001F600 = 1\n', 'd = 1 2\n')
+OPTIONS = (
+    None,
+    '--rules all\n',
+    '--rules all,-terraform_typed_variables\n--naming mixed_snake_case\n',
+    '# none\n',
+    '--rules no_such_rule\n',
+)
+SEVERITIES = {'Error': 1, 'Warning': 2, 'Notice': 3}
+ISSUE = re.compile(r'(.*?):(\d+):(\d+): (Error|Warning|Notice) - (.*) \((\w+)\)')
+
+
+def text_of(chance):
+    """A text of a few blocks, rarely a refused one."""
+    blocks = [
+        chance.choice(BLOCKS).replace('N', chance.choice('abC')).replace('M', chance.choice('abC'))
+        for _ in range(chance.randrange(6))
+    ]
+    if chance.random() < 0.1:
+        blocks.insert(chance.randrange(len(blocks) + 1), chance.choice(REFUSED))
+    return ''.join(blocks)
+
+
+def is_of_module(name):
+    return name.endswith(('.tf', '.tofu'))
+
+
+class Folder:
+    """A module on the disk, and the texts of its documents that are open."""
+
+    def __init__(self, top, linter, verdict, units, chance):
+        self.top, self.linter, self.verdict, self.units, self.chance = top, linter, verdict, units, chance
+        self.path = top / 'repository' / 'module'
+        (self.path / 'inner').mkdir(parents=True)
+        (top / 'repository' / '.git').mkdir()
+        self.copy = top / 'copy' / 'module'
+        self.open, self.uris = {}, {}
+        for name in chance.sample(NAMES, 4):
+            self.write(name)
+        self.set_options()
+
+    def write(self, name):
+        (self.path / name).write_text(text_of(self.chance), encoding='utf-8', newline='')
+
+    def set_options(self):
+        """Another .tfrules, or none, in the folder or above it."""
+        for folder in (self.path, self.path.parent):
+            (folder / '.tfrules').unlink(missing_ok=True)
+        self.options = self.chance.choice(OPTIONS)
+        if self.options is not None:
+            (self.chance.choice((self.path, self.path.parent)) / '.tfrules').write_text(self.options)
+
+    def uri(self, name):
+        """The URI of a file's document as this editor writes it: it stays the same as long as the document is open."""
+        plain = urllib.parse.quote(str(self.path / name), safe='/-._~')
+        other = urllib.parse.quote(str(self.path / name), safe="/-._~$&+,:;=@!'()*")
+        return 'file://' + self.chance.choice((plain, other, plain.replace('main', 'm%61in')))
+
+    def texts(self):
+        """The text of each file of the module, by its name, in order."""
+        found = {it.name: it.read_bytes().decode() for it in self.path.iterdir() if it.is_file()}
+        found.update(self.open)
+        return {name: found[name] for name in sorted(found, key=str.encode) if is_of_module(name)}
+
+    def issues(self, texts):
+        """The linter's issues in these files: for each name (line, column, severity, message, rule)."""
+        subprocess.run(['rm', '-rf', str(self.top / 'copy')], check=True)
+        self.copy.mkdir(parents=True)
+        (self.top / 'copy' / '.git').mkdir()
+        for name, text in texts.items():
+            (self.copy / name).write_bytes(text.encode())
+        if self.options is not None:
+            (self.copy / '.tfrules').write_text(self.options)
+        words = [self.linter, '--quiet', str(self.copy)]
+        done = subprocess.run(words, stdout=subprocess.PIPE, stderr=subprocess.PIPE, cwd=str(self.top / 'copy'))
+        if done.returncode not in (0, 2) or done.stderr:
+            raise Fault('tfrules-all ends with status %d, and says %r' % (done.returncode, done.stderr))
+        found = {name: [] for name in texts}
+        for line in done.stdout.decode().split('\n')[2:-1]:
+            if not ISSUE.fullmatch(line):
+                raise Fault('no issue: %r' % line)
+            path, row, column, severity, message, rule = ISSUE.fullmatch(line).groups()
+            found[pathlib.Path(path).name].append((int(row), int(column), severity, message, rule))
+        return found
+
+    def is_linted(self, name):
+        return is_of_module(name) and self.options != '--rules no_such_rule\n'
+
+    def module(self):
+        """(URI, diagnostics) of each file of the module, in order."""
+        texts = self.texts()
+        faults = {name: self.verdict(text).fault for name, text in texts.items()}
+        good = {name: text for name, text in texts.items() if faults[name] is None}
+        issues, told = self.issues(good), []
+        for name, text in texts.items():
+            each = protocol.diagnostics(text, faults[name], self.units)
+            for row, column, severity, message, rule in issues.get(name, []):
+                if rule != 'terraform_unused_declarations' or len(good) == len(texts):
+                    [marked] = protocol.diagnostics(text, (row, column, message), self.units)
+                    each.append(
+                        {
+                            'range': marked['range'],
+                            'severity': SEVERITIES[severity],
+                            'code': rule,
+                            'codeDescription': {'href': PAGES + rule + '.md'},
+                            'source': 'tfls',
+                            'message': message,
+                        }
+                    )
+            plain = 'file://' + urllib.parse.quote(str(self.path / name), safe='/-._~')
+            told.append((self.uris.get(name, plain), each))
+        return told
+
+    def changed(self, name, text):
+        """The message that gives a document this text, and what must be told then."""
+        uri = self.uris.setdefault(name, self.uri(name))
+        is_new = name not in self.open
+        self.open[name] = text
+        body = protocol.did_open(uri, text) if is_new else protocol.did_change(uri, text)
+        if self.is_linted(name):
+            return body, self.module()
+        return body, [(uri, protocol.diagnostics(text, self.verdict(text).fault, self.units))]
+
+    def closed(self, name):
+        """The message that closes a document, and what must be told then."""
+        uri = self.uris.pop(name)
+        del self.open[name]
+        return protocol.did_close(uri), [(uri, [])] + (self.module() if self.is_linted(name) else [])
+
+    def turn(self):
+        """A message and what must be told then, perhaps after a change of the disk."""
+        kind = self.chance.randrange(10)
+        if kind == 0:
+            self.write(self.chance.choice(NAMES))
+        if kind == 1:
+            (self.path / self.chance.choice(NAMES)).unlink(missing_ok=True)
+        if kind == 2:
+            self.set_options()
+        if self.open and kind in (3, 4):
+            return self.closed(self.chance.choice(list(self.open)))
+        return self.changed(self.chance.choice(NAMES), text_of(self.chance))
