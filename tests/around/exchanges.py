@@ -76,7 +76,8 @@ def initialized(number, units='utf-16'):
     return result(
         number,
         '{"capabilities":{"positionEncoding":"%s","textDocumentSync":{"openClose":true,"change":1},'
-        '"documentFormattingProvider":true},"serverInfo":{"name":"tfls","version":"%s"}}' % (units, VERSION),
+        '"documentFormattingProvider":true,"documentSymbolProvider":true,"foldingRangeProvider":true},'
+        '"serverInfo":{"name":"tfls","version":"%s"}}' % (units, VERSION),
     )
 
 

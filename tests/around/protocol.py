@@ -76,6 +76,11 @@ def formatting(number, uri):
     return request(number, 'textDocument/formatting', {'textDocument': {'uri': uri}, 'options': options})
 
 
+def about(method):
+    """What makes a request about a document."""
+    return lambda number, uri: request(number, method, {'textDocument': {'uri': uri}})
+
+
 # What an editor says in the end.
 FAREWELL = (request('end', 'shutdown'), encoded({'jsonrpc': '2.0', 'method': 'exit'}))
 

@@ -16,6 +16,9 @@ pub data Request : Type 0 where
   Shutdown : Request
   -- the format of the document that has this URI, if one is named
   Formatting : Option (List ℕ) → Request
+  -- the symbols of such a document, and its folds
+  Symbols : Option (List ℕ) → Request
+  Folds : Option (List ℕ) → Request
   -- a request that the server doesn't know
   Unknown : Request
 
@@ -102,7 +105,11 @@ request_named name j =
     if bytes_eq name (codes "initialize") then Initialize (units_offered j)
     else if bytes_eq name (codes "shutdown") then Shutdown
     else if bytes_eq name (codes "textDocument/formatting")
-    then Formatting (document_text (codes "uri") j) else Unknown
+    then Formatting (document_text (codes "uri") j)
+    else if bytes_eq name (codes "textDocument/documentSymbol")
+    then Symbols (document_text (codes "uri") j)
+    else if bytes_eq name (codes "textDocument/foldingRange")
+    then Folds (document_text (codes "uri") j) else Unknown
 
 -- ---- notifications
 

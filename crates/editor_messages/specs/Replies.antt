@@ -24,7 +24,9 @@ capabilities_by version encoding =
     object (member (codes "capabilities") (object
     (member (codes "positionEncoding") (string encoding)
     (member (codes "textDocumentSync") sync_json
-    (member (codes "documentFormattingProvider") (boolean Bool.true) no_members))))
+    (member (codes "documentFormattingProvider") (boolean Bool.true)
+    (member (codes "documentSymbolProvider") (boolean Bool.true)
+    (member (codes "foldingRangeProvider") (boolean Bool.true) no_members))))))
     (member (codes "serverInfo") (object
     (member (codes "name") (string (codes "tfls"))
     (member (codes "version") (string version) no_members))) no_members))

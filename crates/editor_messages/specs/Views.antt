@@ -28,6 +28,8 @@ abbrev pub request_seen : RequestOf → Request
 request_seen (request.Initialize units) = spec.Initialize units
 request_seen request.Shutdown = spec.Shutdown
 request_seen (request.Formatting uri) = spec.Formatting (text_seen uri)
+request_seen (request.Symbols uri) = spec.Symbols (text_seen uri)
+request_seen (request.Folds uri) = spec.Folds (text_seen uri)
 request_seen request.Unknown = spec.Unknown
 
 abbrev pub notification_seen : NotificationOf → Notification

@@ -3,13 +3,17 @@
 
 mod diagnostic;
 mod error;
+mod fold;
 mod message;
 mod range;
 mod read;
 mod reply;
+mod symbol;
 
 pub use diagnostic::{Diagnostic, diagnostics_message};
 pub use error::ReplyError;
+pub use fold::folds_reply;
 pub use message::{Id, Message, Notification, Request};
 pub use read::message_of;
 pub use reply::{capabilities_reply, edits_reply, error_reply, null_reply};
+pub use symbol::symbols_reply;

@@ -19,6 +19,10 @@ pub enum Request<'v> {
     Shutdown,
     /// The format of the document that has this URI, if one is named.
     Formatting(Option<&'v str>),
+    /// The symbols of such a document.
+    Symbols(Option<&'v str>),
+    /// The folds of such a document.
+    Folds(Option<&'v str>),
     Unknown,
 }
 

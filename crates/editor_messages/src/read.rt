@@ -130,6 +130,8 @@ fn request_named<'v>(message: &Value<'v>, name: &str) -> Request<'v>
         "initialize" => Request::Initialize(units_offered(message)),
         "shutdown" => Request::Shutdown,
         "textDocument/formatting" => Request::Formatting(document_text(message, "uri")),
+        "textDocument/documentSymbol" => Request::Symbols(document_text(message, "uri")),
+        "textDocument/foldingRange" => Request::Folds(document_text(message, "uri")),
         _ => Request::Unknown,
     }
 }

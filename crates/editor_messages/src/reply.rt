@@ -35,7 +35,7 @@ fn write_id(writer: &mut Writer, id: Id<'_>) -> Result<(), AllocError>
 }
 
 /// Begins a reply, up to the member of this name.
-fn write_head(writer: &mut Writer, id: Id<'_>, name: &str) -> Result<(), AllocError>
+pub(crate) fn write_head(writer: &mut Writer, id: Id<'_>, name: &str) -> Result<(), AllocError>
     requires { HasNumbers (id_seen id) }
     ensures { AddsTokens result writer.old writer.new (reply_head (id_seen id.entry) name.now) }
 {
@@ -53,7 +53,7 @@ fn write_head(writer: &mut Writer, id: Id<'_>, name: &str) -> Result<(), AllocEr
 }
 
 /// Ends a reply.
-fn write_end(writer: &mut Writer) -> Result<(), AllocError>
+pub(crate) fn write_end(writer: &mut Writer) -> Result<(), AllocError>
     ensures { AddsTokens result writer.old writer.new (end_object ∷ []) }
 {
     writer.end_object()
@@ -152,6 +152,10 @@ fn write_capabilities(writer: &mut Writer, version: &str, units: Units) -> Resul
             JsonPart::Number(1),
             JsonPart::EndObject,
             JsonPart::Key("documentFormattingProvider"),
+            JsonPart::Flag(true),
+            JsonPart::Key("documentSymbolProvider"),
+            JsonPart::Flag(true),
+            JsonPart::Key("foldingRangeProvider"),
             JsonPart::Flag(true),
             JsonPart::EndObject,
             JsonPart::Key("serverInfo"),

@@ -4,7 +4,7 @@ use Rattle.std.specs.Prelude.{ℕ, List, [], Option, Some, None}
 use Rattle.open_files.specs.OpenTexts.{OpenText, with_open_text, without}
 use Rattle.text_places.specs.declared.place.Units.{Units}
 use Rattle.text_places.specs.declared.place.Units.TheVariants.{Utf16}
-use Rattle.editor_messages.specs.Messages.{Notification, Request, Initialize, Shutdown, Formatting, Unknown, Text, Close, Exit, Other}
+use Rattle.editor_messages.specs.Messages.{Notification, Request, Initialize, Shutdown, Formatting, Symbols, Folds, Unknown, Text, Close, Exit, Other}
 use Rattle.editor_session.specs.declared.phase.Phase.{Phase}
 use Rattle.editor_session.specs.declared.phase.Phase.TheVariants as phase
 
@@ -48,6 +48,8 @@ abbrev pub after_request : Session → Request → Session
 after_request s (Initialize units) = after_initialize units s s.phase
 after_request s Shutdown = after_shutdown s s.phase
 after_request s (Formatting uri) = s
+after_request s (Symbols uri) = s
+after_request s (Folds uri) = s
 after_request s Unknown = s
 
 -- ---- notifications

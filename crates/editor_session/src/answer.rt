@@ -7,8 +7,8 @@ ghost use Rattle.line_edits.specs.PlacedEdits.{placed_edits};
 ghost use Rattle.editor_messages.specs.Replies.{edits_json, reply_json};
 ghost use Rattle.json.specs.Tree.{HasNumbers};
 ghost use Rattle.editor_messages.specs.Views.{id_seen, request_seen, text_seen};
-ghost use Rattle.editor_messages.specs.Messages.{Formatting};
-ghost use Rattle.editor_session.specs.Answers.{IsAnswer, IsFormatting, IsFreshAnswer, IsOpenAnswer};
+ghost use Rattle.editor_messages.specs.Messages.{Folds, Formatting, Symbols};
+ghost use Rattle.editor_session.specs.Answers.{AreFolds, AreSymbols, IsAnswer, IsFormatting, IsFreshAnswer, IsOpenAnswer};
 ghost use Rattle.editor_session.specs.Inner.Replied.{Replied};
 ghost use Rattle.editor_session.specs.Views.{session_seen};
 ghost use Rattle.open_files.specs.OpenTexts.{text_of};
@@ -16,11 +16,13 @@ ghost use Rattle.open_files.specs.OpenTexts.{text_of};
 use crate::phase::Phase;
 use crate::session::Session;
 use editor_messages::{
-    Id, ReplyError, Request, capabilities_reply, edits_reply, error_reply, null_reply,
+    Id, ReplyError, Request, capabilities_reply, edits_reply, error_reply, folds_reply, null_reply,
+    symbols_reply,
 };
 use line_edits::edits_between;
 use std::alloc::{AllocError, Global};
 use text_format::format_of;
+use text_outline::{folds_of, symbols_of};
 use text_places::Units;
 
 /// This version of the server.
@@ -55,6 +57,24 @@ fn format_reply(alloc: Global, id: Id<'_>, units: Units, text: &str) -> Result<V
     }
 }
 
+/// The reply with the symbols of a text.
+fn text_symbols(alloc: Global, id: Id<'_>, units: Units, text: &str) -> Result<Vec<u8>, AllocError>
+    requires { HasNumbers (id_seen id) }
+    ensures { IfOk result (Replied (AreSymbols units (Some text.now)) (id_seen id.entry)) }
+{
+    let symbols = symbols_of(alloc, units, text)?;
+    symbols_reply(alloc, id, symbols.as_slice())
+}
+
+/// The reply with the folds of a text.
+fn text_folds(alloc: Global, id: Id<'_>, text: &str) -> Result<Vec<u8>, AllocError>
+    requires { HasNumbers (id_seen id) }
+    ensures { IfOk result (Replied (AreFolds (Some text.now)) (id_seen id.entry)) }
+{
+    let folds = folds_of(alloc, text)?;
+    folds_reply(alloc, id, folds.as_slice())
+}
+
 /// The reply to a request before the editor has begun.
 fn fresh_reply(alloc: Global, id: Id<'_>, request: Request<'_>) -> Result<Vec<u8>, AllocError>
     requires { HasNumbers (id_seen id) }
@@ -65,6 +85,8 @@ fn fresh_reply(alloc: Global, id: Id<'_>, request: Request<'_>) -> Result<Vec<u8
         Request::Initialize(units) => capabilities_reply(alloc, id, VERSION, units),
         Request::Shutdown => error_reply(alloc, id, ReplyError::NotInitialized),
         Request::Formatting(_) => error_reply(alloc, id, ReplyError::NotInitialized),
+        Request::Symbols(_) => error_reply(alloc, id, ReplyError::NotInitialized),
+        Request::Folds(_) => error_reply(alloc, id, ReplyError::NotInitialized),
         Request::Unknown => error_reply(alloc, id, ReplyError::NotInitialized),
     }
 }
@@ -101,6 +123,68 @@ impl Session {
         }
     }
 
+    /// The reply with the symbols of a document.
+    fn document_symbols(&self, alloc: Global, id: Id<'_>, uri: &str) -> Result<Vec<u8>, AllocError>
+        requires { HasNumbers (id_seen id) }
+        ensures { IfOk result
+            (Replied (AreSymbols (session_seen self.now).units
+            (text_of (session_seen self.now).documents uri.now)) (id_seen id.entry)) }
+    {
+        match self.text(uri) {
+            Some(text) => text_symbols(alloc, id, self.units, text),
+            None => error_reply(alloc, id, ReplyError::UnknownText),
+        }
+    }
+
+    /// The same, if a document is named.
+    fn named_symbols(
+        &self,
+        alloc: Global,
+        id: Id<'_>,
+        uri: Option<&str>,
+    ) -> Result<Vec<u8>, AllocError>
+        requires { HasNumbers (id_seen id) }
+        ensures { IfOk result
+            (Replied (IsOpenAnswer (session_seen self.now) (Symbols (text_seen uri.entry)))
+            (id_seen id.entry)) }
+    {
+        match uri {
+            Some(uri) => self.document_symbols(alloc, id, uri),
+            None => error_reply(alloc, id, ReplyError::NoDocument),
+        }
+    }
+
+    /// The reply with the folds of a document.
+    fn document_folds(&self, alloc: Global, id: Id<'_>, uri: &str) -> Result<Vec<u8>, AllocError>
+        requires { HasNumbers (id_seen id) }
+        ensures { IfOk result
+            (Replied (AreFolds
+            (text_of (session_seen self.now).documents uri.now)) (id_seen id.entry)) }
+    {
+        match self.text(uri) {
+            Some(text) => text_folds(alloc, id, text),
+            None => error_reply(alloc, id, ReplyError::UnknownText),
+        }
+    }
+
+    /// The same, if a document is named.
+    fn named_folds(
+        &self,
+        alloc: Global,
+        id: Id<'_>,
+        uri: Option<&str>,
+    ) -> Result<Vec<u8>, AllocError>
+        requires { HasNumbers (id_seen id) }
+        ensures { IfOk result
+            (Replied (IsOpenAnswer (session_seen self.now) (Folds (text_seen uri.entry)))
+            (id_seen id.entry)) }
+    {
+        match uri {
+            Some(uri) => self.document_folds(alloc, id, uri),
+            None => error_reply(alloc, id, ReplyError::NoDocument),
+        }
+    }
+
     /// The reply to a request of an editor that has begun.
     fn open_reply(
         &self,
@@ -117,6 +201,8 @@ impl Session {
             Request::Initialize(_) => error_reply(alloc, id, ReplyError::InitializedAlready),
             Request::Shutdown => null_reply(alloc, id),
             Request::Formatting(uri) => self.named_reply(alloc, id, uri),
+            Request::Symbols(uri) => self.named_symbols(alloc, id, uri),
+            Request::Folds(uri) => self.named_folds(alloc, id, uri),
             Request::Unknown => error_reply(alloc, id, ReplyError::UnknownMethod),
         }
     }

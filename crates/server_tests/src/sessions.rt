@@ -95,10 +95,10 @@ const NO_EDITS: &str = r#"{"jsonrpc":"2.0","id":1,"result":[]}"#;
 const NOTHING: &str = r#"{"jsonrpc":"2.0","id":1,"result":null}"#;
 
 const IN_UTF16: &str =
-    r#"{"jsonrpc":"2.0","id":1,"result":{"capabilities":{"positionEncoding":"utf-16","textDocumentSync":{"openClose":true,"change":1},"documentFormattingProvider":true},"serverInfo":{"name":"tfls","version":"0.3.0"}}}"#;
+    r#"{"jsonrpc":"2.0","id":1,"result":{"capabilities":{"positionEncoding":"utf-16","textDocumentSync":{"openClose":true,"change":1},"documentFormattingProvider":true,"documentSymbolProvider":true,"foldingRangeProvider":true},"serverInfo":{"name":"tfls","version":"0.3.0"}}}"#;
 
 const IN_BYTES: &str =
-    r#"{"jsonrpc":"2.0","id":1,"result":{"capabilities":{"positionEncoding":"utf-8","textDocumentSync":{"openClose":true,"change":1},"documentFormattingProvider":true},"serverInfo":{"name":"tfls","version":"0.3.0"}}}"#;
+    r#"{"jsonrpc":"2.0","id":1,"result":{"capabilities":{"positionEncoding":"utf-8","textDocumentSync":{"openClose":true,"change":1},"documentFormattingProvider":true,"documentSymbolProvider":true,"foldingRangeProvider":true},"serverInfo":{"name":"tfls","version":"0.3.0"}}}"#;
 
 pub const BEGIN: Said = (
     r#"{"jsonrpc":"2.0","id":1,"method":"initialize","params":{}}"#,
@@ -315,6 +315,58 @@ static NAMELESS: [Said; 4] = [
         r#"{"jsonrpc":"2.0","id":"f","error":{"code":-32602,"message":"no document is named"}}"#,
     ),
 ];
+
+const SYMBOLS: &str =
+    r#"{"id":1,"method":"textDocument/documentSymbol","params":{"textDocument":{"uri":"a"}}}"#;
+
+const FOLDS: &str =
+    r#"{"id":1,"method":"textDocument/foldingRange","params":{"textDocument":{"uri":"a"}}}"#;
+
+const NAMELESS_REQUEST: &str =
+    r#"{"jsonrpc":"2.0","id":1,"error":{"code":-32602,"message":"no document is named"}}"#;
+
+/// The symbols and the folds of a document.
+static OUTLINES: [Said; 15] = [
+    (SYMBOLS, NOT_BEGUN),
+    (FOLDS, NOT_BEGUN),
+    BEGIN,
+    (SYMBOLS, NOT_KNOWN),
+    (FOLDS, NOT_KNOWN),
+    (
+        r#"{"method":"textDocument/didOpen","params":{"textDocument":{"uri":"a","text":"b \"\u00e9\" c {\n  d = [\n    1,\n  ]\n}\n"}}}"#,
+        NO_FAULT,
+    ),
+    (
+        SYMBOLS,
+        "{\"jsonrpc\":\"2.0\",\"id\":1,\"result\":[{\"name\":\"b \\\"\u{e9}\\\" \\\"c\\\"\",\"kind\":5,\"range\":{\"start\":{\"line\":0,\"character\":0},\"end\":{\"line\":4,\"character\":1}},\"selectionRange\":{\"start\":{\"line\":0,\"character\":0},\"end\":{\"line\":0,\"character\":1}},\"children\":[{\"name\":\"d\",\"kind\":7,\"range\":{\"start\":{\"line\":1,\"character\":2},\"end\":{\"line\":3,\"character\":3}},\"selectionRange\":{\"start\":{\"line\":1,\"character\":2},\"end\":{\"line\":1,\"character\":3}},\"children\":[]}]}]}",
+    ),
+    (
+        FOLDS,
+        r#"{"jsonrpc":"2.0","id":1,"result":[{"startLine":0,"endLine":3},{"startLine":1,"endLine":2}]}"#,
+    ),
+    // a refused text has none
+    (
+        r#"{"method":"textDocument/didChange","params":{"textDocument":{"uri":"a"},"contentChanges":[{"text":"a={\n"}]}}"#,
+        r#"{"jsonrpc":"2.0","method":"textDocument/publishDiagnostics","params":{"uri":"a","diagnostics":[{"range":{"start":{"line":1,"character":0},"end":{"line":1,"character":0}},"severity":1,"source":"tfls","message":"unexpected end"}]}}"#,
+    ),
+    (SYMBOLS, NO_EDITS),
+    (FOLDS, NO_EDITS),
+    (
+        r#"{"id":1,"method":"textDocument/documentSymbol","params":{}}"#,
+        NAMELESS_REQUEST,
+    ),
+    (
+        r#"{"id":1,"method":"textDocument/foldingRange"}"#,
+        NAMELESS_REQUEST,
+    ),
+    (SHUTDOWN, NOTHING),
+    (SYMBOLS, SHUT_DOWN),
+];
+
+#[test]
+fn outlines(rt: HostRuntime) {
+    plays(&rt, rt.alloc(), &OUTLINES);
+}
 
 /// A text with two runs of lines that differ. Its last line has no LF.
 const RUNS: Said = (

@@ -1,5 +1,4 @@
 use Rattle.json_parts.proofs.AddsLemmas.{added_then, adds_as, adds_then}
-use Rattle.editor_messages.specs.Views.{diagnostic_seen}
 use Rattle.editor_messages.proofs.DiagnosticLemmas.{one_diagnostic}
 use Rattle.editor_messages.proofs.diagnostic.write_diagnostic.Goals as goal
 

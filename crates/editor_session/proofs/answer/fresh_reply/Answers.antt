@@ -23,6 +23,16 @@ returns-in-Formatting c =
     replied (IsFreshAnswer (request_seen c.args.request)) (id_seen c.args.id) (Err NotInitialized) c.error_reply-in-Formatting.result
     (subst (λ r. IsFreshAnswer (request_seen r) (Err NotInitialized)) (sym c.in-Formatting.is) refl) c.error_reply-in-Formatting.ensures
 
+pub returns-in-Symbols : goal.returns-in-Symbols
+returns-in-Symbols c =
+    replied (IsFreshAnswer (request_seen c.args.request)) (id_seen c.args.id) (Err NotInitialized) c.error_reply-in-Symbols.result
+    (subst (λ r. IsFreshAnswer (request_seen r) (Err NotInitialized)) (sym c.in-Symbols.is) refl) c.error_reply-in-Symbols.ensures
+
+pub returns-in-Folds : goal.returns-in-Folds
+returns-in-Folds c =
+    replied (IsFreshAnswer (request_seen c.args.request)) (id_seen c.args.id) (Err NotInitialized) c.error_reply-in-Folds.result
+    (subst (λ r. IsFreshAnswer (request_seen r) (Err NotInitialized)) (sym c.in-Folds.is) refl) c.error_reply-in-Folds.ensures
+
 pub returns-in-Unknown : goal.returns-in-Unknown
 returns-in-Unknown c =
     replied (IsFreshAnswer (request_seen c.args.request)) (id_seen c.args.id) (Err NotInitialized) c.error_reply-in-Unknown.result

@@ -1,0 +1,5 @@
+pub mod FileLemmas
+pub mod IndexLemmas
+pub mod ItemLemmas
+pub mod NameLemmas
+pub mod TokenLemmas

@@ -1,0 +1,11 @@
+//! The symbols and the folds of a text, as an editor shows them.
+#![tactic(auto)]
+
+mod fold;
+mod name;
+mod place_index;
+mod symbol;
+mod token_range;
+
+pub use fold::{Fold, folds_of};
+pub use symbol::{Symbol, SymbolKind, symbols_of};
