@@ -6,12 +6,11 @@ ghost use Rattle.hcl_source.specs.Load.{IsText};
 ghost use Rattle.text_outline.specs.Folds.{HasFolds, fold_between, fold_from, fold_of, folds_of};
 ghost use Rattle.text_outline.specs.Inner.Found.{found_folds};
 
-use crate::place_index::PlaceIndex;
 use crate::token_range::line_of_token;
 use hcl_scan::{LoadError, ScanError, Source, scan};
 use hcl_syntax::{Accepted, Item, Outline, accepts, outline};
 use std::alloc::{AllocError, Global};
-use text_places::Units;
+use text_places::{PlaceIndex, Units};
 
 /// Lines of a text that can be folded, from 0: the first stays in sight (Language Server Protocol 3.17, "Folding Range
 /// Request").

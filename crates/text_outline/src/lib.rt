@@ -3,7 +3,6 @@
 
 mod fold;
 mod name;
-mod place_index;
 mod symbol;
 mod token_range;
 

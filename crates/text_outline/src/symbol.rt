@@ -8,13 +8,12 @@ ghost use Rattle.text_outline.specs.Symbols.{HasSymbols, symbols_in, symbols_of}
 ghost use Rattle.text_outline.specs.Views.{symbol_seen};
 
 use crate::name::block_name;
-use crate::place_index::PlaceIndex;
 use crate::token_range::{range_between, word_at};
 use hcl_scan::{LoadError, ScanError, Source, scan};
 use hcl_syntax::{Accepted, Item, Outline, accepts, outline};
 use line_edits::Range;
 use std::alloc::{AllocError, Global};
-use text_places::Units;
+use text_places::{PlaceIndex, Units};
 
 /// What a symbol is.
 #[derive(Clone, Copy, Debug, PartialEq, Eq)]

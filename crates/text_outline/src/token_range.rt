@@ -7,10 +7,9 @@ ghost use Rattle.hcl_grammar.specs.Verdict.{start_of};
 ghost use Rattle.text_outline.specs.Folds.{line_of_token};
 ghost use Rattle.text_outline.specs.Symbols.{range_between, stop_of};
 
-use crate::place_index::PlaceIndex;
 use hcl_syntax::Accepted;
 use line_edits::Range;
-use text_places::Units;
+use text_places::{PlaceIndex, Units};
 
 /// The text of a token.
 pub fn word_at<'s>(accepted: &Accepted<'_, 's>, number: usize) -> &'s str

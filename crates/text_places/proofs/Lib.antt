@@ -1,2 +1,4 @@
+pub mod IndexLemmas
+pub mod OffsetLemmas
 pub mod PlaceLemmas
 pub mod WalkLemmas

@@ -27,7 +27,7 @@ pub struct Walk {
 }
 
 /// How many units the character has that begins with this byte. A byte within a character has none.
-fn units_of(units: Units, byte: u8) -> usize
+pub(crate) fn units_of(units: Units, byte: u8) -> usize
     ensures is { result ≡ units_of units byte }
     ensures small { result ≤ 2 }
 {
@@ -77,7 +77,7 @@ impl Walk {
     }
 
     /// The walk over one more byte.
-    fn step(self, units: Units, byte: u8) -> Walk
+    pub(crate) fn step(self, units: Units, byte: u8) -> Walk
         requires offset { self.offset + 1 < 2 ^ 64 }
         requires line { self.line + 1 < 2 ^ 64 }
         requires character { self.character + 2 < 2 ^ 64 }

@@ -4,7 +4,7 @@ use Rattle.text_places.specs.Places.{walk_start, walk_to}
 use Rattle.text_places.specs.declared.place.Units.{Units}
 use Rattle.text_places.specs.declared.place.Walk.{Walk}
 use Rattle.text_places.proofs.WalkLemmas.{near_offset}
-use Rattle.text_outline.specs.Inner.Indexes.{AreWalks}
+use Rattle.text_places.specs.Inner.Indexes.{AreWalks}
 
 -- a walk that may go on to an offset
 pub record GoesTo (units : Units) (text : List ℕ) (w : Walk) (offset : ℕ) : Type 0 where

@@ -1,7 +1,7 @@
 use Rattle.std.proofs.Common.{◌≡◌, ◌*◌, vec_len}
-use Rattle.text_outline.specs.Inner.Indexes.{AreWalks}
-use Rattle.text_outline.proofs.IndexLemmas.{GoesTo}
-use Rattle.text_outline.proofs.place_index.walks_of.Given as goal
+use Rattle.text_places.specs.Inner.Indexes.{AreWalks}
+use Rattle.text_places.proofs.IndexLemmas.{GoesTo}
+use Rattle.text_places.proofs.place_index.walks_of.Given as goal
 
 abbrev pub invariant-loop-number : goal.invariant-loop-number
 invariant-loop-number l =

@@ -4,11 +4,6 @@ use Rattle.text_places.specs.Places.{walk_start, walk_to}
 use Rattle.text_places.specs.declared.place.Units.{Units}
 use Rattle.text_places.specs.declared.place.Walk.{Walk}
 
--- a text, and the units in which its characters are counted
-pub record IndexedText : Type 0 where
-  pub units : Units
-  pub text : List ℕ
-
 -- the walks go up to the multiples of 64
 abbrev pub AreWalks : Units → List ℕ → List Walk → Type 0
 AreWalks units text walks =

@@ -2,11 +2,11 @@
 
 ghost use Rattle.std.specs.Prelude.{◌≡◌, ◌≤◌, ◌<◌, ◌+◌, ◌/◌, ◌^◌, IfOk, length, vec_len};
 ghost use Rattle.text_places.specs.Places.{place_at};
-ghost use Rattle.text_outline.specs.Inner.Indexes.{AreWalks};
+ghost use Rattle.text_places.specs.Inner.Indexes.{AreWalks};
 
+use crate::place::{Place, Units, Walk};
 use std::alloc::{AllocError, Global};
 use std::marker::Model;
-use text_places::{Place, Units, Walk};
 
 /// How many bytes there are for each walk that is stored: a place takes at most as many steps from the walk before it.
 const STRIDE: usize = 64;
@@ -37,7 +37,8 @@ pub struct PlaceIndex<'t> {
 
 impl<'t> Model for PlaceIndex<'t> {
     ghost use Rattle.std.specs.Prelude.{◌<◌, ◌/◌, ◌^◌, length, vec_len};
-    ghost use Rattle.text_outline.specs.Inner.Indexes.{AreWalks, IndexedText};
+    ghost use Rattle.text_places.specs.Indexes.{IndexedText};
+    ghost use Rattle.text_places.specs.Inner.Indexes.{AreWalks};
 
     ghost Value = { IndexedText };
 

@@ -1,9 +1,9 @@
 use Rattle.std.proofs.Common.{◌∙◌, ◌/◌, ◌<◌, ◌≤◌, ap, arith, length, subst, sym}
 use Rattle.std.proofs.lemmas.List.{get_or_read}
 use Rattle.text_places.specs.Places.{walk_start, walk_to}
-use Rattle.text_outline.specs.Inner.Indexes.{IndexedText}
-use Rattle.text_outline.proofs.IndexLemmas.{goes_to}
-use Rattle.text_outline.proofs.place_index.PlaceIndex.place.Goals as goal
+use Rattle.text_places.specs.Indexes.{IndexedText}
+use Rattle.text_places.proofs.IndexLemmas.{goes_to}
+use Rattle.text_places.proofs.place_index.PlaceIndex.place.Goals as goal
 
 pub go_on-requires-clause-walk : goal.go_on-requires-clause-walk
 go_on-requires-clause-walk c =
