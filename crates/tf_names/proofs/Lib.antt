@@ -1,0 +1,10 @@
+pub mod SeenLemmas
+pub mod ReferenceLemmas
+pub mod DeclarationLemmas
+pub mod AgreementLemmas
+pub mod OrderLemmas
+pub mod DeclaredLemmas
+pub mod PlacedLemmas
+pub mod SourceLemmas
+pub mod SpelledLemmas
+pub mod TokenLemmas
