@@ -1,5 +1,5 @@
 -- Symbols that are written in one pass are nested.
-use Rattle.std.proofs.Common.{◌≡◌, ◌∙◌, ◌+◌, ◌-◌, ◌<◌, ◌≤◌, ◌++◌, ◌∷◌, [], ℕ, zero, suc, Bool, true, false, List, ap, ap₂, append-nil, append_assoc, arith, cond, drop, get_or, length, map, refl, reverse, subst, sym, take, true≢false}
+use Rattle.std.proofs.Common.{◌≡◌, ◌∙◌, ◌+◌, ◌-◌, ◌<◌, ◌≤◌, ◌++◌, ◌∷◌, [], ℕ, zero, suc, Bool, true, false, List, ap, ap₂, append_assoc, arith, cond, drop, get_or, length, map, refl, reverse, sym, take, true≢false}
 use Rattle.std.specs.Prelude.{Some, nat_lt, slice_get}
 use Rattle.std.proofs.lemmas.Bool.{le-ltb, lt-ltb, ltb-true}
 use Rattle.std.proofs.lemmas.List.{drop_all, drop_more, length-map, reverse-append, take_all, take_more}

@@ -3,6 +3,7 @@ pub mod Errors
 pub mod Examples
 pub mod Inner
 pub mod Messages
+pub mod Names
 pub mod Outlines
 pub mod Replies
 pub mod Views

@@ -1,30 +1,47 @@
 -- THE MESSAGES of an editor (JSON-RPC 2.0, and the Language Server Protocol 3.17), as far as the server treats them: a
 -- message is told by its members. If a member comes twice, the last one counts.
-use Rattle.std.specs.Prelude.{ℕ, ◌==◌, ◌||◌, Bool, false, not, List, codes, Option, Some, None, if◌then◌else◌, option_and_then}
+use Rattle.std.specs.Prelude.{ℕ, ◌==◌, ◌^◌, ◌&&◌, ◌||◌, Bool, false, not, List, codes, length, nat_lt, Option, Some, None, if◌then◌else◌, option_and_then, unwrap_or}
 use Rattle.std.specs.List.{list_any}
 use Rattle.std.specs.Option.{is_some}
-use Rattle.std.specs.Str.{bytes_eq}
-use Rattle.json.specs.Find.{as_array, as_str, get, later_or}
+use Rattle.std.specs.Str.{all_ascii_digits, bytes_eq}
+use Rattle.std.specs.Str.Parse.{digits_value, without_leading_plus}
+use Rattle.json.specs.Find.{as_array, as_bool, as_number, as_str, get, later_or}
 use Rattle.json.specs.Json as json
 use Rattle.json.specs.Json.{Items, Json, item, no_items}
+use Rattle.text_places.specs.declared.place.Place.{Place}
 use Rattle.text_places.specs.declared.place.Units.{Units}
 use Rattle.text_places.specs.declared.place.Units.TheVariants.{Bytes, Utf16}
+use Rattle.editor_messages.specs.declared.message.Abilities.{Abilities}
+
+-- a place in the document that has this URI
+pub record DocumentPlace : Type 0 where
+  pub uri : List ℕ
+  pub place : Place
 
 pub data Request : Type 0 where
-  -- the editor begins, and places are counted in these units
-  Initialize : Units → Request
+  -- the editor begins, and this is what it can do
+  Initialize : Abilities → Request
   Shutdown : Request
   -- the format of the document that has this URI, if one is named
   Formatting : Option (List ℕ) → Request
   -- the symbols of such a document, and its folds
   Symbols : Option (List ℕ) → Request
   Folds : Option (List ℕ) → Request
+  -- where the name at a place is declared, if a place is named
+  Definition : Option DocumentPlace → Request
+  -- where that name is used, and where it is declared if that is true
+  References : Option DocumentPlace → Bool → Request
+  -- whether that name can be changed
+  PrepareRename : Option DocumentPlace → Request
+  -- that name changed to this one, if one is told
+  Rename : Option DocumentPlace → Option (List ℕ) → Request
   -- a request that the server doesn't know
   Unknown : Request
 
 pub data Notification : Type 0 where
-  -- the document that has this URI has this text, or one that the message doesn't tell
-  Text : List ℕ → Option (List ℕ) → Notification
+  -- the document that has this URI has this version, if the message tells one, and this text, or one that the message
+  -- doesn't tell
+  Text : List ℕ → Option ℕ → Option (List ℕ) → Notification
   -- the document that has this URI is closed
   Close : List ℕ → Notification
   Exit : Notification
@@ -51,6 +68,57 @@ params_at name j = option_and_then (get name) (get (codes "params") j)
 -- a text that is told of the document
 abbrev pub document_text : List ℕ → Json → Option (List ℕ)
 document_text name j = option_and_then (text_at name) (params_at (codes "textDocument") j)
+
+-- ---- integers
+
+-- the number that digits write, if it is below 2 ^ 64
+abbrev pub digits_number : List ℕ → Option ℕ
+digits_number digits =
+    if all_ascii_digits digits
+    && (nat_lt 0 (length digits) && nat_lt (digits_value 10 digits) (2 ^ 64))
+    then Some (digits_value 10 digits) else None
+
+-- the number that a text writes by digits alone; JSON has no plus before them
+abbrev pub integer_of : List ℕ → Option ℕ
+integer_of number = digits_number (without_leading_plus number)
+
+abbrev pub integer_at : List ℕ → Json → Option ℕ
+integer_at name j = option_and_then integer_of (option_and_then as_number (get name j))
+
+-- an integer that is told of the document
+abbrev pub document_integer : List ℕ → Json → Option ℕ
+document_integer name j =
+    option_and_then (integer_at name) (params_at (codes "textDocument") j)
+
+-- ---- flags
+
+-- whether there is a value that is true
+abbrev pub is_true : Option Json → Bool
+is_true value = unwrap_or (option_and_then as_bool value) false
+
+-- ---- places in documents
+
+abbrev pub place_by : Option ℕ → Option ℕ → Option Place
+place_by None character = None
+place_by (Some line) None = None
+place_by (Some line) (Some character) = Some (record { line = line; character = character })
+
+-- a position as a place, if both of its numbers are told
+abbrev pub position_place : Json → Option Place
+position_place position =
+    place_by (integer_at (codes "line") position) (integer_at (codes "character") position)
+
+abbrev pub place_named : Json → Option Place
+place_named j = option_and_then position_place (params_at (codes "position") j)
+
+abbrev pub document_place_by : Option (List ℕ) → Option Place → Option DocumentPlace
+document_place_by None place = None
+document_place_by (Some uri) None = None
+document_place_by (Some uri) (Some place) = Some (record { uri = uri; place = place })
+
+-- the place in a document that the parameters name
+abbrev pub document_place : Json → Option DocumentPlace
+document_place j = document_place_by (document_text (codes "uri") j) (place_named j)
 
 -- ---- ids
 
@@ -100,16 +168,52 @@ encodings j =
 abbrev pub units_offered : Json → Units
 units_offered j = if offers (codes "utf-8") (option_and_then as_array (encodings j)) then Bytes else Utf16
 
+-- a member of a group of what the editor can do
+abbrev pub ability_at : List ℕ → List ℕ → List ℕ → Json → Option Json
+ability_at part group name j =
+    option_and_then (get name)
+    (option_and_then (get group)
+    (option_and_then (get part) (params_at (codes "capabilities") j)))
+
+-- what the editor can do: it takes edits for a version of a document, and asks before it asks for a new name
+abbrev pub abilities_told : Json → Abilities
+abilities_told j = record {
+  units = units_offered j;
+  takes_versions = is_true
+      (ability_at (codes "workspace") (codes "workspaceEdit") (codes "documentChanges") j);
+  prepares_renames = is_true
+      (ability_at (codes "textDocument") (codes "rename") (codes "prepareSupport") j);
+}
+
+-- whether places where a name is declared are asked for too
+abbrev pub with_declarations : Json → Bool
+with_declarations j =
+    is_true (option_and_then (get (codes "includeDeclaration")) (params_at (codes "context") j))
+
+abbrev pub new_name : Json → Option (List ℕ)
+new_name j = option_and_then as_str (params_at (codes "newName") j)
+
+-- a request about a name
+abbrev pub name_request : List ℕ → Json → Request
+name_request name j =
+    if bytes_eq name (codes "textDocument/definition") then Definition (document_place j)
+    else if bytes_eq name (codes "textDocument/references")
+    then References (document_place j) (with_declarations j)
+    else if bytes_eq name (codes "textDocument/prepareRename")
+    then PrepareRename (document_place j)
+    else if bytes_eq name (codes "textDocument/rename")
+    then Rename (document_place j) (new_name j) else Unknown
+
 abbrev pub request_named : List ℕ → Json → Request
 request_named name j =
-    if bytes_eq name (codes "initialize") then Initialize (units_offered j)
+    if bytes_eq name (codes "initialize") then Initialize (abilities_told j)
     else if bytes_eq name (codes "shutdown") then Shutdown
     else if bytes_eq name (codes "textDocument/formatting")
     then Formatting (document_text (codes "uri") j)
     else if bytes_eq name (codes "textDocument/documentSymbol")
     then Symbols (document_text (codes "uri") j)
     else if bytes_eq name (codes "textDocument/foldingRange")
-    then Folds (document_text (codes "uri") j) else Unknown
+    then Folds (document_text (codes "uri") j) else name_request name j
 
 -- ---- notifications
 
@@ -127,9 +231,9 @@ changed_text j =
     option_and_then whole_text (option_and_then last_item
     (option_and_then as_array (params_at (codes "contentChanges") j)))
 
-abbrev pub text_notification : Option (List ℕ) → Option (List ℕ) → Notification
-text_notification None text = Other
-text_notification (Some uri) text = Text uri text
+abbrev pub text_notification : Option (List ℕ) → Option ℕ → Option (List ℕ) → Notification
+text_notification None version text = Other
+text_notification (Some uri) version text = Text uri version text
 
 abbrev pub close_notification : Option (List ℕ) → Notification
 close_notification None = Other
@@ -139,9 +243,11 @@ abbrev pub notification_named : List ℕ → Json → Notification
 notification_named name j =
     if bytes_eq name (codes "exit") then Exit
     else if bytes_eq name (codes "textDocument/didOpen")
-    then text_notification (document_text (codes "uri") j) (document_text (codes "text") j)
+    then text_notification (document_text (codes "uri") j)
+    (document_integer (codes "version") j) (document_text (codes "text") j)
     else if bytes_eq name (codes "textDocument/didChange")
-    then text_notification (document_text (codes "uri") j) (changed_text j)
+    then text_notification (document_text (codes "uri") j)
+    (document_integer (codes "version") j) (changed_text j)
     else if bytes_eq name (codes "textDocument/didClose")
     then close_notification (document_text (codes "uri") j) else Other
 

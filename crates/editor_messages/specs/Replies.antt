@@ -1,5 +1,5 @@
 -- THE REPLIES to an editor (JSON-RPC 2.0, section 5; Language Server Protocol 3.17).
-use Rattle.std.specs.Prelude.{ℕ, Bool, List, Result, Ok, Err, codes, decimal, map}
+use Rattle.std.specs.Prelude.{ℕ, Bool, false, true, List, Result, Ok, Err, codes, decimal, map}
 use Rattle.json.specs.Json.{Json, array, boolean, member, no_members, number, object, string}
 use Rattle.json_parts.specs.Values.{json_items}
 use Rattle.line_edits.specs.PlacedEdits.{PlacedEdit}
@@ -8,6 +8,7 @@ use Rattle.text_places.specs.declared.place.Units.{Units}
 use Rattle.text_places.specs.declared.place.Units.TheVariants.{Bytes, Utf16}
 use Rattle.editor_messages.specs.Errors.{error_code, error_text}
 use Rattle.editor_messages.specs.declared.error.ReplyError.{ReplyError}
+use Rattle.editor_messages.specs.declared.message.Abilities.{Abilities}
 
 -- ---- results
 
@@ -19,21 +20,30 @@ encoding_name Utf16 = codes "utf-16"
 abbrev pub sync_json : Json
 sync_json = object (member (codes "openClose") (boolean Bool.true) (member (codes "change") (number (decimal 1)) no_members))
 
-abbrev pub capabilities_by : List ℕ → List ℕ → Json
-capabilities_by version encoding =
+-- names can be changed, and asked about before if the editor does that
+abbrev pub rename_ability : Bool → Json
+rename_ability false = boolean Bool.true
+rename_ability true = object (member (codes "prepareProvider") (boolean Bool.true) no_members)
+
+abbrev pub capabilities_by : List ℕ → List ℕ → Bool → Json
+capabilities_by version encoding prepares =
     object (member (codes "capabilities") (object
     (member (codes "positionEncoding") (string encoding)
     (member (codes "textDocumentSync") sync_json
     (member (codes "documentFormattingProvider") (boolean Bool.true)
     (member (codes "documentSymbolProvider") (boolean Bool.true)
-    (member (codes "foldingRangeProvider") (boolean Bool.true) no_members))))))
+    (member (codes "foldingRangeProvider") (boolean Bool.true)
+    (member (codes "definitionProvider") (boolean Bool.true)
+    (member (codes "referencesProvider") (boolean Bool.true)
+    (member (codes "renameProvider") (rename_ability prepares) no_members)))))))))
     (member (codes "serverInfo") (object
     (member (codes "name") (string (codes "tfls"))
     (member (codes "version") (string version) no_members))) no_members))
 
--- THE ABILITIES of this version of the server
-abbrev pub capabilities_json : List ℕ → Units → Json
-capabilities_json version units = capabilities_by version (encoding_name units)
+-- THE ABILITIES of this version of the server, for an editor that can do this
+abbrev pub capabilities_json : List ℕ → Abilities → Json
+capabilities_json version abilities =
+    capabilities_by version (encoding_name abilities.units) abilities.prepares_renames
 
 abbrev pub place_json : Place → Json
 place_json place =

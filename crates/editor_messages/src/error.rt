@@ -20,6 +20,16 @@ pub enum ReplyError {
     NotInitialized,
     /// The request is about a document, and names none.
     NoDocument,
+    /// The request is about a place, and names none.
+    NoPlace,
+    /// No name that can be changed is at the place.
+    NoName,
+    /// The new name isn't an identifier.
+    NotIdentifier,
+    /// The module has the new name already.
+    NameTaken,
+    /// A file of the module is refused or can't be read.
+    UnreadModule,
     /// The document isn't open, or its text was lost.
     UnknownText,
     OutOfMemory,
@@ -37,10 +47,11 @@ impl ReplyError {
                 "-32600"
             }
             ReplyError::UnknownMethod => "-32601",
-            ReplyError::NoDocument => "-32602",
+            ReplyError::NoDocument | ReplyError::NoPlace | ReplyError::NotIdentifier => "-32602",
             ReplyError::OutOfMemory => "-32603",
             ReplyError::NotInitialized => "-32002",
             ReplyError::UnknownText => "-32801",
+            ReplyError::NoName | ReplyError::NameTaken | ReplyError::UnreadModule => "-32803",
         }
     }
 
@@ -56,6 +67,11 @@ impl ReplyError {
             ReplyError::UnknownMethod => "unknown method",
             ReplyError::NotInitialized => "not initialized",
             ReplyError::NoDocument => "no document is named",
+            ReplyError::NoPlace => "no place in a document is named",
+            ReplyError::NoName => "no name that can be changed is here",
+            ReplyError::NotIdentifier => "the new name is not an identifier",
+            ReplyError::NameTaken => "the module has this name already",
+            ReplyError::UnreadModule => "a file of the module is refused or cannot be read",
             ReplyError::UnknownText => "the text of this document is not known",
             ReplyError::OutOfMemory => "out of memory",
         }

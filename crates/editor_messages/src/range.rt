@@ -9,6 +9,14 @@ use json_parts::{JsonPart, write_parts};
 use line_edits::Range;
 use std::alloc::AllocError;
 
+/// Ranges of the document that has this URI, and its version if one is known.
+#[derive(Drop)]
+pub struct DocumentRanges {
+    pub uri: String,
+    pub version: Option<u64>,
+    pub ranges: Vec<Range>,
+}
+
 pub(crate) fn write_range(writer: &mut Writer, range: Range) -> Result<(), AllocError>
     ensures { AddsTokens result writer.old writer.new
         (json_tokens (range_json range.start range.end)) }

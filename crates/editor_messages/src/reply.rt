@@ -10,12 +10,12 @@ ghost use Rattle.json_parts.specs.AddsTokens.{AddsTokens};
 ghost use Rattle.json_parts.specs.Values.{json_text};
 ghost use Rattle.line_edits.specs.Edits.{EditsAscend, edit_of};
 ghost use Rattle.line_edits.specs.PlacedEdits.{in_range, placed_edits};
-ghost use Rattle.editor_messages.specs.Inner.Heads.{edits_tokens, reply_head};
-ghost use Rattle.editor_messages.specs.Replies.{capabilities_json, edit_json, edits_json, encoding_name, error_json, error_value, result_json};
+ghost use Rattle.editor_messages.specs.Inner.Heads.{capabilities_head, capabilities_tail, edits_tokens, reply_head};
+ghost use Rattle.editor_messages.specs.Replies.{capabilities_json, edit_json, edits_json, encoding_name, error_json, error_value, rename_ability, result_json};
 ghost use Rattle.editor_messages.specs.Views.{id_seen};
 
 use crate::error::ReplyError;
-use crate::message::Id;
+use crate::message::{Abilities, Id};
 use crate::range::write_range;
 use json::Writer;
 use json_parts::{JsonPart, write_parts};
@@ -131,11 +131,28 @@ fn encoding_name(units: Units) -> &'static str
     }
 }
 
-fn write_capabilities(writer: &mut Writer, version: &str, units: Units) -> Result<(), AllocError>
-    ensures { AddsTokens result writer.old writer.new
-        (json_tokens (capabilities_json version.now units)) }
+/// Writes how the server can change names.
+fn write_rename_ability(writer: &mut Writer, prepares: bool) -> Result<(), AllocError>
+    ensures { AddsTokens result writer.old writer.new (json_tokens (rename_ability prepares)) }
 {
-    let encoding = encoding_name(units);
+    if prepares {
+        return write_parts(
+            writer,
+            &[
+                JsonPart::Object,
+                JsonPart::Key("prepareProvider"),
+                JsonPart::Flag(true),
+                JsonPart::EndObject,
+            ],
+        );
+    }
+    write_parts(writer, &[JsonPart::Flag(true)])
+}
+
+/// Writes what the server can do, up to how it can change names.
+fn write_capabilities_head(writer: &mut Writer, encoding: &str) -> Result<(), AllocError>
+    ensures { AddsTokens result writer.old writer.new (capabilities_head encoding.now) }
+{
     write_parts(
         writer,
         &[
@@ -157,6 +174,22 @@ fn write_capabilities(writer: &mut Writer, version: &str, units: Units) -> Resul
             JsonPart::Flag(true),
             JsonPart::Key("foldingRangeProvider"),
             JsonPart::Flag(true),
+            JsonPart::Key("definitionProvider"),
+            JsonPart::Flag(true),
+            JsonPart::Key("referencesProvider"),
+            JsonPart::Flag(true),
+            JsonPart::Key("renameProvider"),
+        ],
+    )
+}
+
+/// Writes the rest, with the version of the server.
+fn write_capabilities_tail(writer: &mut Writer, version: &str) -> Result<(), AllocError>
+    ensures { AddsTokens result writer.old writer.new (capabilities_tail version.now) }
+{
+    write_parts(
+        writer,
+        &[
             JsonPart::EndObject,
             JsonPart::Key("serverInfo"),
             JsonPart::Object,
@@ -170,38 +203,57 @@ fn write_capabilities(writer: &mut Writer, version: &str, units: Units) -> Resul
     )
 }
 
+fn write_capabilities(
+    writer: &mut Writer,
+    version: &str,
+    abilities: Abilities,
+) -> Result<(), AllocError>
+    ensures { AddsTokens result writer.old writer.new
+        (json_tokens (capabilities_json version.now abilities)) }
+{
+    let encoding = encoding_name(abilities.units);
+    write_capabilities_head(writer, encoding)?;
+    write_rename_ability(writer, abilities.prepares_renames)?;
+    write_capabilities_tail(writer, version)
+}
+
 fn write_capabilities_reply(
     writer: &mut Writer,
     id: Id<'_>,
     version: &str,
-    units: Units,
+    abilities: Abilities,
 ) -> Result<(), AllocError>
     requires { HasNumbers (id_seen id) }
     ensures { AddsTokens result writer.old writer.new
-        (json_tokens (result_json (id_seen id.entry) (capabilities_json version.now units))) }
+        (json_tokens (result_json (id_seen id.entry) (capabilities_json version.now abilities))) }
 {
     write_head(writer, id, "result")?;
-    write_capabilities(writer, version, units)?;
+    write_capabilities(writer, version, abilities)?;
     write_end(writer)
 }
 
-/// The reply that tells what this version of the server can do.
+/// The reply that tells what this version of the server can do, for an editor that can do this.
 pub fn capabilities_reply(
     alloc: Global,
     id: Id<'_>,
     version: &str,
-    units: Units,
+    abilities: Abilities,
 ) -> Result<Vec<u8>, AllocError>
     requires { HasNumbers (id_seen id) }
     ensures { IfOk result (λ text. text.items
-        ≡ json_text (result_json (id_seen id.entry) (capabilities_json version.now units))) }
+        ≡ json_text (result_json (id_seen id.entry) (capabilities_json version.now abilities))) }
 {
     let mut writer = Writer::new(Vec::new(alloc));
-    write_capabilities_reply(&mut writer, id, version, units)?;
+    write_capabilities_reply(&mut writer, id, version, abilities)?;
     Ok(writer.into_inner())
 }
 
-fn write_edit<'a>(writer: &mut Writer, range: Range, text: &'a str) -> Result<(), AllocError>
+/// Writes an edit: this text in place of a range.
+pub(crate) fn write_edit<'a>(
+    writer: &mut Writer,
+    range: Range,
+    text: &'a str,
+) -> Result<(), AllocError>
     ensures { AddsTokens result writer.old writer.new
         (json_tokens (edit_json (in_range range text.now))) }
 {

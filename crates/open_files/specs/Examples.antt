@@ -4,7 +4,7 @@ use Rattle.std.specs.Str.{bytes_eq}
 use Rattle.file_tree.specs.Files.{Files, silent_files}
 use Rattle.file_tree.specs.declared.kind.Kind.TheVariants.{File}
 use Rattle.percent_encoding.specs.Percent.{percent_decode}
-use Rattle.open_files.specs.OpenTexts.{OpenText, open_identity, open_text, text_of, text_open, uri_open, with_open, with_open_text, without}
+use Rattle.open_files.specs.OpenTexts.{OpenText, open_identity, open_text, text_of, text_open, uri_open, version_of, version_open, with_open, with_open_text, without}
 
 -- a folder with one file, and three documents that are open: two are files in it
 abbrev disk : Files
@@ -15,9 +15,9 @@ disk = record silent_files {
 }
 
 abbrev documents : List OpenText
-documents = with_open_text (codes "file:///m/b.tf") (codes "more")
-    (with_open_text (codes "untitled:1") (codes "none")
-    (with_open_text (codes "file:///m/a.tf") (codes "new") []))
+documents = with_open_text (codes "file:///m/b.tf") (Some 3) (codes "more")
+    (with_open_text (codes "untitled:1") None (codes "none")
+    (with_open_text (codes "file:///m/a.tf") (Some 7) (codes "new") []))
 
 abbrev files : Files
 files = with_open documents disk
@@ -39,11 +39,11 @@ other_folder : files.listing (codes "/") ≡ None
 other_folder = refl
 
 -- of a name whose front is a folder's, but without its slash
-neighbour : (with_open (open_text (codes "file:///mm/b.tf") [] ∷ []) disk).listing (codes "/m/") ≡ Some (codes "a.tf" ++ 0 ∷ [])
+neighbour : (with_open (open_text (codes "file:///mm/b.tf") None [] ∷ []) disk).listing (codes "/m/") ≡ Some (codes "a.tf" ++ 0 ∷ [])
 unfolding percent_decode
 neighbour = refl
 
-below : (with_open (open_text (codes "file:///m/n/b.tf") [] ∷ []) disk).listing (codes "/m/") ≡ Some (codes "a.tf" ++ 0 ∷ [])
+below : (with_open (open_text (codes "file:///m/n/b.tf") None [] ∷ []) disk).listing (codes "/m/") ≡ Some (codes "a.tf" ++ 0 ∷ [])
 unfolding percent_decode
 below = refl
 
@@ -53,17 +53,29 @@ unfolding percent_decode
 closed = refl
 
 -- a document that is changed has its last text alone
-changed : text_of (with_open_text (codes "file:///m/a.tf") (codes "newer") documents) (codes "file:///m/a.tf") ≡ Some (codes "newer")
+changed : text_of (with_open_text (codes "file:///m/a.tf") (Some 8) (codes "newer") documents) (codes "file:///m/a.tf") ≡ Some (codes "newer")
 changed = refl
 
 -- another URI of the same file: the newest document counts
-newest : text_open (with_open_text (codes "file:///m/%61.tf") (codes "newest") documents) (codes "/m/a.tf") ≡ Some (codes "newest")
+newest : text_open (with_open_text (codes "file:///m/%61.tf") None (codes "newest") documents) (codes "/m/a.tf") ≡ Some (codes "newest")
 unfolding percent_decode
 newest = refl
 
-own_uri : uri_open (with_open_text (codes "file:///m/%61.tf") [] documents) (codes "/m/a.tf") ≡ Some (codes "file:///m/%61.tf")
+own_uri : uri_open (with_open_text (codes "file:///m/%61.tf") (Some 9) [] documents) (codes "/m/a.tf") ≡ Some (codes "file:///m/%61.tf")
 unfolding percent_decode
 own_uri = refl
+
+-- and its version, but that of each other document stays
+own_version : version_open (with_open_text (codes "file:///m/%61.tf") (Some 9) [] documents) (codes "/m/a.tf") ≡ Some 9
+unfolding percent_decode
+own_version = refl
+
+other_version : version_of (with_open_text (codes "file:///m/%61.tf") (Some 9) [] documents) (codes "file:///m/a.tf") ≡ Some 7
+other_version = refl
+
+-- a document whose editor told none
+no_version : version_of documents (codes "untitled:1") ≡ None
+no_version = refl
 
 -- a document that is no file
 untitled : text_of documents (codes "untitled:1") ≡ Some (codes "none")

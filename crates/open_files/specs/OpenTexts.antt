@@ -1,5 +1,5 @@
 -- WHAT A TREE TELLS with the texts of open documents over its files. Our own choice.
-use Rattle.std.specs.Prelude.{◌==◌, ◌&&◌, not, ℕ, Bool, false, List, [], ◌∷◌, ◌++◌, Option, Some, None, codes, drop, filter, find, flat_map, length, option_map, if◌then◌else◌}
+use Rattle.std.specs.Prelude.{◌==◌, ◌&&◌, not, ℕ, Bool, false, List, [], ◌∷◌, ◌++◌, Option, Some, None, codes, drop, filter, find, flat_map, length, option_and_then, option_map, if◌then◌else◌}
 use Rattle.std.specs.List.{list_any}
 use Rattle.std.specs.Str.{bytes_eq}
 use Rattle.file_tree.specs.Files.{Files, Name}
@@ -12,6 +12,8 @@ use Rattle.file_uris.specs.Uris.{path_of}
 -- an open document
 pub record OpenText : Type 0 where
   pub uri : List ℕ
+  -- that its editor told, if it told one
+  pub version : Option ℕ
   -- of its file, if its URI is that of a file on this machine
   pub path : Option Name
   pub text : List ℕ
@@ -22,15 +24,25 @@ pub record OpenText : Type 0 where
 abbrev pub text_of : List OpenText → List ℕ → Option (List ℕ)
 text_of documents uri = option_map (λ o. o.text) (find (λ o. bytes_eq uri o.uri) documents)
 
+-- its version, if it is open and has one
+abbrev pub version_of : List OpenText → List ℕ → Option ℕ
+version_of documents uri =
+    option_and_then (λ o. o.version) (find (λ o. bytes_eq uri o.uri) documents)
+
 abbrev pub without : List ℕ → List OpenText → List OpenText
 without uri documents = filter (λ o. not (bytes_eq uri o.uri)) documents
 
-abbrev pub open_text : List ℕ → List ℕ → OpenText
-open_text uri text = record { uri = uri; path = path_of uri; text = text }
+abbrev pub open_text : List ℕ → Option ℕ → List ℕ → OpenText
+open_text uri version text = record {
+  uri = uri;
+  version = version;
+  path = path_of uri;
+  text = text;
+}
 
--- the document of this URI has this text now: it stands first, since it is the newest
-abbrev pub with_open_text : List ℕ → List ℕ → List OpenText → List OpenText
-with_open_text uri text documents = open_text uri text ∷ without uri documents
+-- the document of this URI has this version and this text now: it stands first, since it is the newest
+abbrev pub with_open_text : List ℕ → Option ℕ → List ℕ → List OpenText → List OpenText
+with_open_text uri version text documents = open_text uri version text ∷ without uri documents
 
 -- ---- their files
 
@@ -47,6 +59,10 @@ text_open documents path = option_map (λ o. o.text) (open_at documents path)
 
 abbrev pub uri_open : List OpenText → Name → Option (List ℕ)
 uri_open documents path = option_map (λ o. o.uri) (open_at documents path)
+
+-- the version of the document that is open for a path, if it has one
+abbrev pub version_open : List OpenText → Name → Option ℕ
+version_open documents path = option_and_then (λ o. o.version) (open_at documents path)
 
 -- ---- their names in a folder
 

@@ -12,6 +12,7 @@ path_seen path = option_map (λ p. p.items) path
 abbrev pub file_seen : OpenFile → OpenText
 file_seen file = record {
   uri = string_bytes file.uri;
+  version = file.version;
   path = path_seen file.path;
   text = string_bytes file.text;
 }

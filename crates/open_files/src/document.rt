@@ -2,7 +2,7 @@
 
 ghost use Rattle.std.specs.Prelude.{◌≡◌, ◌++◌, IfOk, OnOk, find, option_map, string_bytes};
 ghost use Rattle.std.specs.Str.{bytes_eq};
-ghost use Rattle.open_files.specs.OpenTexts.{is_directly_in, is_path, name_in, open_names, open_text, text_of, text_open, uri_open};
+ghost use Rattle.open_files.specs.OpenTexts.{is_directly_in, is_path, name_in, open_names, open_text, text_of, text_open, uri_open, version_of, version_open};
 ghost use Rattle.open_files.specs.Views.{file_seen, open_seen, path_seen};
 
 use file_uris::path_of;
@@ -12,19 +12,31 @@ use std::alloc::{AllocError, Global};
 #[derive(Drop)]
 pub struct OpenFile {
     pub(crate) uri: String,
+    /// That its editor told, if it told one.
+    pub(crate) version: Option<u64>,
     /// Of its file, if its URI is that of a file on this machine.
     pub(crate) path: Option<Vec<u8>>,
     pub(crate) text: String,
 }
 
-/// The document of this URI with this text.
-pub(crate) fn open_file(alloc: Global, uri: &str, text: &str) -> Result<OpenFile, AllocError>
-    ensures { IfOk result (λ file. file_seen file ≡ open_text uri.now text.now) }
+/// The document of this URI with this version and this text.
+pub(crate) fn open_file(
+    alloc: Global,
+    uri: &str,
+    version: Option<u64>,
+    text: &str,
+) -> Result<OpenFile, AllocError>
+    ensures { IfOk result (λ file. file_seen file ≡ open_text uri.now version text.now) }
 {
     let path = path_of(alloc, uri)?;
     let uri = String::from_str(alloc, uri)?;
     let text = String::from_str(alloc, text)?;
-    Ok(OpenFile { uri, path, text })
+    Ok(OpenFile {
+        uri,
+        version,
+        path,
+        text,
+    })
 }
 
 /// The text of the document that has this URI, if it is open.
@@ -34,6 +46,17 @@ pub(crate) fn text_of<'t>(documents: &'t [OpenFile], uri: &str) -> Option<&'t st
 {
     match document_of(documents, uri) {
         Some(file) => Some(file.text.as_str()),
+        None => None,
+    }
+}
+
+/// The version of the document that has this URI, if it is open and has one.
+#[tactic(auto, using(crate::proofs::OpenLemmas::version_of_seen))]
+pub(crate) fn version_of(documents: &[OpenFile], uri: &str) -> Option<u64>
+    ensures { result ≡ version_of (open_seen documents.now) uri.now }
+{
+    match document_of(documents, uri) {
+        Some(file) => file.version,
         None => None,
     }
 }
@@ -82,6 +105,17 @@ pub(crate) fn uri_open<'t>(documents: &'t [OpenFile], path: &[u8]) -> Option<&'t
 {
     match open_at(documents, path) {
         Some(file) => Some(file.uri.as_str()),
+        None => None,
+    }
+}
+
+/// The version of the document that is open for a path, if it has one.
+#[tactic(auto, using(crate::proofs::OpenLemmas::version_seen))]
+pub(crate) fn version_open(documents: &[OpenFile], path: &[u8]) -> Option<u64>
+    ensures { result ≡ version_open (open_seen documents.now) path.now }
+{
+    match open_at(documents, path) {
+        Some(file) => file.version,
         None => None,
     }
 }

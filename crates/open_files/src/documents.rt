@@ -1,9 +1,11 @@
 //! The documents that are open.
 
 ghost use Rattle.std.specs.Prelude.{◌≡◌, ◌++◌, [], OnErr, OnOk, option_map};
-ghost use Rattle.open_files.specs.OpenTexts.{open_names, text_of, text_open, uri_open, with_open_text, without};
+ghost use Rattle.open_files.specs.OpenTexts.{open_names, text_of, text_open, uri_open, version_of, version_open, with_open_text, without};
 
-use crate::document::{OpenFile, add_names, open_file, text_of, text_open, uri_open};
+use crate::document::{
+    OpenFile, add_names, open_file, text_of, text_open, uri_open, version_of, version_open,
+};
 use std::alloc::{AllocError, Global};
 use std::marker::Model;
 
@@ -54,14 +56,34 @@ impl Documents {
         uri_open(self.files.as_slice(), path)
     }
 
-    /// Opens the document of a URI with this text, in place of any text that it has. An error means that memory ran
-    /// out: the document isn't open any more.
-    pub fn set(&mut self, alloc: Global, uri: &str, text: &str) -> Result<(), AllocError>
-        ensures ok { OnOk result (self.new ≡ with_open_text uri.now text.now self.old) }
+    /// The version of the document that has this URI, if it is open and has one.
+    pub fn version(&self, uri: &str) -> Option<u64>
+        ensures { result ≡ version_of self.now uri.now }
+    {
+        version_of(self.files.as_slice(), uri)
+    }
+
+    /// The version of the document that is open for the file of a path, if it has one.
+    pub fn version_at(&self, path: &[u8]) -> Option<u64>
+        ensures { result ≡ version_open self.now path.now }
+    {
+        version_open(self.files.as_slice(), path)
+    }
+
+    /// Opens the document of a URI with this version and this text, in place of any that it has. An error means that
+    /// memory ran out: the document isn't open any more.
+    pub fn set(
+        &mut self,
+        alloc: Global,
+        uri: &str,
+        version: Option<u64>,
+        text: &str,
+    ) -> Result<(), AllocError>
+        ensures ok { OnOk result (self.new ≡ with_open_text uri.now version text.now self.old) }
         ensures err { OnErr result (self.new ≡ without uri.now self.old) }
     {
         self.remove(uri);
-        let file = open_file(alloc, uri, text)?;
+        let file = open_file(alloc, uri, version, text)?;
         match self.files.insert(0, file) {
             Ok(()) => Ok(()),
             Err(_) => Err(AllocError),

@@ -1,7 +1,7 @@
 -- Parts of replies and of other messages.
-use Rattle.std.specs.Prelude.{ℕ, List, [], ◌∷◌, ◌++◌, Option, Some, None, codes, decimal, flat_map}
+use Rattle.std.specs.Prelude.{ℕ, List, [], ◌∷◌, ◌++◌, Bool, Option, Some, None, codes, decimal, flat_map}
 use Rattle.json.specs.Json.{Json}
-use Rattle.json.specs.Token.{Token, begin_array, begin_object, end_object, key, number, string}
+use Rattle.json.specs.Token.{Token, begin_array, begin_object, boolean, end_object, key, number, string}
 use Rattle.json.specs.Tree.{json_tokens}
 use Rattle.line_edits.specs.PlacedEdits.{PlacedEdit}
 use Rattle.editor_messages.specs.Diagnostics.{Diagnostic, diagnostic_json}
@@ -15,6 +15,18 @@ use Rattle.rule_set.specs.declared.rule.Rule.{Rule}
 abbrev pub reply_head : Json → List ℕ → List Token
 reply_head id name =
     begin_object ∷ key (codes "jsonrpc") ∷ string (codes "2.0") ∷ key (codes "id") ∷ (json_tokens id ++ key name ∷ [])
+
+-- what the server can do up to how it can change names, and the rest
+abbrev pub capabilities_head : List ℕ → List Token
+capabilities_head encoding =
+    begin_object ∷ key (codes "capabilities") ∷ begin_object ∷ key (codes "positionEncoding") ∷ string encoding ∷ key (codes "textDocumentSync")
+    ∷ begin_object ∷ key (codes "openClose") ∷ boolean Bool.true ∷ key (codes "change") ∷ number (decimal 1) ∷ end_object
+    ∷ key (codes "documentFormattingProvider") ∷ boolean Bool.true ∷ key (codes "documentSymbolProvider") ∷ boolean Bool.true ∷ key (codes "foldingRangeProvider") ∷ boolean Bool.true
+    ∷ key (codes "definitionProvider") ∷ boolean Bool.true ∷ key (codes "referencesProvider") ∷ boolean Bool.true ∷ key (codes "renameProvider") ∷ []
+
+abbrev pub capabilities_tail : List ℕ → List Token
+capabilities_tail version =
+    end_object ∷ key (codes "serverInfo") ∷ begin_object ∷ key (codes "name") ∷ string (codes "tfls") ∷ key (codes "version") ∷ string version ∷ end_object ∷ end_object ∷ []
 
 abbrev pub edits_tokens : List PlacedEdit → List Token
 edits_tokens edits = flat_map (λ edit. json_tokens (edit_json edit)) edits

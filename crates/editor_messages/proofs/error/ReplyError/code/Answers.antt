@@ -29,3 +29,7 @@ returns-in-NotInitialized-clause-number c = refl
 pub returns-in-UnknownText-clause-number : goal.returns-in-UnknownText-clause-number
 unfolding after_number
 returns-in-UnknownText-clause-number c = refl
+
+pub returns-in-NoName-clause-number : goal.returns-in-NoName-clause-number
+unfolding after_number
+returns-in-NoName-clause-number c = refl

@@ -1,0 +1,17 @@
+use Rattle.std.proofs.Common.{map}
+use Rattle.editor_messages.specs.Names.{locations_json}
+use Rattle.editor_messages.specs.Views.{document_ranges_seen}
+use Rattle.std.specs.Prelude.{codes}
+use Rattle.json_parts.proofs.AddsLemmas.{added_then, adds_as, adds_then}
+use Rattle.editor_messages.specs.Views.{id_seen}
+use Rattle.editor_messages.proofs.ReplyLemmas.{reply_tokens}
+use Rattle.editor_messages.proofs.location.write_locations_reply.Goals as goal
+
+pub returns : goal.returns
+returns c =
+    let w0 = c.args.writer.now in
+    let w1 = c.write_head.new.writer in
+    let w2 = c.write_array.new.writer in
+    let w3 = c.write_end.new.writer in
+    adds_as c.write_end.result w0 w3 _ _ (reply_tokens (id_seen c.args.id) (codes "result") (locations_json (map document_ranges_seen c.args.documents.now)))
+    (adds_then c.write_end.result w0 w2 w3 _ _ (added_then w0 w1 w2 _ _ c.in_ok-write_head.ensures c.in_ok-write_array.ensures) c.write_end.ensures)

@@ -1,0 +1,8 @@
+use Rattle.std.proofs.Common.{map, take}
+use Rattle.json_parts.proofs.AddsLemmas.{Added}
+use Rattle.editor_messages.specs.Inner.Named.{changes_tokens}
+use Rattle.editor_messages.specs.Views.{document_ranges_seen}
+use Rattle.editor_messages.proofs.rename.write_changes.Given as goal
+
+abbrev pub invariant-loop-document : goal.invariant-loop-document
+invariant-loop-document l = Added l.initial.writer l.writer (changes_tokens l.name (map document_ranges_seen (take l.document-index l.documents)))
