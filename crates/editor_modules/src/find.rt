@@ -15,7 +15,7 @@ use std::alloc::{AllocError, Global};
 use tree_lint::policy::Governed;
 
 /// The module of a folder alone.
-fn modules_in<T: Tree>(
+pub fn modules_in<T: Tree>(
     alloc: Global,
     folder: &[u8],
     tree: &mut T,

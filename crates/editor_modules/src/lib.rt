@@ -5,4 +5,5 @@ mod diagnostics;
 mod find;
 mod told;
 
-pub use told::module_messages;
+pub use find::modules_in;
+pub use told::{file_uri, module_messages};

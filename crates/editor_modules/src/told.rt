@@ -18,7 +18,7 @@ use tf_rules::Hashing;
 use tfrules_command::file_names::MAX_FILES;
 
 /// The URI of the file of this name: that of its document if one is open.
-fn file_uri(alloc: Global, documents: &Documents, name: &[u8]) -> Result<String, AllocError>
+pub fn file_uri(alloc: Global, documents: &Documents, name: &[u8]) -> Result<String, AllocError>
     ensures { IfOk result (λ uri. string_bytes uri ≡ file_uri documents.now name.now) }
 {
     match documents.uri_at(name) {

@@ -28,5 +28,5 @@ module _ (units : Units) (text : List ℕ) (answer : Result Json ReplyError) whe
         },
       )
 
-pub editors_get : (units : Units) (text : List ℕ) (answer : Result Json ReplyError) → IsFormatting units (Some text) answer → MakesFormat units text answer
+pub editors_get : (units : Units) (text : List ℕ) (answer : Result Json ReplyError) → IsFormatting units text answer → MakesFormat units text answer
 editors_get units text answer is = by_format units text answer is.0 is.1 is.2

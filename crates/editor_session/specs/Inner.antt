@@ -1,3 +1,4 @@
 -- Definitions for the code's own parts, which its inner contracts use. Nobody has to believe them.
 pub mod Replied
 pub mod Heard
+pub mod Placed

@@ -1,10 +1,11 @@
 -- THE SESSION of an editor with the server, and what a message makes of it (Language Server Protocol 3.17, "Server
 -- lifecycle" and "Text Document Synchronization").
-use Rattle.std.specs.Prelude.{ℕ, List, [], Option, Some, None}
+use Rattle.std.specs.Prelude.{ℕ, Bool, false, List, [], Option, Some, None}
 use Rattle.open_files.specs.OpenTexts.{OpenText, with_open_text, without}
 use Rattle.text_places.specs.declared.place.Units.{Units}
 use Rattle.text_places.specs.declared.place.Units.TheVariants.{Utf16}
-use Rattle.editor_messages.specs.Messages.{Notification, Request, Initialize, Shutdown, Formatting, Symbols, Folds, Unknown, Text, Close, Exit, Other}
+use Rattle.editor_messages.specs.Messages.{Notification, Request, Initialize, Shutdown, Text, Close, Exit, Other}
+use Rattle.editor_messages.specs.declared.message.Abilities.{Abilities}
 use Rattle.editor_session.specs.declared.phase.Phase.{Phase}
 use Rattle.editor_session.specs.declared.phase.Phase.TheVariants as phase
 
@@ -12,19 +13,23 @@ pub record Session : Type 0 where
   pub phase : Phase
   -- in which places are counted
   pub units : Units
+  -- whether the editor takes edits for a version of a document
+  pub takes_versions : Bool
   -- the documents whose texts are known, the newest first
   pub documents : List OpenText
 
 -- before the first message
 abbrev pub new_session : Session
-new_session = record { phase = phase.Fresh; units = Utf16; documents = [] }
+new_session =
+    record { phase = phase.Fresh; units = Utf16; takes_versions = false; documents = [] }
 
 -- ---- texts
 
--- the document that has this URI has this text now, or one that is not known
-abbrev pub with_text : List ℕ → Option (List ℕ) → Session → Session
-with_text uri (Some text) s = record s { documents = with_open_text uri text s.documents }
-with_text uri None s = record s { documents = without uri s.documents }
+-- the document that has this URI has this version and text now, or a text that is not known
+abbrev pub with_text : List ℕ → Option ℕ → Option (List ℕ) → Session → Session
+with_text uri version (Some text) s =
+    record s { documents = with_open_text uri version text s.documents }
+with_text uri version None s = record s { documents = without uri s.documents }
 
 -- no text is known any more
 abbrev pub without_texts : Session → Session
@@ -32,11 +37,16 @@ without_texts s = record s { documents = [] }
 
 -- ---- requests
 
--- the session that an editor has begun, which counts places in these units
-abbrev pub after_initialize : Units → Session → Phase → Session
-after_initialize units s phase.Fresh = record s { phase = phase.Open; units = units }
-after_initialize units s phase.Open = s
-after_initialize units s phase.ShutDown = s
+-- the session that an editor with these abilities has begun
+abbrev pub after_initialize : Abilities → Session → Phase → Session
+after_initialize abilities s phase.Fresh =
+    record s {
+      phase = phase.Open;
+      units = abilities.units;
+      takes_versions = abilities.takes_versions;
+    }
+after_initialize abilities s phase.Open = s
+after_initialize abilities s phase.ShutDown = s
 
 abbrev pub after_shutdown : Session → Phase → Session
 after_shutdown s phase.Fresh = s
@@ -45,12 +55,9 @@ after_shutdown s phase.ShutDown = s
 
 -- the session after a request
 abbrev pub after_request : Session → Request → Session
-after_request s (Initialize units) = after_initialize units s s.phase
+after_request s (Initialize abilities) = after_initialize abilities s s.phase
 after_request s Shutdown = after_shutdown s s.phase
-after_request s (Formatting uri) = s
-after_request s (Symbols uri) = s
-after_request s (Folds uri) = s
-after_request s Unknown = s
+after_request s _ = s
 
 -- ---- notifications
 
@@ -62,8 +69,9 @@ while_open s t phase.ShutDown = s
 
 -- the session after a notification: the text of a document that is closed is not known
 abbrev pub after_notification : Session → Notification → Session
-after_notification s (Text uri text) = while_open s (with_text uri text s) s.phase
-after_notification s (Close uri) = while_open s (with_text uri None s) s.phase
+after_notification s (Text uri version text) =
+    while_open s (with_text uri version text s) s.phase
+after_notification s (Close uri) = while_open s (with_text uri None None s) s.phase
 after_notification s Exit = s
 after_notification s Other = s
 

@@ -44,7 +44,8 @@ PublishesWhileOpen phase.ShutDown Are turn = IsQuiet turn
 -- what the server says to a notification, after which this is the session: those of a document lead to diagnostics, and
 -- one ends the run
 abbrev pub IsHeard : Files → Session → Notification → Turn → Type 0
-IsHeard disk s (Text uri text) turn = PublishesWhileOpen s.phase (AreTold s disk uri text) turn
+IsHeard disk s (Text uri version text) turn =
+    PublishesWhileOpen s.phase (AreTold s disk uri text) turn
 IsHeard disk s (Close uri) turn = PublishesWhileOpen s.phase (AreToldClosed s disk uri) turn
 IsHeard disk s Exit turn = turn ≡ turns.End (exit_status s.phase)
 IsHeard disk s Other turn = IsQuiet turn
@@ -55,7 +56,7 @@ IsStep disk (Invalid id) before after turn =
 IsStep disk Response before after turn = (after ≡ before) × IsQuiet turn
 IsStep disk (Asks id request) before after turn =
     (after ≡ after_request before request)
-    × ((answer : Result Json ReplyError) × IsAnswer before request answer
+    × ((answer : Result Json ReplyError) × IsAnswer before disk request answer
     × Says (reply_json id answer) turn)
 IsStep disk (Tells n) before after turn =
     (after ≡ after_notification before n) × IsHeard disk after n turn
@@ -76,8 +77,8 @@ IsShortStep (Invalid id) before after turn = ⊥
 IsShortStep Response before after turn = ⊥
 IsShortStep (Asks id request) before after turn =
     (after ≡ before) × Says (error_json id error.OutOfMemory) turn
-IsShortStep (Tells (Text uri text)) before after turn =
-    (after ≡ after_notification before (Text uri None)) × IsQuiet turn
+IsShortStep (Tells (Text uri version text)) before after turn =
+    (after ≡ after_notification before (Text uri version None)) × IsQuiet turn
 IsShortStep (Tells (Close uri)) before after turn =
     (after ≡ after_notification before (Close uri)) × IsQuiet turn
 IsShortStep (Tells Exit) before after turn = ⊥

@@ -3,4 +3,9 @@ use Rattle.editor_session.specs.Sessions.{Session}
 use Rattle.editor_session.specs.declared.session.Session.{Session as SessionOf}
 
 abbrev pub session_seen : SessionOf → Session
-session_seen s = record { phase = s.phase; units = s.units; documents = s.documents }
+session_seen s = record {
+  phase = s.phase;
+  units = s.units;
+  takes_versions = s.takes_versions;
+  documents = s.documents;
+}

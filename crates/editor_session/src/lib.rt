@@ -5,6 +5,7 @@
 
 mod answer;
 pub mod laws;
+mod names;
 mod phase;
 mod session;
 mod step;

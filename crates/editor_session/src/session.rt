@@ -17,6 +17,8 @@ pub struct Session {
     pub(crate) phase: Phase,
     /// In which places are counted.
     pub(crate) units: Units,
+    /// Whether the editor takes edits for a version of a document.
+    pub(crate) takes_versions: bool,
     /// How names in files are hashed.
     pub(crate) hashing: Hashing,
     /// The documents whose texts are known.
@@ -31,6 +33,7 @@ impl Session {
         Session {
             phase: Phase::Fresh,
             units: Units::Utf16,
+            takes_versions: false,
             hashing,
             documents: Documents::new(alloc),
         }
@@ -53,18 +56,24 @@ impl Session {
 
     /// Forgets the text of the document that has this URI.
     pub(crate) fn forget(&mut self, uri: &str)
-        ensures { session_seen self.new ≡ with_text uri.now None (session_seen self.old) }
+        ensures { session_seen self.new ≡ with_text uri.now None None (session_seen self.old) }
     {
         self.documents.remove(uri);
     }
 
-    /// Keeps the text of the document that has this URI. If memory runs out, its text is not known.
-    pub(crate) fn keep(&mut self, alloc: Global, uri: &str, text: &str) -> Result<(), AllocError>
-        ensures kept { OnOk result
-            (session_seen self.new ≡ with_text uri.now (Some text.now) (session_seen self.old)) }
+    /// Keeps the version and the text of the document that has this URI. If memory runs out, its text is not known.
+    pub(crate) fn keep(
+        &mut self,
+        alloc: Global,
+        uri: &str,
+        version: Option<u64>,
+        text: &str,
+    ) -> Result<(), AllocError>
+        ensures kept { OnOk result (session_seen self.new
+            ≡ with_text uri.now version (Some text.now) (session_seen self.old)) }
         ensures forgotten { OnErr result
-            (session_seen self.new ≡ with_text uri.now None (session_seen self.old)) }
+            (session_seen self.new ≡ with_text uri.now None None (session_seen self.old)) }
     {
-        self.documents.set(alloc, uri, text)
+        self.documents.set(alloc, uri, version, text)
     }
 }

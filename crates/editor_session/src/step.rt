@@ -10,7 +10,6 @@ ghost use Rattle.editor_session.specs.Sessions.{after_request, exit_status, with
 ghost use Rattle.editor_session.specs.Steps.{IsStepOrShort, Says, Steps};
 ghost use Rattle.editor_session.specs.Inner.Heard.{TellsThose};
 ghost use Rattle.editor_session.specs.Told.{AreTold};
-ghost use Rattle.file_tree.specs.Files.{Files};
 ghost use Rattle.editor_session.specs.Views.{session_seen};
 
 use crate::phase::Phase;
@@ -47,9 +46,10 @@ impl Session {
             ≡ after_request (session_seen self.old) (request_seen request.entry) }
     {
         match (self.phase, request) {
-            (Phase::Fresh, Request::Initialize(units)) => {
+            (Phase::Fresh, Request::Initialize(abilities)) => {
                 self.phase = Phase::Open;
-                self.units = units;
+                self.units = abilities.units;
+                self.takes_versions = abilities.takes_versions;
             }
             (Phase::Open, Request::Shutdown) => self.phase = Phase::ShutDown,
             _ => {}
@@ -57,18 +57,19 @@ impl Session {
     }
 
     /// Answers a request.
-    fn answer(
+    fn answer<D: Disk>(
         &mut self,
         alloc: Global,
+        disk: &D,
         id: Id<'_>,
         request: Request<'_>,
     ) -> Result<Turn, AllocError>
         requires { HasNumbers (id_seen id) }
-        ensures { (disk : Files) → IfOk result (IsStepOrShort disk
+        ensures { IfOk result (IsStepOrShort (D.files disk.now)
             (Asks (id_seen id.entry) (request_seen request.entry))
             (session_seen self.old) (session_seen self.new)) }
     {
-        let Ok(reply) = self.reply(alloc, id, request) else {
+        let Ok(reply) = self.reply(alloc, disk, id, request) else {
             return say_error(alloc, id, ReplyError::OutOfMemory);
         };
         self.go_on(request);
@@ -82,16 +83,17 @@ impl Session {
         alloc: Global,
         disk: &D,
         uri: &str,
+        version: Option<u64>,
         text: &str,
     ) -> Result<Vec<Vec<u8>>, AllocError>
-        ensures taken { OnOk result
-            (session_seen self.new ≡ with_text uri.now (Some text.now) (session_seen self.old)) }
+        ensures taken { OnOk result (session_seen self.new
+            ≡ with_text uri.now version (Some text.now) (session_seen self.old)) }
         ensures forgotten { OnErr result
-            (session_seen self.new ≡ with_text uri.now None (session_seen self.old)) }
+            (session_seen self.new ≡ with_text uri.now None None (session_seen self.old)) }
         ensures told { IfOk result (TellsThose
             (AreTold (session_seen self.new) (D.files disk.now) uri.now (Some text.now))) }
     {
-        self.keep(alloc, uri, text)?;
+        self.keep(alloc, uri, version, text)?;
         match text_messages(alloc, self, disk, uri, text) {
             Ok(messages) => Ok(messages),
             Err(error) => {
@@ -107,17 +109,18 @@ impl Session {
         alloc: Global,
         disk: &D,
         uri: &str,
+        version: Option<u64>,
         text: Option<&str>,
     ) -> Result<Vec<Vec<u8>>, AllocError>
         ensures taken { OnOk result (session_seen self.new
-            ≡ with_text uri.now (text_seen text.entry) (session_seen self.old)) }
+            ≡ with_text uri.now version (text_seen text.entry) (session_seen self.old)) }
         ensures forgotten { OnErr result
-            (session_seen self.new ≡ with_text uri.now None (session_seen self.old)) }
+            (session_seen self.new ≡ with_text uri.now None None (session_seen self.old)) }
         ensures told { IfOk result (TellsThose (AreTold (session_seen self.new)
             (D.files disk.now) uri.now (text_seen text.entry))) }
     {
         match text {
-            Some(text) => self.take_text(alloc, disk, uri, text),
+            Some(text) => self.take_text(alloc, disk, uri, version, text),
             None => {
                 self.forget(uri);
                 lost_messages(alloc, uri)
@@ -126,13 +129,21 @@ impl Session {
     }
 
     /// Takes in what a document's text is, if the editor has begun.
-    fn hear_text<D: Disk>(&mut self, alloc: Global, disk: &D, uri: &str, text: Option<&str>) -> Turn
-        ensures { IsStepOrShort (D.files disk.now) (Tells (Text uri.now (text_seen text.entry)))
+    fn hear_text<D: Disk>(
+        &mut self,
+        alloc: Global,
+        disk: &D,
+        uri: &str,
+        version: Option<u64>,
+        text: Option<&str>,
+    ) -> Turn
+        ensures { IsStepOrShort (D.files disk.now)
+            (Tells (Text uri.now version (text_seen text.entry)))
             (session_seen self.old) (session_seen self.new) result }
     {
         match self.phase {
             Phase::Fresh => Turn::Quiet,
-            Phase::Open => match self.take_change(alloc, disk, uri, text) {
+            Phase::Open => match self.take_change(alloc, disk, uri, version, text) {
                 Ok(messages) => Turn::Publish(messages),
                 Err(_) => Turn::Quiet,
             },
@@ -164,7 +175,9 @@ impl Session {
             (session_seen self.old) (session_seen self.new) result }
     {
         match notification {
-            Notification::Text(uri, text) => self.hear_text(alloc, disk, uri, text),
+            Notification::Text { uri, version, text } => {
+                self.hear_text(alloc, disk, uri, version, text)
+            }
             Notification::Close(uri) => self.hear_close(alloc, disk, uri),
             Notification::Exit => Turn::End(exit_status(self.phase)),
             Notification::Other => Turn::Quiet,
@@ -185,7 +198,7 @@ impl Session {
         match message {
             Message::Invalid(id) => say_error(alloc, id, ReplyError::NotRequest),
             Message::Response => Ok(Turn::Quiet),
-            Message::Asks(id, request) => self.answer(alloc, id, request),
+            Message::Asks(id, request) => self.answer(alloc, disk, id, request),
             Message::Tells(notification) => Ok(self.hear(alloc, disk, notification)),
         }
     }

@@ -16,7 +16,7 @@ type Said = (&'static [u8], &'static [u8]);
 static SESSION: [Said; 6] = [
     (
         b"Content-Length: 75\r\n\r\n{\"jsonrpc\":\"2.0\",\"id\":0,\"method\":\"initialize\",\"params\":{\"capabilities\":{}}}",
-        b"Content-Length: 268\r\n\r\n{\"jsonrpc\":\"2.0\",\"id\":0,\"result\":{\"capabilities\":{\"positionEncoding\":\"utf-16\",\"textDocumentSync\":{\"openClose\":true,\"change\":1},\"documentFormattingProvider\":true,\"documentSymbolProvider\":true,\"foldingRangeProvider\":true},\"serverInfo\":{\"name\":\"tfls\",\"version\":\"0.3.0\"}}}",
+        b"Content-Length: 342\r\n\r\n{\"jsonrpc\":\"2.0\",\"id\":0,\"result\":{\"capabilities\":{\"positionEncoding\":\"utf-16\",\"textDocumentSync\":{\"openClose\":true,\"change\":1},\"documentFormattingProvider\":true,\"documentSymbolProvider\":true,\"foldingRangeProvider\":true,\"definitionProvider\":true,\"referencesProvider\":true,\"renameProvider\":true},\"serverInfo\":{\"name\":\"tfls\",\"version\":\"0.3.0\"}}}",
     ),
     (
         b"Content-Length: 107\r\n\r\n{\"jsonrpc\":\"2.0\",\"method\":\"textDocument/didOpen\",\"params\":{\"textDocument\":{\"uri\":\"a\",\"text\":\"a=1\\nb = 2\"}}}",

@@ -95,10 +95,10 @@ const NO_EDITS: &str = r#"{"jsonrpc":"2.0","id":1,"result":[]}"#;
 const NOTHING: &str = r#"{"jsonrpc":"2.0","id":1,"result":null}"#;
 
 const IN_UTF16: &str =
-    r#"{"jsonrpc":"2.0","id":1,"result":{"capabilities":{"positionEncoding":"utf-16","textDocumentSync":{"openClose":true,"change":1},"documentFormattingProvider":true,"documentSymbolProvider":true,"foldingRangeProvider":true},"serverInfo":{"name":"tfls","version":"0.3.0"}}}"#;
+    r#"{"jsonrpc":"2.0","id":1,"result":{"capabilities":{"positionEncoding":"utf-16","textDocumentSync":{"openClose":true,"change":1},"documentFormattingProvider":true,"documentSymbolProvider":true,"foldingRangeProvider":true,"definitionProvider":true,"referencesProvider":true,"renameProvider":true},"serverInfo":{"name":"tfls","version":"0.3.0"}}}"#;
 
 const IN_BYTES: &str =
-    r#"{"jsonrpc":"2.0","id":1,"result":{"capabilities":{"positionEncoding":"utf-8","textDocumentSync":{"openClose":true,"change":1},"documentFormattingProvider":true,"documentSymbolProvider":true,"foldingRangeProvider":true},"serverInfo":{"name":"tfls","version":"0.3.0"}}}"#;
+    r#"{"jsonrpc":"2.0","id":1,"result":{"capabilities":{"positionEncoding":"utf-8","textDocumentSync":{"openClose":true,"change":1},"documentFormattingProvider":true,"documentSymbolProvider":true,"foldingRangeProvider":true,"definitionProvider":true,"referencesProvider":true,"renameProvider":true},"serverInfo":{"name":"tfls","version":"0.3.0"}}}"#;
 
 pub const BEGIN: Said = (
     r#"{"jsonrpc":"2.0","id":1,"method":"initialize","params":{}}"#,

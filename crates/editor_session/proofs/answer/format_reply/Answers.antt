@@ -17,12 +17,12 @@ returns-in-Some c =
     let formatted = string_bytes c.in-Some.formatted in
     let has = subst (λ o. HasFormat text (option_map string_bytes o)) c.in-Some.is c.in_ok-formatted.ensures in
     let is = ap (λ f. json_text (reply_json (id_seen c.args.id) (Ok (edits_json (placed_edits c.args.units text (line_edits text f)))))) c.as_str.ensures.value in
-    replied (IsFormatting c.args.units (Some text)) (id_seen c.args.id) (Ok (edits_json (placed_edits c.args.units text (line_edits text formatted)))) c.changes_reply.result
+    replied (IsFormatting c.args.units text) (id_seen c.args.id) (Ok (edits_json (placed_edits c.args.units text (line_edits text formatted)))) c.changes_reply.result
     (Some formatted, has, refl) (IfOk-weaker c.changes_reply.result _ _ (λ reply h. h ∙ is) c.changes_reply.ensures)
 
 pub returns-in-None : goal.returns-in-None
 returns-in-None c =
     let text = c.args.text.now in
     let has = subst (λ o. HasFormat text (option_map string_bytes o)) c.in-None.is c.in_ok-formatted.ensures in
-    replied (IsFormatting c.args.units (Some text)) (id_seen c.args.id) (Ok (edits_json (placed_edits c.args.units text []))) c.edits_reply.result
+    replied (IsFormatting c.args.units text) (id_seen c.args.id) (Ok (edits_json (placed_edits c.args.units text []))) c.edits_reply.result
     (None, has, refl) c.edits_reply.ensures

@@ -1,6 +1,6 @@
 use Rattle.std.proofs.Common.{◌∙◌, ap, refl}
 use Rattle.std.proofs.lemmas.Result.{IfOk-weaker}
-use Rattle.std.specs.Prelude.{Ok, Some}
+use Rattle.std.specs.Prelude.{Ok}
 use Rattle.json_parts.specs.Values.{json_text}
 use Rattle.editor_messages.specs.Outlines.{folds_json}
 use Rattle.editor_messages.specs.Replies.{result_json}
@@ -12,5 +12,5 @@ use Rattle.editor_session.proofs.answer.text_folds.Goals as goal
 pub returns : goal.returns
 returns c =
     let folds = c.in_ok-folds.folds.items in
-    replied (AreFolds (Some c.args.text.now)) (id_seen c.args.id) (Ok (folds_json folds)) c.folds_reply.result (folds, c.in_ok-folds.ensures, refl)
+    replied (AreFolds c.args.text.now) (id_seen c.args.id) (Ok (folds_json folds)) c.folds_reply.result (folds, c.in_ok-folds.ensures, refl)
     (IfOk-weaker c.folds_reply.result _ _ (λ reply h. h ∙ ap (λ l. json_text (result_json (id_seen c.args.id) (folds_json l))) c.as_slice.ensures.value) c.folds_reply.ensures)

@@ -9,22 +9,22 @@ use Rattle.editor_session.proofs.ReplyLemmas.{replied}
 use Rattle.editor_session.proofs.session.Session.open_reply.Goals as goal
 
 pub returns-in-Initialize : goal.returns-in-Initialize
-returns-in-Initialize c =
+returns-in-Initialize g c =
     let s = session_seen c.args.self.now in
-    let is = c.in-Initialize.is in
-    replied (IsOpenAnswer s (request_seen c.args.request)) (id_seen c.args.id) (Err InitializedAlready) c.error_reply.result
-    (subst (λ r. IsOpenAnswer s (request_seen r) (Err InitializedAlready)) (sym is) refl) c.error_reply.ensures
+    let disk = g.D.Disk.files c.args.disk.now in
+    replied (IsOpenAnswer s disk (request_seen c.args.request)) (id_seen c.args.id) (Err InitializedAlready) c.error_reply.result
+    (subst (λ r. IsOpenAnswer s disk (request_seen r) (Err InitializedAlready)) (sym c.in-Initialize.is) refl) c.error_reply.ensures
 
 pub returns-in-Shutdown : goal.returns-in-Shutdown
-returns-in-Shutdown c =
+returns-in-Shutdown g c =
     let s = session_seen c.args.self.now in
-    let is = c.in-Shutdown.is in
-    replied (IsOpenAnswer s (request_seen c.args.request)) (id_seen c.args.id) (Ok null) c.null_reply.result
-    (subst (λ r. IsOpenAnswer s (request_seen r) (Ok null)) (sym is) refl) c.null_reply.ensures
+    let disk = g.D.Disk.files c.args.disk.now in
+    replied (IsOpenAnswer s disk (request_seen c.args.request)) (id_seen c.args.id) (Ok null) c.null_reply.result
+    (subst (λ r. IsOpenAnswer s disk (request_seen r) (Ok null)) (sym c.in-Shutdown.is) refl) c.null_reply.ensures
 
 pub returns-in-Unknown : goal.returns-in-Unknown
-returns-in-Unknown c =
+returns-in-Unknown g c =
     let s = session_seen c.args.self.now in
-    let is = c.in-Unknown.is in
-    replied (IsOpenAnswer s (request_seen c.args.request)) (id_seen c.args.id) (Err UnknownMethod) c.error_reply-in-Unknown.result
-    (subst (λ r. IsOpenAnswer s (request_seen r) (Err UnknownMethod)) (sym is) refl) c.error_reply-in-Unknown.ensures
+    let disk = g.D.Disk.files c.args.disk.now in
+    replied (IsOpenAnswer s disk (request_seen c.args.request)) (id_seen c.args.id) (Err UnknownMethod) c.error_reply-in-Unknown.result
+    (subst (λ r. IsOpenAnswer s disk (request_seen r) (Err UnknownMethod)) (sym c.in-Unknown.is) refl) c.error_reply-in-Unknown.ensures

@@ -1,0 +1,4 @@
+pub mod Inner
+pub mod Modules
+pub mod Names
+pub mod Views
