@@ -558,6 +558,61 @@ vim.wait(20000, function() return #vim.lsp.get_active_clients() == 0 end, 20)
 vim.fn.writefile({ tostring(#clients) }, "clients")
 vim.cmd("qall!")
 """
+# A module whose variable is used in three files, and the same with another name.
+NAMED = {
+    'a.tf': 'variable "x" {\n  type = string\n}\n\nlocals {\n  y = [var.x, "😀 ${var.x}"]\n}\n'.encode(),
+    'b.tf': 'output "o" {\n  value = "😀é${local.y}${var.x}"\n}\n'.encode(),
+    'c.tf': b'output "p" {\n  value = var.x\n}\n',
+}
+RENAMED = {
+    'a.tf': 'variable "zone" {\n  type = string\n}\n\nlocals {\n  y = [var.zone, "😀 ${var.zone}"]\n}\n'.encode(),
+    'b.tf': 'output "o" {\n  value = "😀é${local.y}${var.zone}"\n}\n'.encode(),
+    'c.tf': b'output "p" {\n  value = var.zone\n}\n',
+}
+# The files and lines at which the variable is, from 1, the declaration first.
+PLACES = ['a.tf 1', 'a.tf 6', 'a.tf 6', 'b.tf 2', 'c.tf 2']
+RENAMING_LUA = """
+vim.g.tfls_program = "PROGRAM"
+vim.cmd("source PLUGIN")
+vim.cmd("set hidden")
+vim.cmd("edit a.tf")
+vim.cmd("edit b.tf")
+vim.wait(20000, function()
+  local client = vim.lsp.get_active_clients()[1]
+  return client and client.initialized
+end, 5)
+local client = vim.lsp.get_active_clients()[1]
+local function ask(method, more)
+  vim.fn.search("var[.]")
+  local params = vim.tbl_extend("error", vim.lsp.util.make_position_params(0, client.offset_encoding), more)
+  return vim.lsp.buf_request_sync(0, "textDocument/" .. method, params, 20000)[client.id].result
+end
+local function rename(name)
+  vim.lsp.util.apply_workspace_edit(ask("rename", { newName = name }), client.offset_encoding)
+  vim.cmd("silent wall")
+end
+local said = {}
+for _, it in ipairs({ ask("definition", {}), ask("references", { context = { includeDeclaration = true } }) }) do
+  local places = vim.tbl_map(function(place)
+    return vim.fn.fnamemodify(place.filename, ":t") .. " " .. place.lnum
+  end, vim.lsp.util.locations_to_items(it, client.offset_encoding))
+  table.insert(said, table.concat(places, ", "))
+end
+table.insert(said, ask("prepareRename", {}).placeholder)
+rename("zone")
+vim.fn.writefile(said, "said")
+FORM
+vim.lsp.stop_client(vim.lsp.get_active_clients())
+vim.wait(20000, function() return #vim.lsp.get_active_clients() == 0 end, 20)
+vim.cmd("qall!")
+"""
+# A rename by the editor's own command, which asks for the name before.
+BACK_LUA = """
+vim.fn.search("var[.]")
+vim.lsp.buf.rename("x")
+vim.wait(20000, function() return vim.fn.search("zone", "nw") == 0 end, 20)
+vim.cmd("silent wall")
+"""
 
 
 def noting(group):
@@ -598,7 +653,7 @@ def run_settings(group):
 
 def run_nvim_server(group):
     """Neovim's client, with the language server."""
-    if not has_server(group, 39) or not group.has('nvim', checks=39):
+    if not has_server(group, 45) or not group.has('nvim', checks=45):
         return
 
     def edit(name, text, typed='n=1', program=None, diagnostics=b''):
@@ -638,6 +693,22 @@ def run_nvim_server(group):
     group.check('another file', edit('a.txt', OTHER)[1:], (b'n=1\nn=1\n' + OTHER, '0', '', ''))
     shown = edit('a.tf', OTHER, program='no-such-program')
     group.check('without the program', shown[1:], (b'n=1\nn=1\n' + OTHER, '0', '', 'no-such-program: not found'))
+    check_nvim_names(group)
+
+
+def check_nvim_names(group):
+    """Neovim finds a name and renames it in the files of a module, one of which isn't open."""
+    for name, form, files in (('a new name', '', RENAMED), ('a new name and the old one', BACK_LUA, NAMED)):
+        here = group.fresh()
+        put(here, NAMED)
+        script = RENAMING_LUA.replace('PROGRAM', str(noting(group))).replace('FORM', form)
+        (here / 'test.lua').write_text(script.replace('PLUGIN', str(group.contrib / 'editors' / 'tfls.lua')))
+        done = group.call('nvim', '-u', 'NONE', '-i', 'NONE', '--headless', '-c', 'luafile test.lua', cwd=here)
+        said = (here / 'said').read_text().splitlines() if (here / 'said').exists() else done
+        group.check(name + ': where it is', said, [PLACES[0], ', '.join(PLACES), 'x'])
+        group.check(name, {it: (here / it).read_bytes() for it in files}, files)
+        status = (here / 'status').read_text().strip() if (here / 'status').exists() else ''
+        group.check(name + ': the status', (status, done[2]), ('0', b''))
 
 
 SERVED_EMACS = """
@@ -681,9 +752,50 @@ FORGET = r"""
 """
 
 
+# Where a variable is, and a new name for it, in two buffers.
+RENAMING_EMACS = """
+(require 'package)
+(package-initialize)
+(define-derived-mode terraform-mode prog-mode "Terraform")
+(setq make-backup-files nil eglot-sync-connect 30)
+(load "CONTRIB/emacs/tfls.el" nil t)
+(fset 'y-or-n-p (lambda (_) t))
+(find-file "b.tf")
+(terraform-mode)
+(apply #'eglot (eglot--guess-contact))
+(let ((end (+ (float-time) 30)))
+  (while (and (not (eglot-managed-p)) (< (float-time) end)) (accept-process-output nil 0.05)))
+(goto-char (point-min))
+(search-forward "var.")
+(defun places (found)
+  (dolist (it found)
+    (let ((place (xref-item-location it)))
+      (princ (format "%s %d," (file-name-nondirectory (xref-location-group place)) (xref-location-line place))))))
+(places (xref-backend-definitions 'eglot (xref-backend-identifier-at-point 'eglot)))
+(princ "\n")
+(places (xref-backend-references 'eglot (xref-backend-identifier-at-point 'eglot)))
+(eglot-rename "zone")
+(save-some-buffers t)
+(eglot-shutdown (eglot-current-server) nil 30)
+"""
+
+
+def check_emacs_names(group):
+    """Eglot finds a name and renames it in the files of a module, one of which is open."""
+    here = group.fresh()
+    put(here, NAMED)
+    (here / 'test.el').write_text(RENAMING_EMACS.replace('CONTRIB', str(group.contrib)))
+    path = group.before_path(noting(group).parent)
+    done = group.call('emacs', '-q', '--no-site-file', '--batch', '-l', 'test.el', cwd=here, PATH=path)
+    found = [line.strip(',').split(',') for line in done[1].decode().splitlines()]
+    group.check('where a name is', [sorted(it) for it in found] or done, [PLACES[:1], PLACES])
+    group.check('a new name', {it: (here / it).read_bytes() for it in RENAMED}, RENAMED)
+    group.check('the status', done[0], 0)
+
+
 def run_emacs_server(group):
     """Eglot in Emacs, with the language server."""
-    if not has_server(group, 7) or not group.has('emacs', checks=7):
+    if not has_server(group, 10) or not group.has('emacs', checks=10):
         return
     here = group.fresh()
     start = [
@@ -695,7 +807,7 @@ def run_emacs_server(group):
         "(progn (require 'package) (package-initialize) (require 'eglot))",
     ]
     if group.call(*start, cwd=here)[0] != 0:
-        group.skip('eglot', 7)
+        group.skip('eglot', 10)
         return
 
     def edit(text, typed='n=1', form='', load='(load "%s/emacs/tfls.el" nil t)' % group.contrib):
@@ -720,6 +832,7 @@ def run_emacs_server(group):
     marked = edit(OTHER, '/*\U0001F600*/ n=]', form=FAULTS)
     group.check('what flymake shows', marked[1], '9 10 tfls: unexpected token t')
     group.check('a server that fails', edit(OTHER, form=FORGET)[1], 'nil t')
+    check_emacs_names(group)
     warnings = group.call(
         *start,
         '--eval',

@@ -12,6 +12,7 @@ import pathlib
 
 from protocol import (
     FAREWELL,
+    at_place,
     did_change,
     did_close,
     did_open,
@@ -29,6 +30,9 @@ KNOWN, TEXT, PRINTED = 'file:///no/folder/known.tf', 'a=1\n', 'a = 1\n'
 OTHER = 'file:///no/folder/other.tf'
 LARGEST = 4_194_304
 MAX_HEAD, MAX_BODY = 4096, 67_108_864
+# Requests about the name at a place, each after `textDocument/`.
+ABOUT_NAMES = ('definition', 'references', 'prepareRename', 'rename')
+PREPARES = '{"prepareProvider":true}'
 
 
 def answer(number, member):
@@ -68,17 +72,39 @@ def unnamed(number):
     return error(number, -32602, 'no document is named')
 
 
+def unplaced(number):
+    return error(number, -32602, 'no place in a document is named')
+
+
+def no_identifier(number):
+    return error(number, -32602, 'the new name is not an identifier')
+
+
 def unknown_text(number):
     return error(number, -32801, 'the text of this document is not known')
 
 
-def initialized(number, units='utf-16'):
+def no_name(number):
+    return error(number, -32803, 'no name that can be changed is here')
+
+
+def name_taken(number):
+    return error(number, -32803, 'the module has this name already')
+
+
+def initialized(number, units='utf-16', renames='true'):
     return result(
         number,
         '{"capabilities":{"positionEncoding":"%s","textDocumentSync":{"openClose":true,"change":1},'
-        '"documentFormattingProvider":true,"documentSymbolProvider":true,"foldingRangeProvider":true},'
-        '"serverInfo":{"name":"tfls","version":"%s"}}' % (units, VERSION),
+        '"documentFormattingProvider":true,"documentSymbolProvider":true,"foldingRangeProvider":true,'
+        '"definitionProvider":true,"referencesProvider":true,"renameProvider":%s},'
+        '"serverInfo":{"name":"tfls","version":"%s"}}' % (units, renames, VERSION),
     )
+
+
+def reply(number, member):
+    """An answer with this result or error, a value."""
+    return answer(number, spelled(member)[1:-1])
 
 
 def edit(first, start, last, end, text):
@@ -107,9 +133,12 @@ def spelled(value):
 
 
 def kind(body):
-    """What an answer says, but for its id and the places and texts of edits."""
+    """What an answer says, but for its id and the documents, places and texts in it."""
     said = body.partition(b',"error":')[2] or body.partition(b',"result":')[2]
-    return b'edits' if b'"newText"' in said else said
+    for word in (b'"documentChanges":[', b'"changes":{', b'"newText":', b'"placeholder":', b'"uri":'):
+        if word in said:
+            return word
+    return said
 
 
 def change(uri, changes, **more):
@@ -205,6 +234,7 @@ def open_rows():
     yield from requests()
     yield from passed_over()
     yield from documents()
+    yield from names()
 
 
 def not_requests():
@@ -279,6 +309,7 @@ def passed_over():
         ('initialize as a notification', notification('initialize', {'capabilities': {}})),
         ('shutdown as a notification', notification('shutdown')),
         ('formatting as a notification', notification('textDocument/formatting', {'textDocument': {'uri': KNOWN}})),
+        ('rename as a notification', notification('textDocument/rename', {'textDocument': {'uri': KNOWN}})),
         ('$/cancelRequest', notification('$/cancelRequest', {'id': 1})),
         ('$/setTrace', notification('$/setTrace', {'value': 'off'})),
         ('new settings', notification('workspace/didChangeConfiguration', {'settings': {}})),
@@ -418,10 +449,279 @@ def texts():
     ], [edits('1')]
 
 
+# --- names -------------------------------------------------------------------------------------------------------------
+
+# A document that is in no module, with a variable of two letters that is used twice in a line.
+ALONE = 'a'
+USED = 'variable "xy" {}\n/* \U0001F600 */ z = [var.xy, local.w, var . xy]\n'
+FRONT = {'line': 0, 'character': 0}
+# In UTF-16: where the variable is declared, and where it is used.
+DECLARED, FIRST, SECOND = (0, 10, 12), (1, 18, 20), (1, 37, 39)
+# Parameters after the document's that name no place, as JSON.
+NO_PLACES = [
+    ('no position', ''),
+    ('a position that is null', ',"position":null'),
+    ('a position that is a number', ',"position":0'),
+    ('a position that is a text', ',"position":"0:0"'),
+    ('a position that is an array', ',"position":[0,0]'),
+    ('an empty position', ',"position":{}'),
+    ('a position in a list', ',"position":[{"line":0,"character":0}]'),
+    ('a position of another case', ',"Position":{"line":0,"character":0}'),
+    ('a range', ',"range":{"start":{"line":0,"character":0},"end":{"line":0,"character":0}}'),
+    ('a line alone', ',"position":{"line":0}'),
+    ('a character alone', ',"position":{"character":0}'),
+    ('a line of another case', ',"position":{"Line":0,"character":0}'),
+    ('a place, and then none', ',"position":{"line":0,"character":0},"position":null'),
+    ('a character, and then none', ',"position":{"line":0,"character":0,"character":null}'),
+    ('a position within another', ',"position":{"position":{"line":0,"character":0}}'),
+    ('a position in the document', ',"x":{"position":{"line":0,"character":0}}'),
+]
+# Numbers that are no lines and no characters.
+NO_COUNTS = [
+    *('-1', '-0', '0.5', '0.0', '1e2', '1E2', '0e0', '1e-1', '-1.5', '18446744073709551616', '9' * 400, '1e400'),
+    *('null', 'true', 'false', '"0"', '""', '[0]', '[]', '{}', '{"line":0}'),
+]
+NO_IDENTIFIERS = [
+    *('', '1', '1a', '-', '-a', 'a b', ' a', 'a ', 'a.b', 'a\n', '"a"', 'a"', '${a}', 'a/**/', '*', '\0', 'a\0', '%'),
+    *('\U0001F600', 'a\u2028', 'a\xa0', '\u0301', '\u0661', '\u200b', 'a\u2019', '\ufeffa', '日 本', 'a:b', 'a/b', 'é!'),
+]
+IDENTIFIERS = [
+    *('a', 'é', 'a-b', 'a-', '_', '__', '_-1', 'a1', 'A', 'var', 'for', 'null', 'true', 'if', '日本', '\U0001D4B3', 'w'),
+    *('z', 'e\u0301', 'a\u0661', 'ª', 'x' * 5000, 'variable'),
+]
+
+
+def about(method, params, number=1):
+    """A request with these parameters, as JSON."""
+    body = '{"jsonrpc":"2.0","id":%d,"method":"textDocument/%s","params":%s}'
+    return (body % (number, method, params)).encode()
+
+
+def requests_with(params):
+    """A request of each kind about names with these parameters, as JSON. A new name is no identifier."""
+    return [about(method, params, number) for number, method in enumerate(ABOUT_NAMES)]
+
+
+def errors_of(make):
+    """The answer to each of these."""
+    return [make(str(number)) for number, _ in enumerate(ABOUT_NAMES)]
+
+
+def of_document(uri, more):
+    return '{"textDocument":{"uri":%s}%s}' % (spelled(uri), more)
+
+
+def spot(line, character):
+    return {'line': line, 'character': character}
+
+
+def part(line, begin, end):
+    """A range in a line, as JSON."""
+    return spelled({'start': spot(line, begin), 'end': spot(line, end)})
+
+
+def locations(number, uri, *parts):
+    return result(number, '[%s]' % ','.join('{"uri":%s,"range":%s}' % (spelled(uri), part(*it)) for it in parts))
+
+
+def preparation(number, name, *it):
+    return result(number, '{"range":%s,"placeholder":%s}' % (part(*it), spelled(name)))
+
+
+def new_texts(new, *parts):
+    """Edits that put a new name into parts of a document."""
+    return '[%s]' % ','.join('{"range":%s,"newText":%s}' % (part(*it), spelled(new)) for it in parts)
+
+
+def changes(number, uri, new, *parts):
+    return result(number, '{"changes":{%s:%s}}' % (spelled(uri), new_texts(new, *parts)))
+
+
+def versioned_changes(number, uri, version, new, *parts):
+    text = '{"documentChanges":[{"textDocument":{"uri":%s,"version":%s},"edits":%s}]}'
+    return result(number, text % (spelled(uri), version, new_texts(new, *parts)))
+
+
+def rename(number, uri, place, new):
+    return at_place('rename', newName=new)(number, uri, place)
+
+
+def names():
+    yield from no_places()
+    yield from unknown_names()
+    yield from places_of_names()
+    yield from new_names()
+    yield from kinds_of_names()
+
+
+def no_places():
+    """Requests that name no place in a document."""
+    for name, more in NO_PLACES:
+        yield 'names at ' + name, requests_with(of_document(KNOWN, more)), errors_of(unplaced)
+    for count in NO_COUNTS:
+        for name in ('{"line":%s,"character":0}', '{"line":0,"character":%s}'):
+            more = ',"position":' + name % count
+            yield 'names at %s' % more[1:60], requests_with(of_document(KNOWN, more)), errors_of(unplaced)
+    for uri in (7, None, True, [KNOWN], {'uri': KNOWN}):
+        params = of_document(uri, ',"position":{"line":0,"character":0}')
+        yield 'names in the URI %r' % (uri,), requests_with(params), errors_of(unplaced)
+    for params in ('null', '[]', '{}', '"x"', '{"position":{"line":0,"character":0}}', '{"textDocument":null}'):
+        yield 'names with the parameters ' + params, requests_with(params), errors_of(unplaced)
+    without = [b'{"id":%d,"method":"textDocument/%s"}' % (n, it.encode()) for n, it in enumerate(ABOUT_NAMES)]
+    yield 'names without parameters', without, errors_of(unplaced)
+
+
+def unknown_names():
+    """Documents that aren't known, and places without a name."""
+    at_front = ',"position":{"line":0,"character":0}'
+    yield 'names of an unknown document', requests_with(of_document('b', at_front)), errors_of(unknown_text)
+    yield 'names of a URI that is nearly the known one', requests_with(of_document(KNOWN + '/', at_front)), errors_of(
+        unknown_text
+    )
+    ask = requests_with(of_document(ALONE, at_front))
+    yield 'names of a document that was closed', [did_open(ALONE, USED), did_close(ALONE)] + ask, errors_of(
+        unknown_text
+    )
+    ranged = change(ALONE, [{'range': RANGE, 'text': 'b'}])
+    yield 'names of a text that is lost', [did_open(ALONE, USED), ranged] + ask, errors_of(unknown_text)
+    nothing = [result('0', '[]'), result('1', '[]'), result('2', 'null'), no_identifier('3')]
+    yield 'no name at the front', [did_open(ALONE, USED)] + ask, nothing
+    yield 'no name in a text without names', requests_with(of_document(KNOWN, at_front)), nothing
+    yield 'no name in a refused text', [did_open(ALONE, USED + '}')] + requests_with(
+        of_document(ALONE, ',"position":{"line":0,"character":11}')
+    ), nothing
+    yield 'a new name where no name is', [rename(1, KNOWN, FRONT, 'b')], [no_name('1')]
+    yield 'a new name in a refused text', [did_open(ALONE, USED + '}'), rename(1, ALONE, spot(0, 11), 'b')], [
+        no_name('1')
+    ]
+
+
+def places_of_names():
+    """Each place of the lines with a variable, and places past their ends."""
+    at_declaration = {(0, character) for character in range(10, 13)}
+    at_use = {(1, character) for character in [*range(14, 21), *range(31, 40)]}
+    for line, ends in ((0, 20), (1, 43), (2, 2)):
+        for character in [*range(ends), 2**63, 2**64 - 1]:
+            here = (line, character) in at_declaration | at_use
+            found = SECOND if character > 30 else FIRST if line else DECLARED
+            place = spot(line, character)
+            yield 'a place at %d:%d' % (line, character), [
+                did_open(ALONE, USED),
+                at_place('definition')(1, ALONE, place),
+                at_place('prepareRename')(2, ALONE, place),
+            ], [
+                locations('1', ALONE, *([DECLARED] if here else [])),
+                preparation('2', 'xy', *found) if here else local_at('2', line, character),
+            ]
+    for line in (3, 1000, 2**64 - 1):
+        place = spot(line, 0)
+        yield 'the line %d' % line, [did_open(ALONE, 'x = var.a'), at_place('prepareRename')(1, ALONE, place)], [
+            preparation('1', 'a', 0, 8, 9)
+        ]
+    yield 'a place that comes twice', [
+        did_open(ALONE, USED),
+        about('prepareRename', of_document(ALONE, ',"position":{"line":7,"line":0,"character":1,"character":12}')),
+    ], [preparation('1', 'xy', *DECLARED)]
+    yield 'a place with more members', [
+        did_open(ALONE, USED),
+        about('prepareRename', of_document(ALONE, ',"position":{"x":[],"character":10,"y":{},"line":0},"z":0')),
+    ], [preparation('1', 'xy', *DECLARED)]
+
+
+def local_at(number, line, character):
+    """The answer at the places of the local value that is used in the second line."""
+    is_there = line == 1 and 22 <= character <= 29
+    return preparation(number, 'w', 1, 28, 29) if is_there else result(number, 'null')
+
+
+def new_names():
+    """New names, good and bad ones, in a document alone."""
+    opened, all_three = did_open(ALONE, USED), (DECLARED, FIRST, SECOND)
+    for new in NO_IDENTIFIERS:
+        sent = [opened, rename(1, ALONE, spot(0, 10), new), rename(2, ALONE, FRONT, new)]
+        yield 'the new name %r' % new, sent, [no_identifier('1'), no_identifier('2')]
+    for new in (None, 1, 1.5, True, ['a'], {'newName': 'a'}):
+        yield 'the new name %r' % (new,), [opened, rename(1, ALONE, spot(0, 10), new)], [no_identifier('1')]
+    yield 'no new name', [opened, at_place('rename')(1, ALONE, spot(0, 10))], [no_identifier('1')]
+    for new in IDENTIFIERS:
+        sent = [opened, rename(1, ALONE, spot(1, 14), new)]
+        yield 'the new name %r' % new[:20], sent, [changes('1', ALONE, new, *all_three)]
+    yield 'a new name with escapes', [
+        opened,
+        about('rename', of_document(ALONE, ',"position":{"line":0,"character":12},"newName":"\\u0061\\ud835\\udcb3"')),
+    ], [changes('1', ALONE, 'a\U0001D4B3', *all_three)]
+    yield 'a new name that comes twice', [
+        opened,
+        about('rename', of_document(ALONE, ',"position":{"line":0,"character":12},"newName":"1","newName":"a"')),
+    ], [changes('1', ALONE, 'a', *all_three)]
+    yield 'the name that it has', [opened, rename(1, ALONE, spot(0, 10), 'xy')], [name_taken('1')]
+    yield 'a name that is declared', [did_open(ALONE, USED + 'variable t {}\n'), rename(1, ALONE, spot(0, 10), 't')], [
+        name_taken('1')
+    ]
+    yield 'a name that is used', [did_open(ALONE, USED + 't = var.t\n'), rename(1, ALONE, spot(1, 37), 't')], [
+        name_taken('1')
+    ]
+    yield 'a name of another kind', [
+        did_open(ALONE, USED + 't = [local.t, module.t, data.t.t, a.var.t, "var.t"]\nmodule t {}\n'),
+        rename(1, ALONE, spot(1, 37), 't'),
+    ], [changes('1', ALONE, 't', *all_three)]
+    for uri in ('untitled:1', '', 'a b', '"\\', 'C:\\main.tf', 'main.tf', 'file:///no/folder/x.tfvars', '日\U0001F600'):
+        yield 'a new name in the URI %r' % uri, [did_open(uri, USED), rename(1, uri, spot(0, 10), 't')], [
+            changes('1', uri, 't', *all_three)
+        ]
+
+
+def kinds_of_names():
+    """Names of each kind, with and without their declarations."""
+    for kind, name, text, declared, used in (
+        ('a variable', 'xy', USED, [DECLARED], [FIRST, SECOND]),
+        ('an empty name', '', 'variable "" {}', [(0, 10, 10)], []),
+        ('a local value', 'b', 'locals {\n  b = local.b\n}\n', [(1, 2, 3)], [(1, 12, 13)]),
+        ('a data source', 'b', 'data "a" "b" {\n  x = data.a.b\n  y = data.c.b\n}\n', [(0, 10, 11)], [(1, 13, 14)]),
+        ('a call of a module', 'é', 'module é {}\nx = "${module . é}"\n', [(0, 7, 8)], [(1, 16, 17)]),
+        (
+            'two declarations',
+            'b',
+            'variable b {}\nx = var.b\nvariable "b" {}\n',
+            [(0, 9, 10), (2, 10, 11)],
+            [(1, 8, 9)],
+        ),
+        ('a late declaration', 'b', 'x = var.b\nvariable b {}\ny = var.b\n', [(1, 9, 10)], [(0, 8, 9), (2, 8, 9)]),
+        ('a name with quotes', 'a\\"b', 'variable "a\\"b" {}\n', [(0, 10, 14)], []),
+    ):
+        place, opened = spot(*declared[0][:2]), did_open(ALONE, text)
+        with_them = at_place('references', context={'includeDeclaration': True})
+        yield kind, [
+            opened,
+            at_place('definition')(1, ALONE, place),
+            with_them(2, ALONE, place),
+            at_place('prepareRename')(3, ALONE, place),
+            rename(4, ALONE, place, 'new'),
+        ], [
+            locations('1', ALONE, *declared),
+            locations('2', ALONE, *declared, *used),
+            preparation('3', name, *declared[0]),
+            changes('4', ALONE, 'new', *declared, *used),
+        ]
+        for context in (
+            {'includeDeclaration': False},
+            {'includeDeclaration': 'true'},
+            {'includeDeclaration': 1},
+            {},
+            None,
+        ):
+            ask = at_place('references', context=context)(1, ALONE, place)
+            yield kind + ' with the context %r' % context, [opened, ask], [locations('1', ALONE, *used)]
+        yield kind + ' without a context', [opened, at_place('references')(1, ALONE, place)], [
+            locations('1', ALONE, *used)
+        ]
+
+
 # A server that isn't initialized, and one that was shut down.
 FRESH = [
     ('a request before initialize', [request(1, 'shutdown')], [not_initialized('1')]),
     ('formatting before initialize', [formatting('f', KNOWN)], [not_initialized('"f"')]),
+    ('names before initialize', requests_with('{}'), errors_of(not_initialized)),
     ('an unknown request', [with_id('18446744073709551616')], [not_initialized('18446744073709551616')]),
     ('an array', [b'[]'], [no_request()]),
     ('a bad id', [with_id('1.5')], [no_request()]),
@@ -436,6 +736,8 @@ DOWN = [
     ('initialize again', [initialize('i')], [shut_down('"i"')]),
     ('formatting', [formatting(1, KNOWN)], [shut_down('1')]),
     ('formatting without a document', [request(1, 'textDocument/formatting')], [shut_down('1')]),
+    ('names', requests_with(of_document(KNOWN, ',"position":{"line":0,"character":0}')), errors_of(shut_down)),
+    ('names without a document', requests_with('{}'), errors_of(shut_down)),
     ('exit as a request', [request(1, 'exit')], [shut_down('1')]),
     ('a number', [b'1'], [no_request()]),
     ('a bad id', [with_id('null')], [no_request()]),
@@ -443,14 +745,14 @@ DOWN = [
     ('a response', [b'{"id":1,"error":{}}'], []),
     ('notifications', [did_open(KNOWN, TEXT), did_close(KNOWN), notification('initialized')], []),
 ] + [(name, [body], [not_json()]) for name, body in NO_JSON]
-# What a client offers, and how places are counted then.
+# What a client offers, and the words of the answer: how places are counted then, and whether names are renamed.
 OFFERS = [
-    ('nothing', b'', 'utf-16'),
-    ('no capabilities', b',"params":{}', 'utf-16'),
-    ('parameters that are null', b',"params":null', 'utf-16'),
-    ('parameters that are an array', b',"params":["utf-8"]', 'utf-16'),
+    ('nothing', b'', ['utf-16']),
+    ('no capabilities', b',"params":{}', ['utf-16']),
+    ('parameters that are null', b',"params":null', ['utf-16']),
+    ('parameters that are an array', b',"params":["utf-8"]', ['utf-16']),
 ] + [
-    (str(offer), b',"params":{"capabilities":{"general":{"positionEncodings":%s}}}' % encoded(offer), units)
+    (str(offer), b',"params":{"capabilities":{"general":{"positionEncodings":%s}}}' % encoded(offer), [units])
     for offer, units in (
         (['utf-8'], 'utf-8'),
         (['utf-16', 'utf-8'], 'utf-8'),
@@ -466,6 +768,25 @@ OFFERS = [
         (['utf8'], 'utf-16'),
         (['utf-8 '], 'utf-16'),
         (None, 'utf-16'),
+    )
+]
+OFFERS += [
+    ('of texts ' + offer, b',"params":{"capabilities":{"textDocument":%s}}' % offer.encode(), ['utf-16', renames])
+    for offer, renames in (
+        ('{"rename":{"prepareSupport":true}}', PREPARES),
+        ('{"rename":{"dynamicRegistration":true,"prepareSupport":true,"x":1}}', PREPARES),
+        ('{"rename":{"prepareSupport":false,"prepareSupport":true}}', PREPARES),
+        ('{"rename":{"prepareSupport":true,"prepareSupport":false}}', 'true'),
+        ('{"rename":{"prepareSupport":false}}', 'true'),
+        ('{"rename":{"prepareSupport":"true"}}', 'true'),
+        ('{"rename":{"prepareSupport":1}}', 'true'),
+        ('{"rename":{"prepareSupport":null}}', 'true'),
+        ('{"rename":{"PrepareSupport":true}}', 'true'),
+        ('{"rename":{}}', 'true'),
+        ('{"rename":true}', 'true'),
+        ('{"rename":[{"prepareSupport":true}]}', 'true'),
+        ('{"prepareSupport":true}', 'true'),
+        ('null', 'true'),
     )
 ]
 
@@ -546,6 +867,44 @@ def stream(*each):
     return b''.join(map(frame, each))
 
 
+def versions():
+    """What editors do that take versions, or say so in a wrong way, and the version that they are told, as JSON."""
+    for told_version, version in (
+        ('0', '0'),
+        ('7', '7'),
+        ('18446744073709551615', '18446744073709551615'),
+        *((it, 'null') for it in NO_COUNTS),
+    ):
+        opened = did_open(ALONE, USED, 4321).replace(b'4321', told_version.encode())
+        yield 'the version %s' % told_version[:30], True, [opened], version
+    changed = did_change(ALONE, USED, version=9)
+    yield 'a version of a change', True, [did_open(ALONE, 'a=1', 8), changed], '9'
+    yield 'a version that falls', True, [did_open(ALONE, 'a=1', 10), changed], '9'
+    yield 'a change without a document open', True, [changed], '9'
+    yield 'a change without a version', True, [did_open(ALONE, 'a=1', 8), change(ALONE, [{'text': USED}])], 'null'
+    yield 'a version after it was closed', True, [
+        did_open(ALONE, 'a=1', 8),
+        did_close(ALONE),
+        did_open(ALONE, USED, 3),
+    ], '3'
+    yield 'a version of another document', True, [did_open(ALONE, USED, 2), did_open('b', USED, 8)], '2'
+    for takes in (False, None, 1, 'true', [True], {}):
+        yield 'versions that are taken as %r' % (takes,), takes, [did_open(ALONE, USED, 5)], None
+
+
+def version_runs():
+    """These as whole streams."""
+    place, parts = spot(0, 11), (DECLARED, FIRST, SECOND)
+    for name, takes, sent, version in versions():
+        begin = initialize(0, workspace={'workspaceEdit': {'documentChanges': takes}})
+        heard = [told(json.loads(it)['params']['textDocument']['uri']) for it in sent]
+        given = (
+            changes('1', ALONE, 'q', *parts) if version is None else versioned_changes('1', ALONE, version, 'q', *parts)
+        )
+        whole = stream(begin, *sent, rename(1, ALONE, place, 'q'), EXIT)
+        yield name, whole, [initialized('0'), *heard, given], 1, b''
+
+
 # Whole streams: a name, the stream, the bodies that come back, the status, and standard error.
 RUNS = [
     ('no input', b'', [], 1, ENDED),
@@ -585,4 +944,5 @@ RUNS = [
         1,
         MALFORMED,
     ),
+    *version_runs(),
 ]

@@ -6,8 +6,10 @@ another order, with other spellings of the same string, and with values of a wro
 """
 
 import json
+import re
 
 import exchanges
+import naming
 import protocol
 from exchanges import edit
 
@@ -23,6 +25,25 @@ TEXTS = {
         'utf-8': [edit(0, 0, 0, 10, 'x = \\"\U0001F600é\\"')],
     },
 }
+# Texts with names, which are formatted.
+NAMED = {
+    it.text: it
+    for it in map(
+        naming.Text,
+        (
+            'variable "«var|a»" {}\nx = ‹var|var.|a›\n',
+            'locals {\n  «local|b» = "\U0001F600${‹local|local.|b›}${‹var|var.|c›}"\n}\n',
+            'module «module|é» {}\n/* \r */ x = "\U0001F600${‹data t|data.t.|a›}" + ‹module|module.|b›\n',
+        ),
+    )
+}
+# Lines and characters at names of these, in UTF-16.
+SPOTS = [
+    tuple(protocol.Places(it.text, 'utf-16').place(offset).values())
+    for it in NAMED.values()
+    for name in it.occurrences
+    for offset in (name.front, name.begin, name.end)
+]
 MISSING = object()
 
 
@@ -48,12 +69,18 @@ def id_of(value):
     return json.dumps(value, ensure_ascii=False) if isinstance(value, str) else None
 
 
+def integer_of(value):
+    """An integer of 64 bits, or None if it is none."""
+    is_integer = isinstance(value, Number) and re.fullmatch('[0-9]+', value)
+    return int(value) if is_integer and int(value) < 2**64 else None
+
+
 class Model:
     """A session: what it has come to, what it knows, and its status once it has ended."""
 
     def __init__(self, fault_of):
         self.phase, self.units, self.texts, self.status = 'fresh', 'utf-16', {}, None
-        self.fault_of = fault_of
+        self.takes_versions, self.versions, self.fault_of = False, {}, fault_of
 
     def answers(self, body):
         """What comes back for a message: a list of one body or none."""
@@ -76,6 +103,8 @@ class Model:
         uri = text_of(at(value, 'params', 'textDocument', 'uri'))
         if self.phase != 'open' or uri is None:
             return []
+        if method in ('textDocument/didOpen', 'textDocument/didChange'):
+            self.versions[uri] = integer_of(at(value, 'params', 'textDocument', 'version'))
         if method == 'textDocument/didOpen':
             self.texts[uri] = text_of(at(value, 'params', 'textDocument', 'text'))
         elif method == 'textDocument/didChange':
@@ -96,20 +125,49 @@ class Model:
         if self.phase == 'fresh' and method != 'initialize':
             return exchanges.not_initialized(number)
         if method == 'initialize':
-            return self.begin(number, at(value, 'params', 'capabilities', 'general', 'positionEncodings'))
+            return self.begin(number, at(value, 'params', 'capabilities'))
         if method == 'shutdown':
             self.phase = 'down'
             return exchanges.result(number, 'null')
         if method == 'textDocument/formatting':
             return self.format(number, text_of(at(value, 'params', 'textDocument', 'uri')))
+        if method.startswith('textDocument/') and method.partition('/')[2] in exchanges.ABOUT_NAMES:
+            return self.name(method.partition('/')[2], number, at(value, 'params'))
         return exchanges.unknown_method(number)
 
-    def begin(self, number, offered):
+    def begin(self, number, abilities):
         if self.phase == 'open':
             return exchanges.error(number, -32600, 'initialized already')
+        offered = at(abilities, 'general', 'positionEncodings')
         is_offered = isinstance(offered, list) and 'utf-8' in map(text_of, offered)
         self.phase, self.units = 'open', 'utf-8' if is_offered else 'utf-16'
-        return exchanges.initialized(number, self.units)
+        self.takes_versions = at(abilities, 'workspace', 'workspaceEdit', 'documentChanges') is True
+        prepares = at(abilities, 'textDocument', 'rename', 'prepareSupport') is True
+        return exchanges.initialized(number, self.units, exchanges.PREPARES if prepares else 'true')
+
+    def name(self, method, number, params):
+        """The answer about a name. No document is in a module here."""
+        uri = text_of(at(params, 'textDocument', 'uri'))
+        line, character = (integer_of(at(params, 'position', it)) for it in ('line', 'character'))
+        if uri is None or line is None or character is None:
+            return exchanges.unplaced(number)
+        text = self.texts.get(uri)
+        if text is None:
+            return exchanges.unknown_text(number)
+        document = naming.Document(uri, self.versions.get(uri), NAMED.get(text) or naming.Text(text))
+        scope = naming.Scope(document.text, [document], self.units, self.takes_versions)
+        offset = protocol.Places(text, self.units).near(line, character)
+        return exchanges.reply(number, self.answer_in(scope, method, offset, params))
+
+    def answer_in(self, scope, method, offset, params):
+        if method == 'definition':
+            return scope.locations(offset, True)
+        if method == 'references':
+            is_declared = at(params, 'context', 'includeDeclaration') is True
+            return scope.locations(offset, *((True, False) if is_declared else (False,)))
+        if method == 'prepareRename':
+            return scope.preparation(offset)
+        return scope.renaming(offset, text_of(at(params, 'newName')))
 
     def format(self, number, uri):
         if uri is None:
@@ -128,13 +186,21 @@ METHODS = {
     'textDocument/didOpen': 6,
     'textDocument/didChange': 6,
     'textDocument/didClose': 2,
+    'textDocument/definition': 3,
+    'textDocument/references': 4,
+    'textDocument/prepareRename': 3,
+    'textDocument/rename': 6,
     'foo': 2,
     'initialized': 1,
 }
-REQUESTS = ('initialize', 'shutdown', 'textDocument/formatting', 'foo')
+ABOUT_NAMES = tuple('textDocument/' + it for it in exchanges.ABOUT_NAMES)
+REQUESTS = ('initialize', 'shutdown', 'textDocument/formatting', 'foo', *ABOUT_NAMES)
 # Values for any place. Of the texts among them none has another format.
 VALUES = r'null true 1 1.5 -0 1E2 12345678901234567890123 "" "x" "\u00e9" [] {} [1,"utf-8"] {"uri":"u"}'.split(' ')
-NAMES = 'id method params result error text uri range textDocument contentChanges x'.split(' ')
+NAMES = (
+    'id method params result error text uri range textDocument contentChanges x version position line character newName'
+).split(' ')
+NEW_NAMES = ('a', 'b', 'c', 'é', 'new', 'new', '\U0001D4B3-1', '', '1a', 'a b')
 
 
 class Messages:
@@ -170,26 +236,45 @@ class Messages:
         return '{%s}' % (',' + blank).join('%s%s:%s' % (self.string(name), blank, it) for name, it in pairs)
 
     def text(self):
-        return self.value(self.string(self.chance.choice(list(TEXTS))))
+        return self.value(self.string(self.chance.choice(list(TEXTS) + 2 * list(NAMED))))
 
     def document(self, has_text):
         uri = self.string(self.chance.choice('uuv'))
-        return self.object(uri=self.value(uri), text=self.text() if has_text else None)
+        version = self.value(self.chance.choice(('0', '1', '7'))) if self.rarely(0.7) else None
+        return self.object(uri=self.value(uri), version=version, text=self.text() if has_text else None)
+
+    def position(self):
+        line, character = self.chance.choice(SPOTS) if self.rarely(0.7) else (self.chance.randrange(4), 5)
+        return self.object(line=self.value(str(line)), character=self.value(str(character)))
+
+    def place(self):
+        """The parameters of a request about a name, of which those that have no use are passed over."""
+        return {
+            'position': self.value(self.position()),
+            'context': self.value(self.object(includeDeclaration=self.value('true'))),
+            'newName': self.value(self.string(self.chance.choice(NEW_NAMES))),
+        }
 
     def change(self):
         return self.object(text=self.text(), range=self.chance.choice(VALUES) if self.rarely(0.15) else None)
 
+    def abilities(self, offered):
+        general = self.object(positionEncodings=self.value(offered))
+        is_ready = self.chance.choice(('true', 'true', 'false'))
+        rename = self.object(rename=self.value(self.object(prepareSupport=self.value(is_ready))))
+        edits = self.object(workspaceEdit=self.value(self.object(documentChanges=self.value(is_ready))))
+        return self.object(general=self.value(general), textDocument=self.value(rename), workspace=self.value(edits))
+
     def params(self, method):
         if method == 'initialize':
             offered = self.chance.choice(('["utf-8"]', '["utf-16"]', '["utf-16","utf-8"]'))
-            general = self.object(positionEncodings=self.value(offered))
-            return self.object(capabilities=self.value(self.object(general=self.value(general))))
-        changes = None
+            return self.object(capabilities=self.value(self.abilities(offered)))
+        changes, more = None, self.place() if method in ABOUT_NAMES else {}
         if method == 'textDocument/didChange':
             each = [self.value(self.change()) for _ in range(self.chance.choice((0, 1, 1, 1, 2)))]
             changes = self.value('[%s]' % ','.join(each))
         document = self.value(self.document(method == 'textDocument/didOpen'))
-        return self.object(textDocument=document, contentChanges=changes)
+        return self.object(textDocument=document, contentChanges=changes, **more)
 
     def message(self):
         method = self.chance.choices(list(METHODS), METHODS.values())[0]

@@ -49,13 +49,15 @@ def request(number, method, params=None):
     return encoded({'jsonrpc': '2.0', 'id': number, 'method': method, 'params': params or {}})
 
 
-def initialize(number, units='utf-16'):
+def initialize(number, units='utf-16', **more):
+    """What an editor begins with, with more capabilities."""
     general = {'positionEncodings': ['utf-8', 'utf-16']} if units == 'utf-8' else {}
-    return request(number, 'initialize', {'processId': None, 'rootUri': None, 'capabilities': {'general': general}})
+    params = {'processId': None, 'rootUri': None, 'capabilities': {'general': general, **more}}
+    return request(number, 'initialize', params)
 
 
-def did_open(uri, text):
-    document = {'uri': uri, 'languageId': 'terraform', 'version': 0, 'text': text}
+def did_open(uri, text, version=0):
+    document = {'uri': uri, 'languageId': 'terraform', 'version': version, 'text': text}
     return notification('textDocument/didOpen', {'textDocument': document})
 
 
@@ -79,6 +81,15 @@ def formatting(number, uri):
 def about(method):
     """What makes a request about a document."""
     return lambda number, uri: request(number, method, {'textDocument': {'uri': uri}})
+
+
+def at_place(method, **more):
+    """What makes a request about a place in a document."""
+
+    def make(number, uri, place):
+        return request(number, 'textDocument/' + method, {'textDocument': {'uri': uri}, 'position': place, **more})
+
+    return make
 
 
 # What an editor says in the end.
@@ -193,19 +204,26 @@ class Client:
             raise Fault('answered by %r' % (body if body is None else body[:200]))
         return found
 
-    def ask(self, make, *words):
-        """The result of a request, which `make` makes of its number and these words."""
+    def reply(self, make, *words):
+        """The result or the error of a request, which `make` makes of its number and these words, as a member."""
         self.number += 1
         self.send(make(self.number, *words))
         body = self.answer()
         answer = json.loads(body) if body is not None else None
-        if not answer or answer.get('id') != self.number or 'result' not in answer:
+        if not answer or (answer.pop('jsonrpc'), answer.pop('id', None)) != ('2.0', self.number):
             raise Fault('answered by %r' % (body if body is None else body[:200]))
+        return answer
+
+    def ask(self, make, *words):
+        """The result of such a request."""
+        answer = self.reply(make, *words)
+        if 'result' not in answer:
+            raise Fault('answered by %r' % answer)
         return answer['result']
 
-    def begin(self):
+    def begin(self, **more):
         """Initializes, and checks what the server says of places."""
-        told = self.ask(initialize, self.units)['capabilities']['positionEncoding']
+        told = self.ask(lambda number: initialize(number, self.units, **more))['capabilities']['positionEncoding']
         if told != self.units:
             raise Fault('places are counted in %s' % told)
         self.send(notification('initialized'))
@@ -249,6 +267,15 @@ class Places:
             return begin + len(in_line[: character * size].decode(encoding))
         except UnicodeDecodeError:
             raise Fault('within a character: %r' % place) from None
+
+    def near(self, line, character):
+        """The offset of a place as servers take it: past the end it is the end, and within a character its front."""
+        if line >= len(self.ends):
+            return len(self.text)
+        encoding, size = ENCODINGS[self.units]
+        begin = self.ends[line - 1][1] if line else 0
+        in_line = self.text[begin : self.ends[line][0]].encode(encoding)
+        return begin + len(in_line[: character * size].decode(encoding, 'ignore'))
 
     def place(self, offset):
         """The place of an offset."""
@@ -314,6 +341,20 @@ def applied(text, changes):
         made += [text[last:begin], new]
         last = end
     return ''.join(made + [text[last:]])
+
+
+def text_after(text, edits, units):
+    """The text after edits in any order."""
+    in_order = sorted(edits, key=lambda it: (it['range']['start']['line'], it['range']['start']['character']))
+    return applied(text, replaced(text, in_order, units))
+
+
+def documents_in(change):
+    """(URI, version, edits) of each document in the change of a workspace. Without versions all are null."""
+    if 'documentChanges' in change:
+        each = change['documentChanges']
+        return [(it['textDocument']['uri'], it['textDocument']['version'], it['edits']) for it in each]
+    return [(uri, None, edits) for uri, edits in change['changes'].items()]
 
 
 def by_runs(text, printed):

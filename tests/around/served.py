@@ -58,6 +58,40 @@ def is_of_module(name):
     return name.endswith(('.tf', '.tofu'))
 
 
+def plain_uri(path):
+    """The URI of a file that isn't open."""
+    return 'file://' + urllib.parse.quote(str(path), safe='/-._~')
+
+
+def some_uri(path, chance):
+    """The URI of a file's document as an editor writes it."""
+    other = 'file://' + urllib.parse.quote(str(path), safe="/-._~$&+,:;=@!'()*")
+    return chance.choice((plain_uri(path), other, plain_uri(path).replace('main', 'm%61in')))
+
+
+def issues_in(linter, top, texts, options=None):
+    """The linter's issues in these files, in a folder below `top`: for each name (line, column, severity, message, rule)."""
+    copy = top / 'copy' / 'module'
+    subprocess.run(['rm', '-rf', str(top / 'copy')], check=True)
+    copy.mkdir(parents=True)
+    (top / 'copy' / '.git').mkdir()
+    for name, text in texts.items():
+        (copy / name).write_bytes(text.encode())
+    if options is not None:
+        (copy / '.tfrules').write_text(options)
+    words = [linter, '--quiet', str(copy)]
+    done = subprocess.run(words, stdout=subprocess.PIPE, stderr=subprocess.PIPE, cwd=str(top / 'copy'))
+    if done.returncode not in (0, 2) or done.stderr:
+        raise Fault('tfrules-all ends with status %d, and says %r' % (done.returncode, done.stderr))
+    found = {name: [] for name in texts}
+    for line in done.stdout.decode().split('\n')[2:-1]:
+        if not ISSUE.fullmatch(line):
+            raise Fault('no issue: %r' % line)
+        path, row, column, severity, message, rule = ISSUE.fullmatch(line).groups()
+        found[pathlib.Path(path).name].append((int(row), int(column), severity, message, rule))
+    return found
+
+
 class Folder:
     """A module on the disk, and the texts of its documents that are open."""
 
@@ -66,7 +100,6 @@ class Folder:
         self.path = top / 'repository' / 'module'
         (self.path / 'inner').mkdir(parents=True)
         (top / 'repository' / '.git').mkdir()
-        self.copy = top / 'copy' / 'module'
         self.open, self.uris = {}, {}
         for name in chance.sample(NAMES, 4):
             self.write(name)
@@ -83,38 +116,11 @@ class Folder:
         if self.options is not None:
             (self.chance.choice((self.path, self.path.parent)) / '.tfrules').write_text(self.options)
 
-    def uri(self, name):
-        """The URI of a file's document as this editor writes it: it stays the same as long as the document is open."""
-        plain = urllib.parse.quote(str(self.path / name), safe='/-._~')
-        other = urllib.parse.quote(str(self.path / name), safe="/-._~$&+,:;=@!'()*")
-        return 'file://' + self.chance.choice((plain, other, plain.replace('main', 'm%61in')))
-
     def texts(self):
         """The text of each file of the module, by its name, in order."""
         found = {it.name: it.read_bytes().decode() for it in self.path.iterdir() if it.is_file()}
         found.update(self.open)
         return {name: found[name] for name in sorted(found, key=str.encode) if is_of_module(name)}
-
-    def issues(self, texts):
-        """The linter's issues in these files: for each name (line, column, severity, message, rule)."""
-        subprocess.run(['rm', '-rf', str(self.top / 'copy')], check=True)
-        self.copy.mkdir(parents=True)
-        (self.top / 'copy' / '.git').mkdir()
-        for name, text in texts.items():
-            (self.copy / name).write_bytes(text.encode())
-        if self.options is not None:
-            (self.copy / '.tfrules').write_text(self.options)
-        words = [self.linter, '--quiet', str(self.copy)]
-        done = subprocess.run(words, stdout=subprocess.PIPE, stderr=subprocess.PIPE, cwd=str(self.top / 'copy'))
-        if done.returncode not in (0, 2) or done.stderr:
-            raise Fault('tfrules-all ends with status %d, and says %r' % (done.returncode, done.stderr))
-        found = {name: [] for name in texts}
-        for line in done.stdout.decode().split('\n')[2:-1]:
-            if not ISSUE.fullmatch(line):
-                raise Fault('no issue: %r' % line)
-            path, row, column, severity, message, rule = ISSUE.fullmatch(line).groups()
-            found[pathlib.Path(path).name].append((int(row), int(column), severity, message, rule))
-        return found
 
     def is_linted(self, name):
         return is_of_module(name) and self.options != '--rules no_such_rule\n'
@@ -124,7 +130,7 @@ class Folder:
         texts = self.texts()
         faults = {name: self.verdict(text).fault for name, text in texts.items()}
         good = {name: text for name, text in texts.items() if faults[name] is None}
-        issues, told = self.issues(good), []
+        issues, told = issues_in(self.linter, self.top, good, self.options), []
         for name, text in texts.items():
             each = protocol.diagnostics(text, faults[name], self.units)
             for row, column, severity, message, rule in issues.get(name, []):
@@ -140,13 +146,13 @@ class Folder:
                             'message': message,
                         }
                     )
-            plain = 'file://' + urllib.parse.quote(str(self.path / name), safe='/-._~')
-            told.append((self.uris.get(name, plain), each))
+            told.append((self.uris.get(name, plain_uri(self.path / name)), each))
         return told
 
     def changed(self, name, text):
         """The message that gives a document this text, and what must be told then."""
-        uri = self.uris.setdefault(name, self.uri(name))
+        # It stays the same as long as the document is open.
+        uri = self.uris.setdefault(name, some_uri(self.path / name, self.chance))
         is_new = name not in self.open
         self.open[name] = text
         body = protocol.did_open(uri, text) if is_new else protocol.did_change(uri, text)
