@@ -10,7 +10,7 @@ use Rattle.hcl_tokens.specs.Balanced.{closer_count}
 use Rattle.hcl_grammar.specs.Items.{deepen, is_closed}
 use Rattle.hcl_grammar.specs.Numbered.{is_passed_over}
 use Rattle.tf_facts.specs.Patterns.{begins_with_close, after_closer}
-use Rattle.tf_facts.specs.Inner.Seen.{seen_from}
+use Rattle.tf_facts.specs.Seen.{seen_from}
 use Rattle.tf_facts.specs.Inner.Closings.{AreAhead, closes_before_quote, role_of, quote_from}
 use Rattle.tf_facts.specs.declared.role.Role.{Role}
 use Rattle.tf_facts.specs.declared.role.Role.TheVariants as part

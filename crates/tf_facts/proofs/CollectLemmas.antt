@@ -13,7 +13,8 @@ use Rattle.hcl_tokens.specs.declared.token.Kind.TheVariants as kind
 use Rattle.hcl_tokens.specs.Lexemes.{Lexeme}
 use Rattle.hcl_grammar.specs.Numbered.{Numbered, is_passed_over}
 use Rattle.tf_facts.specs.References.{VariableSpan, by_name, name_after, reference_at, references_from, unless_self_reference}
-use Rattle.tf_facts.specs.Inner.Seen.{AreNoIdents, after_dot, number_of, seen_from}
+use Rattle.tf_facts.specs.Inner.Idents.{AreNoIdents}
+use Rattle.tf_facts.specs.Seen.{after_dot, number_of, seen_from}
 use Rattle.tf_facts.specs.Inner.Blocks.{ArePassed, Extends}
 use Rattle.tf_facts.proofs.PatternLemmas.{there_is}
 use Rattle.tf_facts.proofs.SeenLemmas.{after_past, after_seen, seen_here, seen_past, seen_none}

@@ -15,7 +15,7 @@ use Rattle.rule_set.specs.Rules.{all_rules}
 use Rattle.rule_set.specs.RuleSets.{holds, rules_of}
 use Rattle.tf_facts.specs.Silencing.{has_slashes, silenced_rules, silences}
 use Rattle.tf_facts.specs.Found.{comment}
-use Rattle.tf_facts.specs.Inner.Seen.{number_of}
+use Rattle.tf_facts.specs.Seen.{number_of}
 use Rattle.tf_facts.specs.declared.found.FoundComment.{FoundComment}
 use Rattle.rule_set.specs.declared.rule.Rule.{Rule}
 use Rattle.rule_set.specs.declared.rule_set.RuleSet.{RuleSet}

@@ -9,7 +9,7 @@ use Rattle.hcl_grammar.specs.Numbered.{Numbered, is_passed_over}
 use Rattle.hcl_tokens.specs.Kinds.{is}
 use Rattle.tf_facts.specs.Patterns.{begins_with_close, after_closer, is_index, is_wrapped, numbers_where}
 use Rattle.tf_facts.specs.Inner.Closings.{AreAhead, role_of, quote_from}
-use Rattle.tf_facts.specs.Inner.Seen.{number_of, seen_from}
+use Rattle.tf_facts.specs.Seen.{number_of, seen_from}
 use Rattle.tf_facts.specs.declared.role.Role.{Role}
 use Rattle.tf_facts.specs.declared.role.Role.TheVariants as part
 use Rattle.tf_facts.proofs.ClosingLemmas.{Says, at_closer, at_dot, at_opener, at_plain, at_quote, closes, opens, passes}

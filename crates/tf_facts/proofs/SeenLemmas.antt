@@ -7,7 +7,7 @@ use Rattle.hcl_tokens.specs.declared.token.Kind.TheVariants as kind
 use Rattle.hcl_tokens.specs.Lexemes.{Lexeme}
 use Rattle.hcl_grammar.specs.Numbered.{numbered_from, significant, is_passed_over}
 use Rattle.hcl_grammar.proofs.NumberedLemmas.{drop_at}
-use Rattle.tf_facts.specs.Inner.Seen.{after_dot, dot_or, number_of, seen_from}
+use Rattle.tf_facts.specs.Seen.{after_dot, dot_or, number_of, seen_from}
 
 seen_step : (ts : List Lexeme) (n : ℕ) (t : Lexeme) → slice_get ts n ≡ Some t
     → seen_from ts n ≡ cond (not (is_passed_over t.kind)) (number_of n t ∷ seen_from ts (n + 1)) (seen_from ts (n + 1))

@@ -4,7 +4,7 @@ use Rattle.std.specs.Prelude.{Some, filter, slice_get}
 use Rattle.hcl_tokens.specs.Lexemes.{Lexeme}
 use Rattle.hcl_grammar.specs.Numbered.{number_tokens}
 use Rattle.hcl_grammar.proofs.NumberedLemmas.{numbered_at, numbered_here}
-use Rattle.tf_facts.specs.Inner.Seen.{number_of}
+use Rattle.tf_facts.specs.Seen.{number_of}
 use Rattle.tf_facts.specs.Inner.Values.{in_value, values}
 
 -- the tokens of the value from one of them on

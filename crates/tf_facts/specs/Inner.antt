@@ -3,7 +3,7 @@ pub mod Blocks
 pub mod Closings
 pub mod Cuts
 pub mod FoundViews
+pub mod Idents
 pub mod Labelled
-pub mod Seen
 pub mod Spelled
 pub mod Values

@@ -4,6 +4,7 @@ pub mod Comments
 pub mod Sources
 pub mod Declarations
 pub mod References
+pub mod Seen
 pub mod Patterns
 pub mod Facts
 pub mod Found

@@ -9,7 +9,7 @@ ghost use Rattle.rule_set.specs.RuleSets.{rules_of};
 ghost use Rattle.tf_facts.specs.Silencing.{has_slashes, silenced_rules};
 ghost use Rattle.tf_facts.specs.Found.{comment};
 ghost use Rattle.tf_facts.specs.Inner.FoundViews.{comment_listed};
-ghost use Rattle.tf_facts.specs.Inner.Seen.{number_of};
+ghost use Rattle.tf_facts.specs.Seen.{number_of};
 
 use crate::found::FoundComment;
 use crate::silencing::{has_slashes, silenced_rules};

@@ -30,6 +30,7 @@ mod texts;
 mod value;
 mod variable_block;
 
+pub use block::{is_inside, word_at};
 pub use comment::is_any;
 pub use declaration_kind::DeclarationKind;
 pub use file_facts::{FileFacts, facts_of};
@@ -38,5 +39,7 @@ pub use hashing::Hashing;
 pub use module_source::ModuleSource;
 pub use names::Names;
 pub use owners::add_references_of;
+pub use reference::{is_ident, name_after};
+pub use seen::{SeenToken, is_after_dot};
 pub use silencing::{comment_words, silencing_list, trim_blanks};
 pub use text_set::TextSet;

@@ -6,8 +6,8 @@ ghost use Rattle.std.specs.Option.{option_map};
 ghost use Rattle.hcl_tokens.specs.Kinds.{is};
 ghost use Rattle.hcl_tokens.specs.declared.token.Kind.TheVariants.{Ident};
 ghost use Rattle.tf_facts.specs.References.{name_after, reference_at, reference_of};
-ghost use Rattle.tf_facts.specs.Inner.Seen.{seen_from, numbered_of};
-ghost use Rattle.tf_facts.specs.Inner.Spelled.{IsAfter, spelling_of};
+ghost use Rattle.tf_facts.specs.Seen.{IsAfter, seen_from, numbered_of};
+ghost use Rattle.tf_facts.specs.Inner.Spelled.{spelling_of};
 
 use crate::seen::{SeenToken, is_dot, is_passed_over, next_seen};
 use hcl_tokens::{Kind, Tokens};
@@ -42,8 +42,8 @@ pub fn may_be_named(tokens: &Tokens<'_>, number: usize) -> bool
     is_dot(kind) || is_passed_over(kind)
 }
 
-/// The identifier in the dot and the name with which the tokens from a number on begin.
-fn name_after<'s>(tokens: &Tokens<'s>, from: usize) -> Option<SeenToken<'s>>
+/// The identifier in the dot and the name with which the significant tokens from a number on begin.
+pub fn name_after<'s>(tokens: &Tokens<'s>, from: usize) -> Option<SeenToken<'s>>
     requires { from ≤ length tokens.now.tokens }
     ensures { MatchOption result (name_after (seen_from tokens.now.tokens from) ≡ None)
         (IsAfter tokens.now.tokens from) }

@@ -4,7 +4,7 @@ ghost use Rattle.std.specs.Prelude.{◌≡◌, ◌<◌, ◌≤◌, ◌+◌, ◌�
 ghost use Rattle.hcl_tokens.specs.Kinds.{is};
 ghost use Rattle.hcl_tokens.specs.declared.token.Kind.TheVariants.{Dot};
 ghost use Rattle.hcl_grammar.specs.Numbered.{is_passed_over};
-ghost use Rattle.tf_facts.specs.Inner.Seen.{after_dot, seen_from, IsNextSeen};
+ghost use Rattle.tf_facts.specs.Seen.{after_dot, seen_from, IsNextSeen};
 
 use hcl_tokens::{Kind, Tokens};
 

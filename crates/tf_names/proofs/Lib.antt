@@ -1,4 +1,3 @@
-pub mod SeenLemmas
 pub mod ReferenceLemmas
 pub mod DeclarationLemmas
 pub mod AgreementLemmas

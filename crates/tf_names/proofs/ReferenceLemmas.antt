@@ -10,14 +10,14 @@ use Rattle.hcl_tokens.specs.Lexemes.{Lexeme}
 use Rattle.hcl_tokens.specs.declared.token.Kind.TheVariants as kind
 use Rattle.tf_facts.specs.References.{name_after}
 use Rattle.tf_names.specs.Inner.Found.{reference_seen, stretch_seen}
-use Rattle.tf_names.specs.Inner.Seen.{after_dot, number_of, seen_from}
+use Rattle.tf_facts.specs.Seen.{after_dot, number_of, seen_from}
 use Rattle.tf_names.specs.Names.{NameReference, listed_reference, occurrence_of, refers_at, refers_by, refers_from, word_stretch}
 use Rattle.tf_names.specs.Views.{name_seen, occurrence_seen}
 use Rattle.tf_names.specs.declared.occurrence.OccurrenceKind.TheVariants.{Reference}
 use Rattle.tf_names.specs.declared.reference.LastName.{LastName}
 use Rattle.tf_names.specs.declared.stretch.Stretch.{Stretch as StretchOf}
 use Rattle.tf_names.specs.declared.occurrence.Occurrence.{Occurrence as OccurrenceOf}
-use Rattle.tf_names.proofs.SeenLemmas.{after_past, after_seen, seen_here, seen_none, seen_past, word_seen}
+use Rattle.tf_facts.proofs.SeenLemmas.{after_past, after_seen, seen_here, seen_none, seen_past, word_seen}
 
 module _ (ts : List Lexeme) (n : ℕ) (t : Lexeme) (e : slice_get ts n ≡ Some t) where
   abbrev here : List NameReference

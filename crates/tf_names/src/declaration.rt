@@ -10,12 +10,13 @@ ghost use Rattle.tf_names.specs.Inner.Found.{listed_occurrence, stretch_seen};
 ghost use Rattle.tf_names.specs.Names.{Local, attribute_stretches, declaration_of, declared_by_item, declared_by_items, declared_in_block, label_stretches, word_stretch};
 ghost use Rattle.tf_names.specs.Views.{occurrence_seen};
 
-use crate::label::{Labels, is_inside, labels_from};
+use crate::label::{Labels, labels_from};
 use crate::name::Name;
 use crate::occurrence::{Occurrence, declaration_of};
-use crate::stretch::{Stretch, word_at, word_stretch};
+use crate::stretch::{Stretch, word_stretch};
 use hcl_syntax::{Accepted, Item, Outline};
 use std::alloc::AllocError;
+use tf_facts::{is_inside, word_at};
 
 /// What a block with this kind and one label declares.
 fn one_label<'s>(word: &str, label: Stretch<'s>) -> Option<Occurrence<'s>>

@@ -2,7 +2,6 @@
 
 ghost use Rattle.std.specs.Prelude.{◌≡◌, ◌∷◌, [], drop, MatchOption};
 ghost use Rattle.hcl_grammar.specs.Items.{outline};
-ghost use Rattle.tf_facts.specs.Declarations.{is_inside};
 ghost use Rattle.tf_names.specs.Inner.Found.{stretch_seen};
 ghost use Rattle.tf_names.specs.Inner.Labelled.{AreLabels};
 ghost use Rattle.tf_names.specs.Names.{label_stretches};
@@ -62,15 +61,4 @@ pub fn labels_from<'s>(accepted: &Accepted<'_, 's>, items: &Outline, from: usize
         return Labels::Two(first.label, second.label);
     };
     Labels::More
-}
-
-/// Whether an item is in a block or is one of its labels.
-pub fn is_inside(item: Item) -> bool
-    ensures { result ≡ is_inside item }
-{
-    match item {
-        Item::Attribute { level, .. } => level > 0,
-        Item::Block { level, .. } => level > 0,
-        Item::Label(_) => true,
-    }
 }

@@ -11,7 +11,6 @@ mod name;
 mod occurrence;
 mod occurrences;
 mod reference;
-mod seen;
 mod stretch;
 
 pub use name::{Name, is_same, last_part, with_last_part};

@@ -1,58 +1,27 @@
 //! References: `var.n`, `local.n`, `data.t.n` and `module.n`.
 
-ghost use Rattle.std.specs.Prelude.{◌≡◌, ◌<◌, ◌≤◌, ◌+◌, ◌^◌, ◌∷◌, ◌++◌, ◌||◌, codes, length, map, MatchOption, None, IfSome, OnOk};
+ghost use Rattle.std.specs.Prelude.{◌≡◌, ◌<◌, ◌+◌, ◌^◌, ◌∷◌, ◌++◌, ◌||◌, codes, length, map, IfSome, OnOk};
 ghost use Rattle.std.specs.Option.{option_map};
 ghost use Rattle.std.specs.Str.{bytes_eq};
 ghost use Rattle.hcl_grammar.specs.Numbered.{number_tokens};
-ghost use Rattle.hcl_tokens.specs.Kinds.{is};
-ghost use Rattle.hcl_tokens.specs.declared.token.Kind.TheVariants.{Ident};
-ghost use Rattle.tf_facts.specs.References.{name_after};
-ghost use Rattle.tf_names.specs.Inner.Found.{IsAfter, listed_occurrence, reference_seen};
-ghost use Rattle.tf_names.specs.Inner.Seen.{after_dot, numbered_of, seen_from};
+ghost use Rattle.tf_facts.specs.Seen.{after_dot, numbered_of, seen_from};
+ghost use Rattle.tf_names.specs.Inner.Found.{listed_occurrence, reference_seen};
 ghost use Rattle.tf_names.specs.Names.{listed_reference, name_references, occurrence_of, refers_at, refers_from};
 ghost use Rattle.tf_names.specs.Views.{occurrence_seen};
 
 use crate::name::Name;
 use crate::occurrence::{Occurrence, OccurrenceKind};
-use crate::seen::{SeenToken, is_after_dot, is_dot, next_seen};
 use crate::stretch::{start_of, word_stretch};
 use hcl_syntax::Accepted;
-use hcl_tokens::{Kind, Tokens};
+use hcl_tokens::Tokens;
 use std::alloc::AllocError;
+use tf_facts::{SeenToken, is_after_dot, is_ident, name_after};
 
 /// The name in a reference, and the number of the token that is its last part.
 #[derive(Clone, Copy)]
 pub struct LastName<'s> {
     pub token: usize,
     pub name: Name<'s>,
-}
-
-/// Whether the kind is an identifier.
-fn is_ident(kind: Kind) -> bool
-    ensures { result ≡ is Ident kind }
-{
-    matches!(kind, Kind::Ident)
-}
-
-/// The identifier in the dot and the name with which the tokens from a number on begin.
-fn name_after<'s>(tokens: &Tokens<'s>, from: usize) -> Option<SeenToken<'s>>
-    requires { from ≤ length tokens.now.tokens }
-    ensures { MatchOption result (name_after (seen_from tokens.now.tokens from) ≡ None)
-        (IsAfter tokens.now.tokens from) }
-{
-    let Some(dot) = next_seen(tokens, from) else {
-        return None;
-    };
-    if !is_dot(dot.kind) {
-        return None;
-    }
-    let Some(name) = next_seen(tokens, dot.number + 1) else {
-        return None;
-    };
-    if !is_ident(name.kind) {
-        return None;
-    }
-    Some(name)
 }
 
 /// Whether a reference can begin with this word.

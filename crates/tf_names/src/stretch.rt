@@ -1,13 +1,12 @@
 //! Texts of a file, with the offsets between which they are spelled.
 
 ghost use Rattle.std.specs.Prelude.{◌≡◌, ◌==◌, ◌<◌, ◌^◌, length, if◌then◌else◌};
-ghost use Rattle.hcl_grammar.specs.Labels.{text_of};
-ghost use Rattle.hcl_grammar.specs.Numbered.{number_tokens};
 ghost use Rattle.hcl_grammar.specs.Verdict.{start_of};
 ghost use Rattle.tf_names.specs.Inner.Found.{stretch_seen};
 ghost use Rattle.tf_names.specs.Names.{label_stretch, stop_of, stretch_at, word_stretch};
 
 use hcl_syntax::{Accepted, Label, label_text};
+use tf_facts::word_at;
 
 /// A text of a file, and the offsets between which it is spelled.
 #[derive(Clone, Copy)]
@@ -27,16 +26,6 @@ fn stretch_at<'s>(text: &'s str, start: usize) -> Stretch<'s>
         start,
         end: start + text.len(),
     }
-}
-
-/// The text of a token.
-pub fn word_at<'s>(accepted: &Accepted<'_, 's>, number: usize) -> &'s str
-    requires { number < length accepted.now.tokens }
-    ensures { result.now ≡ text_of (number_tokens accepted.now.tokens) number }
-{
-    let tokens = accepted.tokens();
-    let token = tokens.get(number);
-    token.text
 }
 
 /// The offset at which a token begins.

@@ -7,7 +7,7 @@ use Rattle.hcl_tokens.specs.declared.token.Kind.TheVariants as kind
 use Rattle.hcl_grammar.specs.Numbered.{is_passed_over}
 use Rattle.hcl_tokens.specs.Lexemes.{Lexeme}
 use Rattle.tf_facts.specs.Patterns.{begins_with_close, after_closer}
-use Rattle.tf_facts.specs.Inner.Seen.{seen_from}
+use Rattle.tf_facts.specs.Seen.{seen_from}
 use Rattle.tf_facts.specs.declared.role.Role.{Role}
 use Rattle.tf_facts.specs.declared.role.Role.TheVariants as part
 

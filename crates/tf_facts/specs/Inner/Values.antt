@@ -7,7 +7,7 @@ use Rattle.hcl_tokens.specs.declared.token.Kind.TheVariants.{Newline}
 use Rattle.hcl_tokens.specs.Lexemes.{Lexeme}
 use Rattle.hcl_grammar.specs.Numbered.{Numbered, is_comment, number_tokens}
 use Rattle.tf_facts.specs.Declarations.{Attribute, PlainText, has}
-use Rattle.tf_facts.specs.Inner.Seen.{numbered_of}
+use Rattle.tf_facts.specs.Seen.{numbered_of}
 use Rattle.tf_facts.specs.declared.value.Body.{Body}
 use Rattle.tf_facts.specs.declared.value.Value.{Value}
 use Rattle.tf_facts.specs.declared.value.Plain.{Plain}

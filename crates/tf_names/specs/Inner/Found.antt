@@ -1,13 +1,9 @@
 -- The code's finds, by their values and as lists.
-use Rattle.std.specs.Prelude.{◌≡◌, ◌<◌, ◌+◌, ◌^◌, ℕ, List, [], ◌∷◌, Option, Some, None, drop, length}
-use Rattle.hcl_tokens.specs.Lexemes.{Lexeme}
-use Rattle.tf_facts.specs.References.{name_after}
-use Rattle.tf_names.specs.Inner.Seen.{numbered_of, seen_from}
+use Rattle.std.specs.Prelude.{ℕ, List, [], ◌∷◌, Option, Some, None}
 use Rattle.tf_names.specs.Names.{NameReference, Occurrence, Stretch}
 use Rattle.tf_names.specs.Views.{name_seen, occurrence_seen}
 use Rattle.tf_names.specs.declared.occurrence.Occurrence.{Occurrence as OccurrenceOf}
 use Rattle.tf_names.specs.declared.reference.LastName.{LastName}
-use Rattle.tf_names.specs.declared.seen.SeenToken.{SeenToken}
 use Rattle.tf_names.specs.declared.stretch.Stretch.{Stretch as StretchOf}
 
 abbrev pub stretch_seen : StretchOf → Stretch
@@ -20,10 +16,3 @@ reference_seen word n = record { word = word; token = n.token; name = name_seen 
 abbrev pub listed_occurrence : Option OccurrenceOf → List Occurrence
 listed_occurrence None = []
 listed_occurrence (Some o) = occurrence_seen o ∷ []
-
--- the tokens from a number on begin with a dot and this identifier
-pub record IsAfter (tokens : List Lexeme) (from : ℕ) (t : SeenToken) : Type 0 where
-  pub named : name_after (seen_from tokens from) ≡ Some (numbered_of t)
-  pub rest : drop 2 (seen_from tokens from) ≡ seen_from tokens (t.number + 1)
-  pub within : t.number < length tokens
-  pub small : t.number + 1 < 2 ^ 64

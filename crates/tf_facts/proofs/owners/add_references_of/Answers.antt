@@ -5,7 +5,7 @@ use Rattle.hcl_tokens.specs.Scanned.{Scanned}
 use Rattle.hcl_grammar.specs.Numbered.{number_tokens}
 use Rattle.tf_facts.specs.Inner.Blocks.{block_view}
 use Rattle.tf_facts.specs.References.{variable_blocks, references_from}
-use Rattle.tf_facts.specs.Inner.Seen.{seen_from}
+use Rattle.tf_facts.specs.Seen.{seen_from}
 use Rattle.tf_facts.specs.declared.variable_block.VariableBlock.{VariableBlock}
 use Rattle.tf_facts.proofs.owners.add_references_of.Goals as goal
 

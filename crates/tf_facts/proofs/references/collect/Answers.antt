@@ -1,6 +1,6 @@
 use Rattle.std.proofs.Common.{◌∙◌, ◌+◌, ◌<◌, sym, map, refl, length, arith}
 use Rattle.hcl_tokens.specs.Scanned.{lexeme}
-use Rattle.tf_facts.specs.Inner.Seen.{after_dot}
+use Rattle.tf_facts.specs.Seen.{after_dot}
 use Rattle.tf_facts.specs.Inner.Blocks.{block_view}
 use Rattle.tf_facts.proofs.CollectLemmas.{begins, collected, no_after, over_no_idents, skipped}
 use Rattle.tf_facts.proofs.OwnLemmas.{nothing_passed, still_passed}

@@ -1,5 +1,6 @@
 use Rattle.std.proofs.Common.{map, length, ◌-◌, ◌≤◌}
-use Rattle.tf_facts.specs.Inner.Seen.{IsIdentAt, after_dot}
+use Rattle.tf_facts.specs.Inner.Idents.{IsIdentAt}
+use Rattle.tf_facts.specs.Seen.{after_dot}
 use Rattle.tf_facts.specs.Inner.Blocks.{block_view}
 use Rattle.tf_facts.proofs.CollectLemmas.{IsWalked}
 use Rattle.tf_facts.proofs.references.collect.Given as goal

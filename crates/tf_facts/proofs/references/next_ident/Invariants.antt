@@ -1,5 +1,5 @@
 use Rattle.std.proofs.Common.{◌-◌, ◌≤◌, length}
-use Rattle.tf_facts.specs.Inner.Seen.{AreNoIdents}
+use Rattle.tf_facts.specs.Inner.Idents.{AreNoIdents}
 use Rattle.tf_facts.proofs.references.next_ident.Given as goal
 
 abbrev pub invariant-loop-number : goal.invariant-loop-number

@@ -2,7 +2,7 @@ use Rattle.std.proofs.Common.{◌≡◌, ◌∙◌, ◌-◌, ap, sym, arith}
 use Rattle.hcl_tokens.specs.Kinds.{is}
 use Rattle.hcl_tokens.specs.declared.token.Kind.TheVariants.{Dot}
 use Rattle.hcl_grammar.specs.Numbered.{is_passed_over}
-use Rattle.tf_facts.specs.Inner.Seen.{after_dot}
+use Rattle.tf_facts.specs.Seen.{after_dot}
 use Rattle.tf_facts.proofs.PatternLemmas.{there_is}
 use Rattle.tf_facts.proofs.SeenLemmas.{after_past, after_seen}
 use Rattle.tf_facts.proofs.seen.is_after_dot.Goals as goal

@@ -1,5 +1,5 @@
 use Rattle.std.proofs.Common.{◌≡◌, ◌≤◌, length}
-use Rattle.tf_facts.specs.Inner.Seen.{after_dot}
+use Rattle.tf_facts.specs.Seen.{after_dot}
 use Rattle.tf_facts.proofs.seen.is_after_dot.Given as goal
 
 abbrev pub invariant-loop-before : goal.invariant-loop-before

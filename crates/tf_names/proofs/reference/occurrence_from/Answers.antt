@@ -1,7 +1,7 @@
 use Rattle.std.proofs.Common.{◌≡◌, ◌∙◌, ◌+◌, ◌<◌, ◌∷◌, ap, map, length, subst}
 use Rattle.hcl_tokens.specs.Scanned.{Scanned}
 use Rattle.tf_names.specs.Inner.Found.{reference_seen}
-use Rattle.tf_names.specs.Inner.Seen.{after_dot, seen_from}
+use Rattle.tf_facts.specs.Seen.{after_dot, seen_from}
 use Rattle.tf_names.specs.Names.{occurrence_of, refers_from}
 use Rattle.tf_names.proofs.ReferenceLemmas.{occurrence_is}
 use Rattle.tf_names.proofs.reference.occurrence_from.Goals as goal

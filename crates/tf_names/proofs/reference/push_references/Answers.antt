@@ -1,7 +1,7 @@
 use Rattle.std.proofs.Common.{◌≡◌, ◌∙◌, ◌+◌, ◌++◌, ap, sym, map, length, arith}
 use Rattle.hcl_tokens.specs.Scanned.{Scanned}
 use Rattle.tf_names.specs.Inner.Found.{listed_occurrence}
-use Rattle.tf_names.specs.Inner.Seen.{after_dot, seen_from}
+use Rattle.tf_facts.specs.Seen.{after_dot, seen_from}
 use Rattle.tf_names.specs.Names.{occurrence_of, refers_from}
 use Rattle.tf_names.specs.declared.occurrence.Occurrence.{Occurrence as OccurrenceOf}
 use Rattle.std.specs.Prelude.{Option}

@@ -1,6 +1,0 @@
-use Rattle.std.proofs.Common.{◌≡◌}
-use Rattle.tf_names.specs.Inner.Seen.{seen_from}
-use Rattle.tf_names.proofs.seen.next_seen.Given as goal
-
-abbrev pub invariant-loop-number : goal.invariant-loop-number
-invariant-loop-number l = seen_from l.tokens.tokens l.number ≡ seen_from l.tokens.tokens l.from
