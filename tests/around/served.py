@@ -101,6 +101,8 @@ class Folder:
         (self.path / 'inner').mkdir(parents=True)
         (top / 'repository' / '.git').mkdir()
         self.open, self.uris = {}, {}
+        # the URIs for which the editor was last told something of the module
+        self.shown = []
         for name in chance.sample(NAMES, 4):
             self.write(name)
         self.set_options()
@@ -156,15 +158,33 @@ class Folder:
         is_new = name not in self.open
         self.open[name] = text
         body = protocol.did_open(uri, text) if is_new else protocol.did_change(uri, text)
-        if self.is_linted(name):
-            return body, self.module()
-        return body, [(uri, protocol.diagnostics(text, self.verdict(text).fault, self.units))]
+        return body, self.told(name, uri, [])
 
     def closed(self, name):
         """The message that closes a document, and what must be told then."""
         uri = self.uris.pop(name)
         del self.open[name]
-        return protocol.did_close(uri), [(uri, [])] + (self.module() if self.is_linted(name) else [])
+        return protocol.did_close(uri), self.told(name, uri, [(uri, [])])
+
+    def alone(self, uri):
+        """What must be told of a document alone."""
+        for name, text in self.open.items():
+            if self.uris[name] == uri:
+                return uri, protocol.diagnostics(text, self.verdict(text).fault, self.units)
+        return uri, []
+
+    def told(self, name, uri, first):
+        """What must be told after a document has changed or was closed, with `first` before the files of its module."""
+        if not is_of_module(name):
+            return [self.alone(uri)]
+        if not self.is_linted(name):
+            others, self.shown = [it for it in self.shown if it != uri], []
+            return [self.alone(it) for it in [uri, *others]]
+        told = first + self.module()
+        again = {it for it, _ in told}
+        stale = [(it, []) for it in self.shown if it not in again]
+        self.shown = [it for it, each in told if each]
+        return stale + told
 
     def turn(self):
         """A message and what must be told then, perhaps after a change of the disk."""

@@ -1,1 +1,3 @@
 pub mod ModuleLemmas
+pub mod ShownLemmas
+pub mod TextLemmas

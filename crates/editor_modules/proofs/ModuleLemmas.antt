@@ -4,7 +4,7 @@ use Rattle.std.proofs.lemmas.List.{drop_more, map-append, nil_from_length}
 use Rattle.std.proofs.lemmas.List.Elements.{Contains-push}
 use Rattle.std.specs.List.{Contains}
 use Rattle.std.specs.Option.{option_to_list}
-use Rattle.std.specs.Prelude.{MatchOption, Option, Some, None, Vec, string_bytes, vec_len}
+use Rattle.std.specs.Prelude.{MatchOption, Option, Some, None, string_bytes, vec_len}
 use Rattle.file_tree.specs.Files.{Faults, Files, Name}
 use Rattle.file_tree.specs.declared.walk.Found.{Found}
 use Rattle.file_tree.specs.declared.walk.ListedFolder.{ListedFolder}
@@ -20,9 +20,10 @@ use Rattle.tf_rules.specs.declared.issue.Issue.{Issue}
 use Rattle.tree_lint.specs.Verdicts.{bytes_of_name, names_in}
 use Rattle.tree_lint.specs.declared.policy.Governed.{Governed}
 use Rattle.editor_modules.specs.FileDiagnostics.{file_diagnostics}
-use Rattle.editor_modules.specs.Bodies.{AreBodies, told_text}
+use Rattle.editor_modules.specs.Messages.{AreMessages, DocumentMessage, message_of, message_seen}
 use Rattle.editor_modules.specs.Modules.{AreAlone, HasModule, IsGoverned}
 use Rattle.editor_modules.specs.Told.{IsLinted, ToldDocument, file_uri, is_lintable, told_files}
+use Rattle.editor_modules.specs.declared.message.ToldMessage.{ToldMessage}
 
 -- ---- the module of a folder
 
@@ -58,9 +59,9 @@ name_here (x ∷ names) zero item name lt is e = e ∙ ap string_bytes is
 name_here (x ∷ names) (suc i) item name lt is e = name_here names i item name (omega (arith, lt)) is e
 
 -- the messages so far, and those of the files that are left
-abbrev pub IsLeft : {Y : Type 0} → Units → List OpenText → List Issue → List Name → List FileState → ℕ → List (Vec ℕ Y) → Type 0
-IsLeft units documents issues names states n bodies =
-    map (λ body. body.items) bodies ++ map told_text (told_files units documents issues n (drop n names) (drop n states)) ≡ map told_text (told_files units documents issues 0 names states)
+abbrev pub IsLeft : Units → List OpenText → List Issue → List Name → List FileState → ℕ → List ToldMessage → Type 0
+IsLeft units documents issues names states n messages =
+    map message_seen messages ++ map message_of (told_files units documents issues n (drop n names) (drop n states)) ≡ map message_of (told_files units documents issues 0 names states)
 
 pub left_next : (units : Units) (documents : List OpenText) (issues : List Issue) (names : List Name) (states : List FileState) (n : ℕ) (name : Name) (state : FileState)
     → n < length names → n < length states → name ≡ get_or names n [] → state ≡ get_or states n state
@@ -71,36 +72,33 @@ left_next units documents issues names states n name state ln ls en es =
     (drop_more names n [] ln ∙ ap (λ (m : Name). m ∷ drop (n + 1) names) (sym en))
     (drop_more states n state ls ∙ ap (λ (s : FileState). s ∷ drop (n + 1) states) (sym es))
 
-pub left_more : {Y : Type 0} (units : Units) (documents : List OpenText) (issues shown : List Issue) (names : List Name) (states listed : List FileState) (n : ℕ) (name : Name) (state : FileState) (bodies after : List (Vec ℕ Y)) (body : Vec ℕ Y)
+pub left_more : (units : Units) (documents : List OpenText) (issues shown : List Issue) (names : List Name) (states listed : List FileState) (n : ℕ) (name : Name) (state : FileState) (messages after : List ToldMessage) (message : ToldMessage)
     → n < length names → length names ≡ length states → shown ≡ issues → listed ≡ states → name ≡ get_or names n [] → state ≡ get_or listed n state
-    → body.items ≡ told_text (record { uri = file_uri documents name; diagnostics = file_diagnostics units shown n state }) → after ≡ bodies ++ body ∷ []
-    → IsLeft units documents issues names states n bodies → IsLeft units documents issues names states (n + 1) after
-left_more {Y} units documents issues shown names states listed n name state bodies after body within each shows lists is_name is_state told grown left =
-    ap (λ (l : List (Vec ℕ Y)). map items l ++ map told_text rest) grown
-    ∙ ap (λ (l : List (List ℕ)). l ++ map told_text rest) (map-append items bodies (body ∷ []))
-    ∙ append_assoc (map items bodies) (body.items ∷ []) (map told_text rest)
-    ∙ ap (λ (b : List ℕ). map items bodies ++ b ∷ map told_text rest) (told ∙ ap (λ (l : List Issue). told_text (record { uri = file_uri documents name; diagnostics = file_diagnostics units l n state })) shows)
-    ∙ ap (λ (l : List ToldDocument). map items bodies ++ map told_text l)
+    → message_seen message ≡ message_of (record { uri = file_uri documents name; diagnostics = file_diagnostics units shown n state }) → after ≡ messages ++ message ∷ []
+    → IsLeft units documents issues names states n messages → IsLeft units documents issues names states (n + 1) after
+left_more units documents issues shown names states listed n name state messages after message within each shows lists is_name is_state told grown left =
+    ap (λ (l : List ToldMessage). map message_seen l ++ map message_of rest) grown
+    ∙ ap (λ (l : List DocumentMessage). l ++ map message_of rest) (map-append message_seen messages (message ∷ []))
+    ∙ append_assoc (map message_seen messages) (message_seen message ∷ []) (map message_of rest)
+    ∙ ap (λ (m : DocumentMessage). map message_seen messages ++ m ∷ map message_of rest) (told ∙ ap (λ (l : List Issue). message_of (record { uri = file_uri documents name; diagnostics = file_diagnostics units l n state })) shows)
+    ∙ ap (λ (l : List ToldDocument). map message_seen messages ++ map message_of l)
     (sym (left_next units documents issues names states n name state within (omega (arith, within, each)) is_name (is_state ∙ ap (λ (l : List FileState). get_or l n state) lists)))
     ∙ left
   where
-    items : Vec ℕ Y → List ℕ
-    items b = b.items
-
     rest : List ToldDocument
     rest = told_files units documents issues (n + 1) (drop (n + 1) names) (drop (n + 1) states)
 
-pub left_none : {Y : Type 0} (units : Units) (documents : List OpenText) (issues : List Issue) (names : List Name) (states : List FileState) (bodies : List (Vec ℕ Y)) → bodies ≡ [] → IsLeft units documents issues names states 0 bodies
-left_none {Y} units documents issues names states bodies none = ap (λ (l : List (Vec ℕ Y)). map (λ (b : Vec ℕ Y). b.items) l ++ map told_text (told_files units documents issues 0 names states)) none
+pub left_none : (units : Units) (documents : List OpenText) (issues : List Issue) (names : List Name) (states : List FileState) (messages : List ToldMessage) → messages ≡ [] → IsLeft units documents issues names states 0 messages
+left_none units documents issues names states messages none = ap (λ (l : List ToldMessage). map message_seen l ++ map message_of (told_files units documents issues 0 names states)) none
 
 -- ---- the module that is linted
 
-pub tells_linted : {Y : Type 0} (units : Units) (documents : List OpenText) (disk : Files) (folder : Name) (files later : Files) (governed : Option Governed) (one : Governed) (names : List (String Global)) (lintable : Bool) (checked : Checked) (bodies : List (Vec ℕ Y))
+pub tells_linted : (units : Units) (documents : List OpenText) (disk : Files) (folder : Name) (files later : Files) (governed : Option Governed) (one : Governed) (names : List (String Global)) (lintable : Bool) (checked : Checked) (messages : List ToldMessage)
     → files ≡ with_open documents disk → later ≡ files → governed ≡ Some one → names ≡ one.module.files.items → lintable ≡ is_lintable one.module → lintable ≡ true
     → HasModule files folder governed → IsChecked (bytes_of_name later) (map string_bytes names) one.policy.settings checked
-    → AreBodies (told_files units documents checked.issues.items 0 (map string_bytes names) checked.files.items) bodies
-    → (told : List ToldDocument) × IsLinted units documents disk folder told × AreBodies told bodies
-tells_linted units documents disk folder files later governed one names lintable checked bodies laid kept is named judged holds has check are = (
+    → AreMessages (told_files units documents checked.issues.items 0 (map string_bytes names) checked.files.items) messages
+    → (told : List ToldDocument) × IsLinted units documents disk folder told × AreMessages told messages
+tells_linted units documents disk folder files later governed one names lintable checked messages laid kept is named judged holds has check are = (
   told_files units documents checked.issues.items 0 (map string_bytes names) checked.files.items,
   record {
     governed = one;

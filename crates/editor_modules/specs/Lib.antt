@@ -1,4 +1,6 @@
-pub mod Bodies
 pub mod FileDiagnostics
+pub mod Inner
+pub mod Messages
 pub mod Modules
+pub mod Shown
 pub mod Told

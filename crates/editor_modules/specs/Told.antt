@@ -1,25 +1,64 @@
--- WHAT AN EDITOR IS TOLD of a module: the diagnostics of each of its files, whether open or not.
-use Rattle.std.specs.Prelude.{◌≡◌, ◌&&◌, ◌+◌, not, nat_lt, ℕ, Bool, true, false, List, [], ◌∷◌, Option, Some, None, length, unwrap_or}
+-- WHAT AN EDITOR IS TOLD of a module: the diagnostics of each of its files, whether open or not; and of documents alone.
+use Rattle.std.specs.Prelude.{◌≡◌, ◌&&◌, ◌+◌, not, nat_lt, ℕ, Bool, true, false, List, [], ◌∷◌, Option, Some, None, length, unwrap_or, if◌then◌else◌}
 use Rattle.file_tree.specs.Files.{Files, Name}
 use Rattle.file_uris.specs.Uris.{uri_of}
+use Rattle.hcl_source.specs.FaultTexts.{fault_text}
 use Rattle.module_check.specs.Checks.{IsChecked}
 use Rattle.module_check.specs.declared.check.Checked.{Checked}
 use Rattle.module_check.specs.declared.state.FileState.{FileState}
+use Rattle.module_find.specs.Modules.{folder_of, is_module_file}
 use Rattle.module_find.specs.declared.module.Module.{Module}
-use Rattle.open_files.specs.OpenTexts.{OpenText, uri_open, with_open}
+use Rattle.open_files.specs.OpenTexts.{OpenText, text_of, uri_open, with_open}
+use Rattle.text_faults.specs.Faults.{HasFault}
+use Rattle.text_faults.specs.declared.fault.MarkedFault.{MarkedFault}
 use Rattle.text_places.specs.declared.place.Units.{Units}
 use Rattle.tf_rules.specs.declared.issue.Issue.{Issue}
 use Rattle.tfrules_command.specs.Line.{max_files}
 use Rattle.tree_lint.specs.Verdicts.{bytes_of_name, names_in}
 use Rattle.tree_lint.specs.declared.policy.Governed.{Governed}
 use Rattle.editor_messages.specs.Diagnostics.{Diagnostic}
-use Rattle.editor_modules.specs.FileDiagnostics.{file_diagnostics}
+use Rattle.editor_modules.specs.FileDiagnostics.{file_diagnostics, refusal}
 use Rattle.editor_modules.specs.Modules.{HasModule}
 
 -- a document, and its diagnostics
 pub record ToldDocument : Type 0 where
   pub uri : List ℕ
   pub diagnostics : List Diagnostic
+
+abbrev pub told_document : List ℕ → List Diagnostic → ToldDocument
+told_document uri ds = record { uri = uri; diagnostics = ds }
+
+-- what was told of a document counts no more
+abbrev pub withdrawn : List ℕ → ToldDocument
+withdrawn uri = told_document uri []
+
+-- ---- documents alone
+
+-- the fault because of which a text is no file of the language, or none
+abbrev pub diagnostics_of : Option MarkedFault → List Diagnostic
+diagnostics_of None = []
+diagnostics_of (Some fault) = refusal fault.range (fault_text fault.kind)
+
+-- a document that has this text, or one that isn't open
+abbrev pub IsToldByText : Units → List ℕ → Option (List ℕ) → ToldDocument → Type 0
+IsToldByText units uri None told = told ≡ withdrawn uri
+IsToldByText units uri (Some text) told = (fault : Option MarkedFault) × HasFault units text fault
+    × (told ≡ told_document uri (diagnostics_of fault))
+
+-- THE TOLD DOCUMENTS that have these URIs, in turn
+abbrev pub AreToldByTexts : Units → List OpenText → List (List ℕ) → List ToldDocument → Type 0
+AreToldByTexts units documents [] told = told ≡ []
+AreToldByTexts units documents (uri ∷ uris) told =
+    (first : ToldDocument) × (rest : List ToldDocument)
+    × IsToldByText units uri (text_of documents uri) first
+    × AreToldByTexts units documents uris rest × (told ≡ first ∷ rest)
+
+-- ---- a module
+
+-- the folder of the module to which the file of this path belongs, if it is one of a module
+abbrev pub module_folder : Option Name → Option Name
+module_folder None = None
+module_folder (Some path) = if is_module_file path then Some (folder_of path) else None
 
 -- the URI of a file: that of its document if one is open
 abbrev pub file_uri : List OpenText → Name → List ℕ

@@ -3,12 +3,13 @@
 ghost use Rattle.std.specs.Prelude.{◌≡◌, ◌++◌, ◌∷◌, [], IfOk, OnOk, map};
 ghost use Rattle.hcl_source.specs.FaultTexts.{fault_text};
 ghost use Rattle.text_faults.specs.Marks.{marked_range as marked_range_of};
-ghost use Rattle.json_parts.specs.Values.{json_text};
-ghost use Rattle.editor_messages.specs.Diagnostics.{diagnostics_json};
 ghost use Rattle.editor_messages.specs.Views.{diagnostic_seen};
 ghost use Rattle.editor_modules.specs.FileDiagnostics.{at_front, file_diagnostics, issue_diagnostics, refusal};
+ghost use Rattle.editor_modules.specs.Messages.{TellsDocument};
+ghost use Rattle.editor_modules.specs.Told.{told_document};
 
-use editor_messages::{Diagnostic, diagnostics_message};
+use crate::message::{ToldMessage, told_message};
+use editor_messages::Diagnostic;
 use hcl_scan::{Fault, Source};
 use line_edits::Range;
 use module_check::FileState;
@@ -23,22 +24,20 @@ fn refusal_message(
     uri: &str,
     range: Range,
     text: &str,
-) -> Result<Vec<u8>, AllocError>
-    ensures { IfOk result (λ message. message.items
-        ≡ json_text (diagnostics_json uri.now (refusal range text.now))) }
+) -> Result<ToldMessage, AllocError>
+    ensures { IfOk result (TellsDocument (told_document uri.now (refusal range text.now))) }
 {
     let diagnostic = Diagnostic {
         range,
         rule: None,
         text,
     };
-    diagnostics_message(alloc, uri, &[diagnostic])
+    told_message(alloc, uri, &[diagnostic])
 }
 
 /// The message that a document is refused for this reason, which is told at its front.
-fn front_message(alloc: Global, uri: &str, text: &str) -> Result<Vec<u8>, AllocError>
-    ensures { IfOk result (λ message. message.items
-        ≡ json_text (diagnostics_json uri.now (at_front text.now))) }
+fn front_message(alloc: Global, uri: &str, text: &str) -> Result<ToldMessage, AllocError>
+    ensures { IfOk result (TellsDocument (told_document uri.now (at_front text.now))) }
 {
     let front = Walk::start().place();
     refusal_message(
@@ -59,8 +58,8 @@ fn fault_message(
     uri: &str,
     source: &Source,
     fault: Fault,
-) -> Result<Vec<u8>, AllocError>
-    ensures { IfOk result (λ message. message.items ≡ json_text (diagnostics_json uri.now
+) -> Result<ToldMessage, AllocError>
+    ensures { IfOk result (TellsDocument (told_document uri.now
         (refusal (marked_range_of units source.now fault.at) (fault_text fault.kind)))) }
 {
     let range = Marker::new(units, source.text()).range(fault.at);
@@ -120,14 +119,14 @@ pub(crate) fn file_message(
     number: u32,
     state: &FileState,
     issues: &[Issue],
-) -> Result<Vec<u8>, AllocError>
-    ensures { IfOk result (λ message. message.items ≡ json_text (diagnostics_json uri.now
+) -> Result<ToldMessage, AllocError>
+    ensures { IfOk result (TellsDocument (told_document uri.now
         (file_diagnostics units issues.now number state.now))) }
 {
     match state {
         FileState::Good(source) => {
             let all = issues_in(alloc, units, number, source, issues)?;
-            diagnostics_message(alloc, uri, all.as_slice())
+            told_message(alloc, uri, all.as_slice())
         }
         FileState::Refused(source, fault) => fault_message(alloc, units, uri, source, *fault),
         FileState::NoText(fault) => front_message(alloc, uri, fault.kind.text()),

@@ -1,8 +1,10 @@
 //! The module of a folder.
 
-ghost use Rattle.std.specs.Prelude.{IfOk};
+ghost use Rattle.std.specs.Prelude.{◌≡◌, IfOk, option_map};
 ghost use Rattle.file_tree.specs.Unchanged.{Unchanged};
 ghost use Rattle.editor_modules.specs.Modules.{AreAlone, HasModule};
+ghost use Rattle.editor_modules.specs.Told.{module_folder};
+ghost use Rattle.open_files.specs.Views.{path_seen};
 
 use file_tree::path::join;
 use file_tree::tree::Tree;
@@ -11,8 +13,24 @@ use lint_config::NOTHING;
 use module_config::configure::configure;
 use module_find::Module;
 use module_find::modules::modules_of;
+use module_find::names::{folder_of, is_module_file};
 use std::alloc::{AllocError, Global};
 use tree_lint::policy::Governed;
+
+/// The folder of the module to which the file of this path belongs, if it is one of a module.
+pub fn module_folder(path: &Option<Vec<u8>>) -> Option<&[u8]>
+    ensures { option_map (λ folder. folder.now) result ≡ module_folder (path_seen path.now) }
+{
+    let Some(path) = path else {
+        return None;
+    };
+    let path = path.as_slice();
+    if is_module_file(path) {
+        Some(folder_of(path))
+    } else {
+        None
+    }
+}
 
 /// The module of a folder alone.
 pub fn modules_in<T: Tree>(

@@ -3,7 +3,13 @@
 
 mod diagnostics;
 mod find;
+mod message;
+mod shown;
+mod texts;
 mod told;
 
-pub use find::modules_in;
+pub use find::{module_folder, modules_in};
+pub use message::{ToldMessage, withdrawal};
+pub use shown::Shown;
+pub use texts::text_messages;
 pub use told::{file_uri, module_messages};

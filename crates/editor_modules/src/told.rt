@@ -1,12 +1,13 @@
 //! What an editor is told of a module.
 
 ghost use Rattle.std.specs.Prelude.{◌≡◌, ◌≤◌, IfOk, IsTrue, length, map, string_bytes};
-ghost use Rattle.editor_modules.specs.Bodies.{AreBodies, TellsModule};
+ghost use Rattle.editor_modules.specs.Messages.{AreMessages, TellsModule};
 ghost use Rattle.editor_modules.specs.Told.{file_uri, is_lintable, told_files};
 ghost use Rattle.tfrules_command.specs.Line.{max_files};
 
 use crate::diagnostics::file_message;
 use crate::find::module_in;
+use crate::message::ToldMessage;
 use file_tree::tree::Tree;
 use file_uris::uri_of;
 use module_check::{Checked, check_module};
@@ -34,22 +35,22 @@ fn messages_of(
     documents: &Documents,
     names: &[String],
     checked: &Checked,
-) -> Result<Vec<Vec<u8>>, AllocError>
+) -> Result<Vec<ToldMessage>, AllocError>
     requires few { length names.now ≤ max_files }
     requires each { length names.now ≡ length checked.now.files.items }
-    ensures { IfOk result (λ bodies. AreBodies (told_files units documents.now
+    ensures { IfOk result (λ all. AreMessages (told_files units documents.now
         checked.now.issues.items 0 (map string_bytes names.now) checked.now.files.items)
-        bodies.items) }
+        all.items) }
 {
     let issues = checked.issues.as_slice();
-    let mut bodies = Vec::new(alloc);
+    let mut all = Vec::new(alloc);
     for number in 0..names.len() {
         let uri = file_uri(alloc, documents, names[number].as_bytes())?;
         let state = &checked.files.as_slice()[number];
-        let body = file_message(alloc, units, uri.as_str(), number as u32, state, issues)?;
-        bodies.push(body)?;
+        let message = file_message(alloc, units, uri.as_str(), number as u32, state, issues)?;
+        all.push(message)?;
     }
-    Ok(bodies)
+    Ok(all)
 }
 
 /// Whether the files of a module can be judged together.
@@ -70,7 +71,7 @@ pub fn module_messages<T: Tree + Drop>(
     documents: &Documents,
     folder: &[u8],
     tree: T,
-) -> Result<Option<Vec<Vec<u8>>>, AllocError>
+) -> Result<Option<Vec<ToldMessage>>, AllocError>
     ensures { IfOk result (TellsModule units documents.now (T.files tree) folder.now) }
 {
     let mut files = OpenFiles::new(alloc, documents, tree);

@@ -1,3 +1,4 @@
 pub mod ForgetLemmas
 pub mod FormatLemmas
 pub mod ReplyLemmas
+pub mod TellLemmas

@@ -11,12 +11,12 @@ use Rattle.tf_names.specs.Names.{Name, last_part, with_last_part}
 use Rattle.editor_messages.specs.Names.{DocumentRanges, locations_json, prepared_json, rename_json}
 use Rattle.editor_messages.specs.declared.error.ReplyError.{ReplyError}
 use Rattle.editor_messages.specs.declared.error.ReplyError.TheVariants as error
+use Rattle.editor_modules.specs.Told.{module_folder}
 use Rattle.editor_names.specs.Modules.{AreModuleRanges, IsDocumentRanges, NameRanges}
 use Rattle.editor_names.specs.Names.{HasNameAt, NamedRange, Query}
 use Rattle.editor_names.specs.declared.query.Wanted.{Wanted}
 use Rattle.editor_names.specs.declared.query.Wanted.TheVariants.{All}
 use Rattle.editor_session.specs.Sessions.{Session}
-use Rattle.editor_session.specs.Told.{module_folder}
 
 -- a place in a document whose text is known
 pub record TextPlace : Type 0 where

@@ -6,6 +6,7 @@ use Rattle.text_places.specs.declared.place.Units.{Units}
 use Rattle.text_places.specs.declared.place.Units.TheVariants.{Utf16}
 use Rattle.editor_messages.specs.Messages.{Notification, Request, Initialize, Shutdown, Text, Close, Exit, Other}
 use Rattle.editor_messages.specs.declared.message.Abilities.{Abilities}
+use Rattle.editor_modules.specs.Shown.{ShownModule}
 use Rattle.editor_session.specs.declared.phase.Phase.{Phase}
 use Rattle.editor_session.specs.declared.phase.Phase.TheVariants as phase
 
@@ -17,11 +18,19 @@ pub record Session : Type 0 where
   pub takes_versions : Bool
   -- the documents whose texts are known, the newest first
   pub documents : List OpenText
+  -- what the editor shows of modules
+  pub shown : List ShownModule
 
 -- before the first message
 abbrev pub new_session : Session
 new_session =
-    record { phase = phase.Fresh; units = Utf16; takes_versions = false; documents = [] }
+    record {
+      phase = phase.Fresh;
+      units = Utf16;
+      takes_versions = false;
+      documents = [];
+      shown = [];
+    }
 
 -- ---- texts
 

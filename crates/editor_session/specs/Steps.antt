@@ -1,5 +1,5 @@
 -- A STEP: what a message makes of a session, and what the server says to it.
-use Rattle.std.specs.Prelude.{◌≡◌, ◌⊎◌, ℕ, List, Option, Some, None, Result}
+use Rattle.std.specs.Prelude.{◌≡◌, ◌⊎◌, ℕ, List, Option, Some, None, Result, map}
 use Rattle.std.specs.Str.{IsUtf8}
 use Rattle.file_tree.specs.Files.{Files}
 use Rattle.json.specs.Json.{Json, document, null}
@@ -8,11 +8,10 @@ use Rattle.editor_messages.specs.Messages.{Message, Notification, Invalid, Respo
 use Rattle.editor_messages.specs.Replies.{error_json, reply_json}
 use Rattle.editor_messages.specs.declared.error.ReplyError.{ReplyError}
 use Rattle.editor_messages.specs.declared.error.ReplyError.TheVariants as error
-use Rattle.editor_modules.specs.Bodies.{AreBodies}
-use Rattle.editor_modules.specs.Told.{ToldDocument}
+use Rattle.editor_modules.specs.Messages.{DocumentMessage, message_seen}
 use Rattle.editor_session.specs.Answers.{IsAnswer}
 use Rattle.editor_session.specs.Sessions.{Session, after_notification, after_request, exit_status, without_texts}
-use Rattle.editor_session.specs.Told.{AreTold, AreToldClosed}
+use Rattle.editor_session.specs.Told.{TellsClosed, TellsText}
 use Rattle.editor_session.specs.declared.phase.Phase.{Phase}
 use Rattle.editor_session.specs.declared.phase.Phase.TheVariants as phase
 use Rattle.editor_session.specs.declared.turn.Turn.{Turn}
@@ -22,44 +21,51 @@ use Rattle.editor_session.specs.declared.turn.Turn.TheVariants as turns
 abbrev pub Says : Json → Turn → Type 0
 Says value turns.Quiet = ⊥
 Says value (turns.Say body) = body.items ≡ json_text value
-Says value (turns.Publish bodies) = ⊥
+Says value (turns.Publish messages) = ⊥
 Says value (turns.End status) = ⊥
 
--- the server tells the diagnostics of these documents in turn
-abbrev pub Publishes : List ToldDocument → Turn → Type 0
-Publishes told turns.Quiet = ⊥
-Publishes told (turns.Say body) = ⊥
-Publishes told (turns.Publish bodies) = AreBodies told bodies.items
-Publishes told (turns.End status) = ⊥
+-- the server says messages that have this property in turn
+abbrev pub Publishes : (List DocumentMessage → Type 0) → Turn → Type 0
+Publishes Are turns.Quiet = ⊥
+Publishes Are (turns.Say body) = ⊥
+Publishes Are (turns.Publish messages) = Are (map message_seen messages.items)
+Publishes Are (turns.End status) = ⊥
 
 abbrev pub IsQuiet : Turn → Type 0
 IsQuiet turn = turn ≡ turns.Quiet
 
--- documents that have this property are told, if the session is open
-abbrev pub PublishesWhileOpen : Phase → (List ToldDocument → Type 0) → Turn → Type 0
-PublishesWhileOpen phase.Fresh Are turn = IsQuiet turn
-PublishesWhileOpen phase.Open Are turn = (told : List ToldDocument) × Are told × Publishes told turn
-PublishesWhileOpen phase.ShutDown Are turn = IsQuiet turn
+-- nothing is said, and this is still the session
+abbrev pub IsPassedOver : Session → Session → Turn → Type 0
+IsPassedOver before after turn = (after ≡ before) × IsQuiet turn
 
--- what the server says to a notification, after which this is the session: those of a document lead to diagnostics, and
+-- messages that have this property are said, if the session is open
+abbrev pub TellsWhileOpen : Phase → (Session → Session → List DocumentMessage → Type 0) → Session
+    → Session → Turn → Type 0
+TellsWhileOpen phase.Fresh IsSaid before after turn = IsPassedOver before after turn
+TellsWhileOpen phase.Open IsSaid before after turn = Publishes (IsSaid before after) turn
+TellsWhileOpen phase.ShutDown IsSaid before after turn = IsPassedOver before after turn
+
+-- what the server says to a notification, whose text the session before has: those of a document lead to diagnostics, and
 -- one ends the run
-abbrev pub IsHeard : Files → Session → Notification → Turn → Type 0
-IsHeard disk s (Text uri version text) turn =
-    PublishesWhileOpen s.phase (AreTold s disk uri text) turn
-IsHeard disk s (Close uri) turn = PublishesWhileOpen s.phase (AreToldClosed s disk uri) turn
-IsHeard disk s Exit turn = turn ≡ turns.End (exit_status s.phase)
-IsHeard disk s Other turn = IsQuiet turn
+abbrev pub IsHeard : Files → Notification → Session → Session → Turn → Type 0
+IsHeard disk (Text uri version text) before after turn =
+    TellsWhileOpen before.phase (TellsText disk uri text) before after turn
+IsHeard disk (Close uri) before after turn =
+    TellsWhileOpen before.phase (TellsClosed disk uri) before after turn
+IsHeard disk Exit before after turn =
+    (after ≡ before) × (turn ≡ turns.End (exit_status before.phase))
+IsHeard disk Other before after turn = IsPassedOver before after turn
 
 abbrev pub IsStep : Files → Message → Session → Session → Turn → Type 0
 IsStep disk (Invalid id) before after turn =
     (after ≡ before) × Says (error_json id error.NotRequest) turn
-IsStep disk Response before after turn = (after ≡ before) × IsQuiet turn
+IsStep disk Response before after turn = IsPassedOver before after turn
 IsStep disk (Asks id request) before after turn =
     (after ≡ after_request before request)
     × ((answer : Result Json ReplyError) × IsAnswer before disk request answer
     × Says (reply_json id answer) turn)
 IsStep disk (Tells n) before after turn =
-    (after ≡ after_notification before n) × IsHeard disk after n turn
+    IsHeard disk n (after_notification before n) after turn
 
 -- the value of a body, or none if it is no JSON
 abbrev pub IsValue : List ℕ → Option Json → Type 0

@@ -8,4 +8,5 @@ session_seen s = record {
   units = s.units;
   takes_versions = s.takes_versions;
   documents = s.documents;
+  shown = s.shown;
 }

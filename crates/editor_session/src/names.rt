@@ -20,11 +20,11 @@ use editor_messages::{
     DocumentPlace, Id, ReplyError, error_reply, locations_reply, null_reply, prepared_reply,
     rename_reply,
 };
+use editor_modules::module_folder;
 use editor_names::{
     NameRanges, Query, Wanted, is_identifier, name_at, ranges_in_document, ranges_in_module,
 };
 use file_uris::path_of;
-use module_find::names::{folder_of, is_module_file};
 use open_files::Disk;
 use std::alloc::{AllocError, Global};
 use text_places::Place;
@@ -106,13 +106,10 @@ impl Session {
         ensures { IfOk result (λ found. AreRanges (session_seen self.now) (D.files disk.now)
             (text_place_seen at.entry) (query_seen query.entry) (found_seen found)) }
     {
-        let Some(path) = path_of(alloc, at.uri)? else {
+        let path = path_of(alloc, at.uri)?;
+        let Some(folder) = module_folder(&path) else {
             return self.ranges_alone(alloc, at, query);
         };
-        if !is_module_file(path.as_slice()) {
-            return self.ranges_alone(alloc, at, query);
-        }
-        let folder = folder_of(path.as_slice());
         let tree = disk.tree()?;
         ranges_in_module(alloc, query, &self.documents, folder, tree)
     }

@@ -6,6 +6,7 @@ ghost use Rattle.editor_session.specs.Views.{session_seen};
 ghost use Rattle.open_files.specs.OpenTexts.{text_of};
 
 use crate::phase::Phase;
+use editor_modules::Shown;
 use open_files::Documents;
 use std::alloc::{AllocError, Global};
 use text_places::Units;
@@ -23,6 +24,8 @@ pub struct Session {
     pub(crate) hashing: Hashing,
     /// The documents whose texts are known.
     pub(crate) documents: Documents,
+    /// What the editor shows of modules.
+    pub(crate) shown: Shown,
 }
 
 impl Session {
@@ -36,6 +39,7 @@ impl Session {
             takes_versions: false,
             hashing,
             documents: Documents::new(alloc),
+            shown: Shown::new(alloc),
         }
     }
 

@@ -8,15 +8,15 @@ ghost use Rattle.editor_messages.specs.Messages.{Asks, Close, Tells, Text};
 ghost use Rattle.json.specs.Tree.{HasNumbers};
 ghost use Rattle.editor_session.specs.Sessions.{after_request, exit_status, with_text, without_texts};
 ghost use Rattle.editor_session.specs.Steps.{IsStepOrShort, Says, Steps};
-ghost use Rattle.editor_session.specs.Inner.Heard.{TellsThose};
-ghost use Rattle.editor_session.specs.Told.{AreTold};
+ghost use Rattle.editor_session.specs.Inner.Heard.{Have};
+ghost use Rattle.editor_session.specs.Told.{TellsText};
 ghost use Rattle.editor_session.specs.Views.{session_seen};
 
 use crate::phase::Phase;
 use crate::session::Session;
-use crate::told::{closed_messages, lost_messages, text_messages};
 use crate::turn::Turn;
 use editor_messages::{Id, Message, Notification, ReplyError, Request, error_reply, message_of};
+use editor_modules::ToldMessage;
 use json::{Error, Scratch, Value};
 use open_files::Disk;
 use std::alloc::{AllocError, Global};
@@ -85,16 +85,15 @@ impl Session {
         uri: &str,
         version: Option<u64>,
         text: &str,
-    ) -> Result<Vec<Vec<u8>>, AllocError>
-        ensures taken { OnOk result (session_seen self.new
-            ≡ with_text uri.now version (Some text.now) (session_seen self.old)) }
+    ) -> Result<Vec<ToldMessage>, AllocError>
+        ensures told { IfOk result (Have (TellsText (D.files disk.now) uri.now (Some text.now)
+            (with_text uri.now version (Some text.now) (session_seen self.old))
+            (session_seen self.new))) }
         ensures forgotten { OnErr result
             (session_seen self.new ≡ with_text uri.now None None (session_seen self.old)) }
-        ensures told { IfOk result (TellsThose
-            (AreTold (session_seen self.new) (D.files disk.now) uri.now (Some text.now))) }
     {
         self.keep(alloc, uri, version, text)?;
-        match text_messages(alloc, self, disk, uri, text) {
+        match self.tell_text(alloc, disk, uri) {
             Ok(messages) => Ok(messages),
             Err(error) => {
                 self.forget(uri);
@@ -111,19 +110,19 @@ impl Session {
         uri: &str,
         version: Option<u64>,
         text: Option<&str>,
-    ) -> Result<Vec<Vec<u8>>, AllocError>
-        ensures taken { OnOk result (session_seen self.new
-            ≡ with_text uri.now version (text_seen text.entry) (session_seen self.old)) }
+    ) -> Result<Vec<ToldMessage>, AllocError>
+        ensures told { IfOk result (Have (TellsText (D.files disk.now) uri.now
+            (text_seen text.entry)
+            (with_text uri.now version (text_seen text.entry) (session_seen self.old))
+            (session_seen self.new))) }
         ensures forgotten { OnErr result
             (session_seen self.new ≡ with_text uri.now None None (session_seen self.old)) }
-        ensures told { IfOk result (TellsThose (AreTold (session_seen self.new)
-            (D.files disk.now) uri.now (text_seen text.entry))) }
     {
         match text {
             Some(text) => self.take_text(alloc, disk, uri, version, text),
             None => {
                 self.forget(uri);
-                lost_messages(alloc, uri)
+                self.tell_lost(alloc, uri)
             }
         }
     }
@@ -160,7 +159,7 @@ impl Session {
             Phase::Fresh => Turn::Quiet,
             Phase::Open => {
                 self.forget(uri);
-                match closed_messages(alloc, self, disk, uri) {
+                match self.tell_closed(alloc, disk, uri) {
                     Ok(messages) => Turn::Publish(messages),
                     Err(_) => Turn::Quiet,
                 }

@@ -1,5 +1,7 @@
 //! What a step leads to.
 
+use editor_modules::ToldMessage;
+
 /// What a step leads to.
 #[derive(Debug, Drop)]
 pub enum Turn {
@@ -7,8 +9,8 @@ pub enum Turn {
     Quiet,
     /// A reply with this body is said.
     Say(Vec<u8>),
-    /// Messages with these bodies are said in turn: the diagnostics of documents.
-    Publish(Vec<Vec<u8>>),
+    /// These messages are said in turn: the diagnostics of documents.
+    Publish(Vec<ToldMessage>),
     /// The run ends with this status.
     End(u8),
 }

@@ -11,12 +11,12 @@ use std::alloc::{AllocError, Global};
 /// A document that is open.
 #[derive(Drop)]
 pub struct OpenFile {
-    pub(crate) uri: String,
+    pub uri: String,
     /// That its editor told, if it told one.
-    pub(crate) version: Option<u64>,
+    pub version: Option<u64>,
     /// Of its file, if its URI is that of a file on this machine.
-    pub(crate) path: Option<Vec<u8>>,
-    pub(crate) text: String,
+    pub path: Option<Vec<u8>>,
+    pub text: String,
 }
 
 /// The document of this URI with this version and this text.

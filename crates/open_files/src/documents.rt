@@ -2,6 +2,7 @@
 
 ghost use Rattle.std.specs.Prelude.{◌≡◌, ◌++◌, [], OnErr, OnOk, option_map};
 ghost use Rattle.open_files.specs.OpenTexts.{open_names, text_of, text_open, uri_open, version_of, version_open, with_open_text, without};
+ghost use Rattle.open_files.specs.Views.{open_seen};
 
 use crate::document::{
     OpenFile, add_names, open_file, text_of, text_open, uri_open, version_of, version_open,
@@ -33,6 +34,13 @@ impl Documents {
         Documents {
             files: Vec::new(alloc),
         }
+    }
+
+    /// All of them.
+    pub fn as_slice(&self) -> &[OpenFile]
+        ensures { open_seen result.now ≡ self.now }
+    {
+        self.files.as_slice()
     }
 
     /// The text of the document that has this URI, if it is open.

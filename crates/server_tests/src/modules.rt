@@ -3,7 +3,7 @@
 use crate::checks::{holds, push_copies, same_bytes};
 use crate::devices::{sink, source};
 use crate::disk::{Entry, FewFiles, host_of};
-use crate::sessions::{BEGIN, Said, new_session, plays_over};
+use crate::sessions::{BEGIN, Said, goes_on, new_session, plays_over};
 use editor_session::Turn;
 use hcl_source::{ByteSink, ByteSource};
 use std::alloc::Global;
@@ -122,13 +122,96 @@ fn modules(rt: HostRuntime) {
     plays_over(&rt, alloc, &disk, &ODD_MESSAGES);
 }
 
+/// A module of three files, what is left of it when two are deleted, and two with wrong options.
+static WHOLE: [Entry; 4] = [
+    ("/d/a.tf", "variable \"a\" {}\n"),
+    ("/d/b.tf", "variable \"b\" {}\n"),
+    ("/d/z.tf", ""),
+    ("/d/.tfrules", "--rules terraform_typed_variables\n"),
+];
+
+static LEFT: [Entry; 2] = [
+    ("/d/a.tf", "variable \"a\" {}\n"),
+    ("/d/.tfrules", "--rules terraform_typed_variables\n"),
+];
+
+static UNKNOWN: [Entry; 3] = [
+    ("/d/a.tf", "variable \"a\" {}\n"),
+    ("/d/b.tf", "variable \"b\" {}\n"),
+    ("/d/.tfrules", "--rules x\n"),
+];
+
+static OPENED: [Said; 2] = [
+    BEGIN,
+    (
+        r#"{"method":"textDocument/didOpen","params":{"textDocument":{"uri":"file:///d/a.tf","text":"variable \"a\" {}\n"}}}"#,
+        r#"{"jsonrpc":"2.0","method":"textDocument/publishDiagnostics","params":{"uri":"file:///d/a.tf","diagnostics":[{"range":{"start":{"line":0,"character":0},"end":{"line":0,"character":1}},"severity":2,"code":"terraform_typed_variables","codeDescription":{"href":"https://github.com/terraform-linters/tflint-ruleset-terraform/blob/main/docs/rules/terraform_typed_variables.md"},"source":"tfls","message":"variable \"a\" has no type"}]}}
+{"jsonrpc":"2.0","method":"textDocument/publishDiagnostics","params":{"uri":"file:///d/b.tf","diagnostics":[{"range":{"start":{"line":0,"character":0},"end":{"line":0,"character":1}},"severity":2,"code":"terraform_typed_variables","codeDescription":{"href":"https://github.com/terraform-linters/tflint-ruleset-terraform/blob/main/docs/rules/terraform_typed_variables.md"},"source":"tfls","message":"variable \"b\" has no type"}]}}
+{"jsonrpc":"2.0","method":"textDocument/publishDiagnostics","params":{"uri":"file:///d/z.tf","diagnostics":[]}}"#,
+    ),
+];
+
+/// What was told of a deleted file is withdrawn, once. Nothing was of the other one.
+static DELETED: [Said; 2] = [
+    (
+        r#"{"method":"textDocument/didChange","params":{"textDocument":{"uri":"file:///d/a.tf"},"contentChanges":[{"text":""}]}}"#,
+        r#"{"jsonrpc":"2.0","method":"textDocument/publishDiagnostics","params":{"uri":"file:///d/b.tf","diagnostics":[]}}
+{"jsonrpc":"2.0","method":"textDocument/publishDiagnostics","params":{"uri":"file:///d/a.tf","diagnostics":[]}}"#,
+    ),
+    (
+        r#"{"method":"textDocument/didChange","params":{"textDocument":{"uri":"file:///d/a.tf"},"contentChanges":[{"text":"a="}]}}"#,
+        r#"{"jsonrpc":"2.0","method":"textDocument/publishDiagnostics","params":{"uri":"file:///d/a.tf","diagnostics":[{"range":{"start":{"line":0,"character":2},"end":{"line":0,"character":2}},"severity":1,"source":"tfls","message":"unexpected end"}]}}"#,
+    ),
+];
+
+/// The files are there again, and another document is opened.
+static BACK: [Said; 1] = [(
+    r#"{"method":"textDocument/didOpen","params":{"textDocument":{"uri":"file:///d/c.tf","text":"b="}}}"#,
+    r#"{"jsonrpc":"2.0","method":"textDocument/publishDiagnostics","params":{"uri":"file:///d/a.tf","diagnostics":[{"range":{"start":{"line":0,"character":2},"end":{"line":0,"character":2}},"severity":1,"source":"tfls","message":"unexpected end"}]}}
+{"jsonrpc":"2.0","method":"textDocument/publishDiagnostics","params":{"uri":"file:///d/b.tf","diagnostics":[{"range":{"start":{"line":0,"character":0},"end":{"line":0,"character":1}},"severity":2,"code":"terraform_typed_variables","codeDescription":{"href":"https://github.com/terraform-linters/tflint-ruleset-terraform/blob/main/docs/rules/terraform_typed_variables.md"},"source":"tfls","message":"variable \"b\" has no type"}]}}
+{"jsonrpc":"2.0","method":"textDocument/publishDiagnostics","params":{"uri":"file:///d/c.tf","diagnostics":[{"range":{"start":{"line":0,"character":2},"end":{"line":0,"character":2}},"severity":1,"source":"tfls","message":"unexpected end"}]}}
+{"jsonrpc":"2.0","method":"textDocument/publishDiagnostics","params":{"uri":"file:///d/z.tf","diagnostics":[]}}"#,
+)];
+
+/// Once the module can't be linted, the open documents still have their faults, and the other file nothing.
+static UNLINTED: [Said; 3] = [
+    (
+        r#"{"method":"textDocument/didChange","params":{"textDocument":{"uri":"file:///d/c.tf"},"contentChanges":[{"text":"b="}]}}"#,
+        r#"{"jsonrpc":"2.0","method":"textDocument/publishDiagnostics","params":{"uri":"file:///d/c.tf","diagnostics":[{"range":{"start":{"line":0,"character":2},"end":{"line":0,"character":2}},"severity":1,"source":"tfls","message":"unexpected end"}]}}
+{"jsonrpc":"2.0","method":"textDocument/publishDiagnostics","params":{"uri":"file:///d/a.tf","diagnostics":[{"range":{"start":{"line":0,"character":2},"end":{"line":0,"character":2}},"severity":1,"source":"tfls","message":"unexpected end"}]}}
+{"jsonrpc":"2.0","method":"textDocument/publishDiagnostics","params":{"uri":"file:///d/b.tf","diagnostics":[]}}"#,
+    ),
+    (
+        r#"{"method":"textDocument/didChange","params":{"textDocument":{"uri":"file:///d/c.tf"},"contentChanges":[{"text":""}]}}"#,
+        r#"{"jsonrpc":"2.0","method":"textDocument/publishDiagnostics","params":{"uri":"file:///d/c.tf","diagnostics":[]}}"#,
+    ),
+    (
+        r#"{"method":"textDocument/didClose","params":{"textDocument":{"uri":"file:///d/a.tf"}}}"#,
+        r#"{"jsonrpc":"2.0","method":"textDocument/publishDiagnostics","params":{"uri":"file:///d/a.tf","diagnostics":[]}}"#,
+    ),
+];
+
+/// What an editor shows of a module is withdrawn when it isn't told again.
+#[test]
+fn what_is_shown_no_more(rt: HostRuntime) {
+    let alloc = rt.alloc();
+    let mut session = new_session(alloc);
+    let whole = FewFiles::new(alloc, &WHOLE, None);
+    goes_on(&rt, alloc, &mut session, &whole, &OPENED);
+    let left = FewFiles::new(alloc, &LEFT, None);
+    goes_on(&rt, alloc, &mut session, &left, &DELETED);
+    goes_on(&rt, alloc, &mut session, &whole, &BACK);
+    let unknown = FewFiles::new(alloc, &UNKNOWN, None);
+    goes_on(&rt, alloc, &mut session, &unknown, &UNLINTED);
+}
+
 /// How many messages follow the first change in the module, if the call of this number on the disk fails.
 fn count_messages(alloc: Global, failing: usize) -> usize {
     let disk = FewFiles::new(alloc, &MODULE, Some(failing));
     let mut session = new_session(alloc);
     for (body, _) in [MESSAGES[0], MESSAGES[1]] {
-        if let Ok(Turn::Publish(bodies)) = session.step(alloc, &disk, body.as_bytes()) {
-            return bodies.len();
+        if let Ok(Turn::Publish(messages)) = session.step(alloc, &disk, body.as_bytes()) {
+            return messages.len();
         }
     }
     0

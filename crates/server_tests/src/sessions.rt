@@ -2,6 +2,7 @@
 
 use crate::checks::{holds, push_copies, same_bytes, with_copies};
 use crate::disk::FewFiles;
+use editor_modules::ToldMessage;
 use editor_session::{Session, Turn};
 use std::alloc::Global;
 use std::process::Abort;
@@ -16,7 +17,7 @@ fn said(rt: &impl Abort, alloc: Global, turn: &Turn) -> Vec<u8> {
     match turn {
         Turn::Quiet => push_copies(rt, &mut text, b"-", 1),
         Turn::Say(body) => push_copies(rt, &mut text, body, 1),
-        Turn::Publish(bodies) => push_lines(rt, &mut text, bodies),
+        Turn::Publish(messages) => push_bodies(rt, &mut text, messages),
         Turn::End(0) => push_copies(rt, &mut text, b"0", 1),
         Turn::End(1) => push_copies(rt, &mut text, b"1", 1),
         Turn::End(_) => push_copies(rt, &mut text, b"another status", 1),
@@ -24,13 +25,13 @@ fn said(rt: &impl Abort, alloc: Global, turn: &Turn) -> Vec<u8> {
     text
 }
 
-/// Appends these, with a newline between two.
-fn push_lines(rt: &impl Abort, text: &mut Vec<u8>, lines: &[Vec<u8>]) {
-    for line in lines {
+/// Appends the bodies of these messages, with a newline between two.
+fn push_bodies(rt: &impl Abort, text: &mut Vec<u8>, messages: &[ToldMessage]) {
+    for message in messages {
         if !text.is_empty() {
             push_copies(rt, text, b"\n", 1);
         }
-        push_copies(rt, text, line, 1);
+        push_copies(rt, text, message.body.as_slice(), 1);
     }
 }
 
@@ -54,19 +55,29 @@ pub fn new_session(alloc: Global) -> Session {
     Session::new(alloc, Hashing::with_shared_seed())
 }
 
-/// Checks the answers to messages from the first on, with these files on the disk.
-pub fn plays_over(rt: &impl Abort, alloc: Global, disk: &FewFiles, messages: &[Said]) {
-    let mut session = new_session(alloc);
+/// Checks the answers to messages in a session, with these files on the disk.
+pub fn goes_on(
+    rt: &impl Abort,
+    alloc: Global,
+    session: &mut Session,
+    disk: &FewFiles,
+    messages: &[Said],
+) {
     for (body, wanted) in messages {
         says(
             rt,
             alloc,
-            &mut session,
+            session,
             disk,
             body.as_bytes(),
             wanted.as_bytes(),
         );
     }
+}
+
+/// The same from the first message on.
+pub fn plays_over(rt: &impl Abort, alloc: Global, disk: &FewFiles, messages: &[Said]) {
+    goes_on(rt, alloc, &mut new_session(alloc), disk, messages);
 }
 
 /// The same with no file on the disk.

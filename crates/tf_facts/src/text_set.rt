@@ -70,7 +70,7 @@ impl TextSet {
 
     /// Inserts a copy of a text, unless it is there. The copy is made before the lookup: that takes less time than two
     /// lookups.
-    pub(crate) fn insert_copy(&mut self, alloc: Global, text: &str) -> Result<(), AllocError>
+    pub fn insert_copy(&mut self, alloc: Global, text: &str) -> Result<(), AllocError>
         ensures ok { OnOk result (self.new ≡ insert_key bytes_eq self.old text.now) }
         ensures err { OnErr result (self.new ≡ self.old) }
     {

@@ -37,11 +37,11 @@ module _ (disk : Files) (left : Option (List ℕ)) (read_failed : Bool) (waiting
         ended = refl;
       })
   by_end (turns.Publish told) false end steps e =
-      let text = frames (map (λ b. b.items) told.items) in
+      let text = frames (map (λ m. m.body.items) told.items) in
       subst (λ o. TakenBy disk o left read_failed false waiting bytes rest text s t) (sym e)
       (record { body = body; begins = begins; goes = λ bodies more last runs. (t, turns.Publish told, steps, (more, refl, runs)) })
   by_end (turns.Publish told) true end steps e =
-      let text = frames (map (λ b. b.items) told.items) in
+      let text = frames (map (λ m. m.body.items) told.items) in
       subst (λ o. TakenBy disk o left read_failed true waiting bytes rest text s t) (sym e)
       (record {
         bodies = body ∷ [];

@@ -34,8 +34,10 @@ abbrev pub LeadsOn : Turn → (List ℕ → Ending → Type 0) → List (List �
 LeadsOn turn.Quiet rest bodies out end = rest out end
 LeadsOn (turn.Say body) rest bodies out end =
     (more : List ℕ) × (out ≡ frame body.items ++ more) × rest more end
-LeadsOn (turn.Publish told) rest bodies out end =
-    (more : List ℕ) × (out ≡ frames (map (λ body. body.items) told.items) ++ more) × rest more end
+LeadsOn (turn.Publish messages) rest bodies out end =
+    (more : List ℕ)
+    × (out ≡ frames (map (λ message. message.body.items) messages.items) ++ more)
+    × rest more end
 LeadsOn (turn.End status) rest bodies out end =
     (bodies ≡ []) × (out ≡ []) × (end ≡ ending.Exit status)
 

@@ -8,21 +8,22 @@ ghost use Rattle.tfls_command.specs.Runs.{HasServed, frames};
 
 use crate::ending::Ending;
 use crate::host::Host;
+use editor_modules::ToldMessage;
 use editor_session::{Session, Turn};
 use hcl_source::{ByteSink, ByteSource, Failed};
 use message_frames::{Inbox, Received, receive, write_frame};
 use open_files::Disk;
 use std::alloc::Global;
 
-/// Writes messages with these bodies in turn, up to the first write that fails.
-fn write_frames<O: ByteSink>(out: &mut O, bodies: &[Vec<u8>]) -> Result<(), Failed>
+/// Writes these messages in turn, up to the first write that fails.
+fn write_frames<O: ByteSink>(out: &mut O, messages: &[ToldMessage]) -> Result<(), Failed>
     requires { O.failed out.old ≡ false }
     ensures took { Took (writer O.ByteSink out.old out.new)
-        (frames (map (λ body. body.items) bodies.now)) }
+        (frames (map (λ message. message.body.items) messages.now)) }
     ensures failed { O.failed out.new ≡ is_err result }
 {
-    for body in bodies {
-        if let Err(failed) = write_frame(out, body.as_slice()) {
+    for message in messages {
+        if let Err(failed) = write_frame(out, message.body.as_slice()) {
             return Err(failed);
         }
     }
@@ -41,7 +42,7 @@ fn send<O: ByteSink>(out: &mut O, turn: Turn) -> Option<Ending>
             Ok(()) => None,
             Err(_) => Some(Ending::WriteFailed),
         },
-        Turn::Publish(bodies) => match write_frames(out, bodies.as_slice()) {
+        Turn::Publish(messages) => match write_frames(out, messages.as_slice()) {
             Ok(()) => None,
             Err(_) => Some(Ending::WriteFailed),
         },

@@ -16,7 +16,7 @@ use Rattle.tfls_command.specs.declared.ending.Ending.TheVariants as ending
 abbrev pub turn_text : Turn → List ℕ
 turn_text turn.Quiet = []
 turn_text (turn.Say body) = frame body.items
-turn_text (turn.Publish bodies) = frames (map (λ body. body.items) bodies.items)
+turn_text (turn.Publish messages) = frames (map (λ message. message.body.items) messages.items)
 turn_text (turn.End status) = []
 
 -- how the run ends with a turn, if it does, by whether a write failed
@@ -24,8 +24,8 @@ abbrev pub EndsTurn : Turn → Bool → Option Ending → Type 0
 EndsTurn turn.Quiet failed end = (end ≡ None) × (failed ≡ false)
 EndsTurn (turn.Say body) false end = end ≡ None
 EndsTurn (turn.Say body) true end = end ≡ Some ending.WriteFailed
-EndsTurn (turn.Publish bodies) false end = end ≡ None
-EndsTurn (turn.Publish bodies) true end = end ≡ Some ending.WriteFailed
+EndsTurn (turn.Publish messages) false end = end ≡ None
+EndsTurn (turn.Publish messages) true end = end ≡ Some ending.WriteFailed
 EndsTurn (turn.End status) failed end = end ≡ Some (ending.Exit status)
 
 abbrev pub IsSent : Turn → Writer → Option Ending → Type 0

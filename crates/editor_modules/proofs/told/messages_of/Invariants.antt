@@ -4,4 +4,4 @@ use Rattle.editor_modules.proofs.ModuleLemmas.{IsLeft}
 use Rattle.editor_modules.proofs.told.messages_of.Given as goal
 
 abbrev pub invariant-loop-number : goal.invariant-loop-number
-invariant-loop-number l = IsLeft l.units l.documents l.checked.issues.items (map string_bytes l.names) l.checked.files.items l.number l.bodies.items
+invariant-loop-number l = IsLeft l.units l.documents l.checked.issues.items (map string_bytes l.names) l.checked.files.items l.number l.all.items

@@ -4,7 +4,7 @@ use Rattle.tfls_command.specs.Runs.{frames}
 use Rattle.tfls_command.proofs.serve.write_frames.Given as goal
 
 -- if the writer takes the remaining frames, it has taken all of them
-abbrev pub invariant-loop-body : goal.invariant-loop-body
-invariant-loop-body g l =
+abbrev pub invariant-loop-message : goal.invariant-loop-message
+invariant-loop-message g l =
     (g.O.ByteSink.failed l.out ≡ false)
-    × Goes (g.O.ByteSink.taken l.initial.out) (g.O.ByteSink.taken l.out) (frames (map (λ body. body.items) (drop l.body-index l.bodies))) (frames (map (λ body. body.items) l.bodies))
+    × Goes (g.O.ByteSink.taken l.initial.out) (g.O.ByteSink.taken l.out) (frames (map (λ m. m.body.items) (drop l.message-index l.messages))) (frames (map (λ m. m.body.items) l.messages))

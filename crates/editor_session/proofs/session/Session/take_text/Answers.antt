@@ -7,4 +7,5 @@ use Rattle.editor_session.proofs.session.Session.take_text.Goals as goal
 
 pub returns-in-Err-clause-forgotten : goal.returns-in-Err-clause-forgotten
 returns-in-Err-clause-forgotten g c =
-    c.forget.ensures ∙ ap (with_text c.args.uri.now None None) c.in_ok-keep.ensures.kept ∙ forgotten c.args.uri.now c.args.version c.args.text.now (session_seen c.args.self.now)
+    let forget = with_text c.args.uri.now None None in
+    c.forget.ensures ∙ ap forget c.in-Err.ensures.unchanged ∙ ap forget c.in_ok-keep.ensures.kept ∙ forgotten c.args.uri.now c.args.version c.args.text.now (session_seen c.args.self.now)

@@ -1,0 +1,3 @@
+-- Definitions for the code's own parts, which its inner contracts use. Nobody has to believe them.
+pub mod Added
+pub mod Withdrawn
