@@ -1,4 +1,5 @@
--- Neovim 0.7 or later: formats a Terraform file by the language server tfls when it is written, and shows why it is refused.
+-- Neovim 0.7 or later: formats a Terraform file by the language server tfls when it is written, and shows why it is refused,
+-- and the linter's issues in its module.
 --
 -- Copy this file to ~/.config/nvim/plugin/tfls.lua. A text that is refused is written as it is, and has a diagnostic.
 -- The package in ../vim formats by calls of tffmt: with both, put `let g:tffmt_on_save = 0` into the settings.

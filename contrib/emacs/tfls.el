@@ -5,8 +5,8 @@
 ;;
 ;;     (add-hook 'terraform-mode-hook #'eglot-ensure)
 ;;
-;; A text that is refused is saved as it is; flymake shows why.  tffmt.el formats without eglot: use one or the
-;; other.  Emacs 29 has eglot; for older ones it is a package.
+;; A text that is refused is saved as it is; flymake shows why, and the linter's issues.  tffmt.el formats without
+;; eglot: use one or the other.  Emacs 29 has eglot; for older ones it is a package.
 
 ;;; Code:
 

@@ -129,7 +129,7 @@ def run_vim(group):
 PACKAGED = """set nomore
 edit a.tf
 silent write
-call writefile([exists(':Tffmt'), join(getline(1, '$'), '|'), has('nvim') && exists('#tfrules#BufWritePost')], 'told')
+call writefile([exists(':Tffmt'), join(getline(1, '$'), '|')], 'told')
 compiler tfrules
 call writefile([b:current_compiler], 'compiler')
 qall!
@@ -153,8 +153,7 @@ def run_packaged_vim(group):
         *words, '-S', 'test.vim', cwd=here, HOME=str(home), XDG_DATA_HOME=str(home / '.local/share'), PATH=path
     )
     told = [(here / name).read_text().split() if (here / name).exists() else done for name in ('told', 'compiler')]
-    is_nvim = str(int(editor == 'nvim'))
-    group.check('what the package brings', told, [['2', 'a', '=', '1', is_nvim], ['tfrules']])
+    group.check('what the package brings', told, [['2', 'a', '=', '1'], ['tfrules']])
 
 
 KAKOUNE = """source PLUGIN
@@ -323,7 +322,7 @@ def batch(group):
     group.check('compiles without a warning', (warnings[0], warnings[2]), (0, b''))
 
 
-# --- what tfrules finds, in the editors --------------------------------------------------------------------------
+# --- what tfrules finds, in Vim and in Neovim --------------------------------------------------------------------
 
 # A module with a find of each severity that there is, in a folder with a blank in its name.
 MODULE = {
@@ -331,7 +330,7 @@ MODULE = {
     'a b/o.tf': b'output "o" {\n  value = var.Two\n}\n\nvariable "t" {}\ny = var.t\n',
 }
 OTHERS = {'a b/m.tf': b'x =\n', 'a b/o.tf': b''}
-RULES = ['--rules', 'terraform_unused_declarations,terraform_naming_convention,terraform_typed_variables']
+RULES = '--rules terraform_unused_declarations,terraform_naming_convention,terraform_typed_variables'
 FOUND = [
     ('a b/m.tf', 1, 1, 'W', 'variable "one" is declared but not used', 'terraform_unused_declarations'),
     ('a b/m.tf', 2, 1, 'N', 'variable name "Two" must match snake_case', 'terraform_naming_convention'),
@@ -367,7 +366,7 @@ qall!
 
     group.check(
         'the list has the report of the module',
-        made(MODULE, ' '.join(RULES)),
+        made(MODULE, RULES),
         [[file, line, column, kind, '%s (%s)' % (text, rule)] for file, line, column, kind, text, rule in FOUND],
     )
     group.check('and a refusal', made(OTHERS), [['a b/m.tf', 1, 4, 'e', 'unexpected token']])
@@ -395,140 +394,6 @@ qall!
         [it[4] for it in made(OTHERS, '--rules bogus')],
         ['tfrules-all: error: unknown rule "bogus"'],
     )
-
-
-DIAGNOSED = """
-%s
-vim.opt.runtimepath:prepend("%s/vim")
-require("tfrules").enable()
-local function told()
-  local list = {}
-  for _, it in ipairs(vim.diagnostic.get(0)) do
-    table.insert(list, { it.lnum + 1, it.col + 1, it.severity, it.message, it.code or "" })
-  end
-  return list
-end
-vim.cmd([[edit a\\ b/m.tf]])
-vim.wait(20000, function() return #told() == %d end, 20)
-vim.fn.writefile({ vim.fn.json_encode(told()) }, "list")
-vim.fn.setline(1, "x = 1")
-vim.fn.setline(2, "")
-vim.fn.setline(3, "")
-vim.cmd("write")
-vim.wait(20000, function() return #told() == 0 end, 20)
-vim.fn.writefile({ vim.fn.json_encode(told()) }, "after")
-vim.cmd("qall!")
-"""
-
-
-# A module that isn't linted, because of its options.
-ODD = dict(MODULE, **{'a b/.tfrules': b'--bogus\n'})
-REFUSAL = 'tfrules-all: error: %s.tfrules:1: no option of a project: "--bogus"'
-NOTIFIED = """
-vim.opt.runtimepath:prepend("%s/vim")
-require("tfrules").enable()
-local said = {}
-vim.notify = function(text) table.insert(said, text) end
-vim.cmd([[edit a\\ b/m.tf]])
-vim.wait(20000, function() return #said > 0 end, 20)
-vim.fn.writefile(said, "said")
-vim.cmd("qall!")
-"""
-
-
-def run_diagnostics(group):
-    """Neovim's diagnostics."""
-    if not group.has('nvim', checks=4):
-        return
-    command = 'vim.g.tfrules_command = { "%s", "--rules", "%s" }'
-    words = ['nvim', '-u', 'NONE', '-i', 'NONE', '--headless', '-c', 'luafile test.lua', '-c', 'qall!']
-    for name, files, setting, wanted in (
-        (
-            'the report of the file at hand',
-            MODULE,
-            command % (group.linted, RULES[1]),
-            [[1, 1, 2, FOUND[0][4], FOUND[0][5]], [2, 1, 3, FOUND[1][4], FOUND[1][5]]],
-        ),
-        ('a refusal', OTHERS, '', [[1, 4, 1, 'unexpected token', '']]),
-    ):
-        here = group.fresh()
-        put(here, files)
-        (here / 'test.lua').write_text(DIAGNOSED % (setting, group.contrib, len(wanted)))
-        done = group.call(*words, cwd=here, PATH=group.before_path())
-        told = [json.loads((here / kept).read_text()) if (here / kept).exists() else done for kept in ('list', 'after')]
-        group.check(name + ', and nothing once it is mended', told, [wanted, []])
-    here = group.fresh()
-    put(here, ODD)
-    (here / 'test.lua').write_text(NOTIFIED % group.contrib)
-    done = group.call(*words, cwd=here, PATH=group.before_path())
-    told = (here / 'said').read_text().splitlines() if (here / 'said').exists() else done
-    group.check('a refusal elsewhere is a message', told, [REFUSAL % 'a b/'])
-    here = group.fresh()
-    put(here, OTHERS)
-    (here / 'test.lua').write_text(DIAGNOSED % (command % ('no-such-program', ''), group.contrib, 0))
-    done = group.call(*words, cwd=here)
-    group.holds('without the program', b'no-such-program: not found' in done[2], done)
-
-
-FLYMAKE = """
-(load "%s/emacs/tfrules.el" nil t)
-(setq %s make-backup-files nil)
-(defun told ()
-  (flymake-start)
-  (while (process-live-p tfrules--process) (accept-process-output nil 0.05))
-  (accept-process-output nil 0.2)
-  (dolist (it (flymake-diagnostics))
-    (goto-char (flymake-diagnostic-beg it))
-    (princ (format "%%d:%%d %%s %%s\n" (line-number-at-pos) (1+ (current-column)) (flymake-diagnostic-type it)
-                   (flymake-diagnostic-text it)))))
-(find-file "a b/m.tf")
-(tfrules-mode 1)
-(told)
-(erase-buffer)
-(save-buffer)
-(princ "mended\n")
-(told)
-"""
-
-
-def run_flymake(group):
-    """Flymake in Emacs."""
-    if not group.has('emacs', checks=7):
-        return
-    for name, files, setting, wanted in (
-        (
-            'the report of the file at hand',
-            MODULE,
-            'tfrules-command \'("%s" "--rules" "%s")' % (group.linted, RULES[1]),
-            ['1:1 :warning %s (%s)' % FOUND[0][4:], '2:1 :note %s (%s)' % FOUND[1][4:]],
-        ),
-        ('a refusal', OTHERS, '', ['1:1 :error unexpected token']),
-        ('nothing of a module that is refused', ODD, '', []),
-    ):
-        here = group.fresh()
-        put(here, files)
-        (here / 'test.el').write_text(FLYMAKE % (group.contrib, setting))
-        status, out, err = group.call('emacs', '-Q', '--batch', '-l', 'test.el', cwd=here, PATH=group.before_path())
-        group.check(
-            name + ', and nothing once it is mended',
-            (sorted(out.decode().splitlines()), status),
-            (sorted(wanted + ['mended']), 0),
-        )
-        told = {line for line in err.decode().splitlines() if 'tfrules' in line}
-        group.check(name + ', and what is a message', told, {REFUSAL % ''} if files == ODD else set())
-    here = group.fresh()
-    warnings = group.call(
-        'emacs',
-        '-Q',
-        '--batch',
-        '--eval',
-        '(setq byte-compile-dest-file-function (lambda (_) "%s"))' % (here / 'x.elc'),
-        '-f',
-        'batch-byte-compile',
-        group.contrib / 'emacs' / 'tfrules.el',
-        cwd=here,
-    )
-    group.check('compiles without a warning', (warnings[0], warnings[2]), (0, b''))
 
 
 # --- the language server, in the editors -------------------------------------------------------------------------
