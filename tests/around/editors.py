@@ -660,7 +660,7 @@ def check_emacs_names(group):
 
 def run_emacs_server(group):
     """Eglot in Emacs, with the language server."""
-    if not has_server(group, 10) or not group.has('emacs', checks=10):
+    if not has_server(group, 11) or not group.has('emacs', checks=11):
         return
     here = group.fresh()
     start = [
@@ -672,7 +672,7 @@ def run_emacs_server(group):
         "(progn (require 'package) (package-initialize) (require 'eglot))",
     ]
     if group.call(*start, cwd=here)[0] != 0:
-        group.skip('eglot', 10)
+        group.skip('eglot', 11)
         return
 
     def edit(text, typed='n=1', form='', load='(load "%s/emacs/tfls.el" nil t)' % group.contrib):
@@ -696,6 +696,9 @@ def run_emacs_server(group):
     group.check('a refused text', edit(OTHER, 'n='), (b'n=\nn=\n' + OTHER, 't'))
     marked = edit(OTHER, '/*\U0001F600*/ n=]', form=FAULTS)
     group.check('what flymake shows', marked[1], '9 10 tfls: unexpected token t')
+    linted = edit(b'variable "y" {}\n' + OUTPUT, '# x', form=FAULTS)
+    issue = 'tfls [terraform_typed_variables]: variable "y" has no type'
+    group.check('what flymake shows of an issue', linted[1], '9 10 %s t' % issue)
     group.check('a server that fails', edit(OTHER, form=FORGET)[1], 'nil t')
     check_emacs_names(group)
     warnings = group.call(
