@@ -64,14 +64,7 @@ pub fn goes_on(
     messages: &[Said],
 ) {
     for (body, wanted) in messages {
-        says(
-            rt,
-            alloc,
-            session,
-            disk,
-            body.as_bytes(),
-            wanted.as_bytes(),
-        );
+        says(rt, alloc, session, disk, body.as_bytes(), wanted.as_bytes());
     }
 }
 
