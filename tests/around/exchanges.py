@@ -88,6 +88,14 @@ def no_name(number):
     return error(number, -32803, 'no name that can be changed is here')
 
 
+def no_declaration(number):
+    return error(number, -32803, 'no file of the module declares this name')
+
+
+def lost_text(number):
+    return error(number, -32803, 'the text of an open document was lost')
+
+
 def name_taken(number):
     return error(number, -32803, 'the module has this name already')
 
@@ -654,6 +662,18 @@ def new_names():
         opened,
         about('rename', of_document(ALONE, ',"position":{"line":0,"character":12},"newName":"1","newName":"a"')),
     ], [changes('1', ALONE, 'a', *all_three)]
+    for line, character in ((1, 22), (1, 29)):
+        sent = [opened, rename(1, ALONE, spot(line, character), 'new')]
+        yield 'a name without a declaration, at %d:%d' % (line, character), sent, [no_declaration('1')]
+    other, asked = did_open(OTHER, 'b = 1'), rename(1, ALONE, spot(0, 10), 'new')
+    for name, lost, said in (
+        ('a change of a range', [other, change(OTHER, [{'range': RANGE, 'text': 'b'}])], []),
+        ('a body that is no JSON', [NO_JSON[0][1], did_open(KNOWN, TEXT)], [not_json()]),
+    ):
+        for after, again in (('', []), (' and a new text', [other]), (' and a close', [did_close(OTHER)])):
+            sent = [opened, *lost, *again, opened, asked]
+            yield 'a new name after %s%s' % (name, after), sent, [*said, lost_text('1')]
+    yield 'a new name after a close', [opened, other, did_close(OTHER), asked], [changes('1', ALONE, 'new', *all_three)]
     yield 'the name that it has', [opened, rename(1, ALONE, spot(0, 10), 'xy')], [name_taken('1')]
     yield 'a name that is declared', [did_open(ALONE, USED + 'variable t {}\n'), rename(1, ALONE, spot(0, 10), 't')], [
         name_taken('1')

@@ -80,12 +80,12 @@ class Model:
 
     def __init__(self, fault_of):
         self.phase, self.units, self.texts, self.status = 'fresh', 'utf-16', {}, None
-        self.takes_versions, self.versions, self.fault_of = False, {}, fault_of
+        self.takes_versions, self.versions, self.has_lost, self.fault_of = False, {}, False, fault_of
 
     def answers(self, body):
         """What comes back for a message: a list of one body or none."""
         if body in exchanges.BODIES_OF_NO_JSON:
-            self.texts = {}
+            self.texts, self.has_lost = {}, True
             return [exchanges.not_json()]
         value = json.loads(body, parse_int=Number, parse_float=Number)
         method, number = text_of(at(value, 'method')), at(value, 'id')
@@ -116,6 +116,7 @@ class Model:
         else:
             return []
         text = self.texts[uri]
+        self.has_lost = self.has_lost or text is None and method != 'textDocument/didClose'
         fault = None if text is None else self.fault_of(text)
         return [exchanges.told(uri, *protocol.diagnostics(text, fault, self.units))]
 
@@ -155,7 +156,7 @@ class Model:
         if text is None:
             return exchanges.unknown_text(number)
         document = naming.Document(uri, self.versions.get(uri), NAMED.get(text) or naming.Text(text))
-        scope = naming.Scope(document.text, [document], self.units, self.takes_versions)
+        scope = naming.Scope(document.text, [document], self.units, self.takes_versions, has_lost=self.has_lost)
         offset = protocol.Places(text, self.units).near(line, character)
         return exchanges.reply(number, self.answer_in(scope, method, offset, params))
 

@@ -20,7 +20,7 @@ FRESH = ('\U0001D4B3', 'new', 'n-1', '_0', 'é2', 'local', '日本2', 'of_more_l
 BAD = ('', '1a', 'a b', '-a', 'a.b', '"a"', 'a\n', '\U0001F600', '$', 'a/**/', ' a', None, 5, ['a'], {})
 NAMES = ('main.tf', 'b c.tf', 'é.tf', 'x.tofu', '%41.tf')
 # Documents that are in no module.
-ALONE = ('values.tfvars', 'main.tf.bak', 'untitled:Untitled-1')
+ALONE = ('values.tfvars', 'main.tf.bak', '.b.tf', 'untitled:Untitled-1')
 VERSIONS = (0, 1, 7, 2147483647, -1, 1.5, '1', None)
 # The largest number of a place.
 LAST = 2**64 - 1
@@ -260,11 +260,13 @@ class Document(typing.NamedTuple):
 
 
 class Scope:
-    """The documents that share the names of one of them, in order, and the answers about its names."""
+    """The documents that share the names of one of them, in order, and the answers about its names, perhaps after the text
+    of an open document was lost."""
 
-    def __init__(self, text, documents, units, takes_versions=False, is_unread=False):
+    def __init__(self, text, documents, units, takes_versions=False, is_unread=False, has_lost=False):
         self.text, self.documents, self.units, self.takes_versions = text, documents, units, takes_versions
         self.is_unread = is_unread or any(it.text.is_refused for it in documents)
+        self.has_lost = has_lost
 
     def range(self, text, it):
         places = protocol.Places(text.text, self.units)
@@ -288,14 +290,21 @@ class Scope:
         it = self.text.name_at(offset)
         return {'result': {'range': self.range(self.text, it), 'placeholder': it.name} if it else None}
 
+    def is_declared(self, it):
+        return any(self.ranges(it.kind, it.name, (True,)))
+
     def renaming(self, offset, new):
         it = self.text.name_at(offset)
         if not is_identifier(new):
             return error(-32602, 'the new name is not an identifier')
         if not it:
             return error(-32803, 'no name that can be changed is here')
+        if self.has_lost:
+            return error(-32803, 'the text of an open document was lost')
         if self.is_unread:
             return error(-32803, 'a file of the module is refused or cannot be read')
+        if not self.is_declared(it):
+            return error(-32803, 'no file of the module declares this name')
         if any(self.ranges(it.kind, new)):
             return error(-32803, 'the module has this name already')
         return {'result': self.change(it.kind, it.name, new)}

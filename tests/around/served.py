@@ -14,7 +14,7 @@ from protocol import Fault
 
 # TFLint's pages on the rules.
 PAGES = 'https://github.com/terraform-linters/tflint-ruleset-terraform/blob/main/docs/rules/'
-NAMES = ('main.tf', 'b c.tf', 'é.tf', 'x.tofu', '%41.tf', 'notes.txt', 'values.tfvars', 'n.tf.bak')
+NAMES = ('main.tf', 'b c.tf', 'é.tf', 'x.tofu', '%41.tf', 'notes.txt', 'values.tfvars', 'n.tf.bak', '.a.tf')
 BLOCKS = (
     'variable "N" {}\n',
     'variable "N" {\n  type = string\n}\n',
@@ -55,7 +55,7 @@ def text_of(chance):
 
 
 def is_of_module(name):
-    return name.endswith(('.tf', '.tofu'))
+    return name.endswith(('.tf', '.tofu')) and not name.startswith('.')
 
 
 def plain_uri(path):

@@ -26,10 +26,14 @@ pub enum ReplyError {
     NoName,
     /// The new name isn't an identifier.
     NotIdentifier,
+    /// No file of the module declares the name.
+    NoDeclaration,
     /// The module has the new name already.
     NameTaken,
     /// A file of the module is refused or can't be read.
     UnreadModule,
+    /// The text of an open document was lost, so its places aren't known.
+    LostText,
     /// The document isn't open, or its text was lost.
     UnknownText,
     OutOfMemory,
@@ -51,7 +55,11 @@ impl ReplyError {
             ReplyError::OutOfMemory => "-32603",
             ReplyError::NotInitialized => "-32002",
             ReplyError::UnknownText => "-32801",
-            ReplyError::NoName | ReplyError::NameTaken | ReplyError::UnreadModule => "-32803",
+            ReplyError::NoName
+            | ReplyError::NoDeclaration
+            | ReplyError::NameTaken
+            | ReplyError::UnreadModule
+            | ReplyError::LostText => "-32803",
         }
     }
 
@@ -70,8 +78,10 @@ impl ReplyError {
             ReplyError::NoPlace => "no place in a document is named",
             ReplyError::NoName => "no name that can be changed is here",
             ReplyError::NotIdentifier => "the new name is not an identifier",
+            ReplyError::NoDeclaration => "no file of the module declares this name",
             ReplyError::NameTaken => "the module has this name already",
             ReplyError::UnreadModule => "a file of the module is refused or cannot be read",
+            ReplyError::LostText => "the text of an open document was lost",
             ReplyError::UnknownText => "the text of this document is not known",
             ReplyError::OutOfMemory => "out of memory",
         }

@@ -1,6 +1,7 @@
 -- WHAT AN EDITOR IS TOLD of a module: the diagnostics of each of its files, whether open or not; and of documents alone.
 use Rattle.std.specs.Prelude.{◌≡◌, ◌&&◌, ◌+◌, not, nat_lt, ℕ, Bool, true, false, List, [], ◌∷◌, Option, Some, None, length, unwrap_or, if◌then◌else◌}
 use Rattle.file_tree.specs.Files.{Files, Name}
+use Rattle.file_tree.specs.Names.{is_passed_over}
 use Rattle.file_uris.specs.Uris.{uri_of}
 use Rattle.hcl_source.specs.FaultTexts.{fault_text}
 use Rattle.module_check.specs.Checks.{IsChecked}
@@ -8,7 +9,7 @@ use Rattle.module_check.specs.declared.check.Checked.{Checked}
 use Rattle.module_check.specs.declared.state.FileState.{FileState}
 use Rattle.module_find.specs.Modules.{folder_of, is_module_file}
 use Rattle.module_find.specs.declared.module.Module.{Module}
-use Rattle.open_files.specs.OpenTexts.{OpenText, text_of, uri_open, with_open}
+use Rattle.open_files.specs.OpenTexts.{OpenText, rest_after, text_of, uri_open, with_open}
 use Rattle.text_faults.specs.Faults.{HasFault}
 use Rattle.text_faults.specs.declared.fault.MarkedFault.{MarkedFault}
 use Rattle.text_places.specs.declared.place.Units.{Units}
@@ -55,10 +56,14 @@ AreToldByTexts units documents (uri ∷ uris) told =
 
 -- ---- a module
 
+-- the file of this path is one of the module of its folder
+abbrev pub is_in_module : Name → Bool
+is_in_module path = is_module_file path && not (is_passed_over (rest_after (folder_of path) path))
+
 -- the folder of the module to which the file of this path belongs, if it is one of a module
 abbrev pub module_folder : Option Name → Option Name
 module_folder None = None
-module_folder (Some path) = if is_module_file path then Some (folder_of path) else None
+module_folder (Some path) = if is_in_module path then Some (folder_of path) else None
 
 -- the URI of a file: that of its document if one is open
 abbrev pub file_uri : List OpenText → Name → List ℕ

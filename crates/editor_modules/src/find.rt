@@ -3,9 +3,11 @@
 ghost use Rattle.std.specs.Prelude.{◌≡◌, IfOk, option_map};
 ghost use Rattle.file_tree.specs.Unchanged.{Unchanged};
 ghost use Rattle.editor_modules.specs.Modules.{AreAlone, HasModule};
-ghost use Rattle.editor_modules.specs.Told.{module_folder};
+ghost use Rattle.editor_modules.specs.Told.{is_in_module, module_folder};
+ghost use Rattle.module_find.specs.Modules.{folder_of};
 ghost use Rattle.open_files.specs.Views.{path_seen};
 
+use file_tree::names::is_passed_over;
 use file_tree::path::join;
 use file_tree::tree::Tree;
 use file_tree::walk::Found;
@@ -17,6 +19,14 @@ use module_find::names::{folder_of, is_module_file};
 use std::alloc::{AllocError, Global};
 use tree_lint::policy::Governed;
 
+/// Whether the file of this path, which is in this folder, is one of the folder's module.
+fn is_in_module(folder: &[u8], path: &[u8]) -> bool
+    requires { folder.now ≡ folder_of path.now }
+    ensures { result ≡ is_in_module path.now }
+{
+    is_module_file(path) && !is_passed_over(&path[folder.len()..])
+}
+
 /// The folder of the module to which the file of this path belongs, if it is one of a module.
 pub fn module_folder(path: &Option<Vec<u8>>) -> Option<&[u8]>
     ensures { option_map (λ folder. folder.now) result ≡ module_folder (path_seen path.now) }
@@ -25,8 +35,9 @@ pub fn module_folder(path: &Option<Vec<u8>>) -> Option<&[u8]>
         return None;
     };
     let path = path.as_slice();
-    if is_module_file(path) {
-        Some(folder_of(path))
+    let folder = folder_of(path);
+    if is_in_module(folder, path) {
+        Some(folder)
     } else {
         None
     }

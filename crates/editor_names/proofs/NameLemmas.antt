@@ -1,11 +1,12 @@
 -- The name at a place, by the code's occurrences.
 use Rattle.std.proofs.Common.{◌≡◌, ◌∙◌, ◌∷◌, [], ℕ, suc, Bool, true, false, List, ap, arith, cond, map, refl, subst, sym}
-use Rattle.std.specs.Prelude.{All, Option, Some, find, option_map}
+use Rattle.std.specs.Prelude.{◌||◌, All, Option, Some, find, option_map}
+use Rattle.std.specs.List.{list_any}
 use Rattle.hcl_tokens.specs.Scanned.{Scanned}
 use Rattle.text_places.specs.Places.{offset_at}
 use Rattle.text_places.specs.declared.place.Place.{Place}
 use Rattle.text_places.specs.declared.place.Units.{Units}
-use Rattle.tf_names.specs.Names.{occurrences}
+use Rattle.tf_names.specs.Names.{Occurrence as OccurrenceOf, occurrences}
 use Rattle.tf_names.specs.Views.{occurrence_seen}
 use Rattle.tf_names.specs.declared.occurrence.Occurrence.{Occurrence}
 use Rattle.editor_names.specs.Names.{is_at, name_in, named_range}
@@ -18,6 +19,11 @@ first_seen offset (o ∷ os) = by (is_at offset (occurrence_seen o)) (first_seen
         → cond here (Some (occurrence_seen o)) (find (is_at offset) (map occurrence_seen os)) ≡ option_map occurrence_seen (cond here (Some o) (find (λ p. is_at offset (occurrence_seen p)) os))
     by true e = refl
     by false e = e
+
+-- one of the occurrences passes a test
+pub any_seen : (is : OccurrenceOf → Bool) (found : List Occurrence) → list_any (λ o. is (occurrence_seen o)) found ≡ list_any is (map occurrence_seen found)
+any_seen is [] = refl
+any_seen is (o ∷ os) = ap (λ b. is (occurrence_seen o) || b) (any_seen is os)
 
 -- the named range of the first occurrence at a place
 pub name_found : (units : Units) (place : Place) (s : Scanned) (found : List Occurrence) (offset : ℕ) (first : Option Occurrence) → map occurrence_seen found ≡ occurrences s → offset ≡ offset_at units s.text place

@@ -1,8 +1,8 @@
 -- The files of a module, searched in turn.
 use Rattle.std.proofs.Common.{◌≡◌, ◌∙◌, ◌<◌, ◌+◌, ◌++◌, ◌∷◌, [], ℕ, Bool, List, String, Global, Option, true, false, ap, append_assoc, append-nil, arith, get_or, length, map, refl, subst, suc, sym, take, zero}
 use Rattle.std.proofs.lemmas.List.{take_more}
-use Rattle.std.specs.Prelude.{◌&&◌, Err, Result, string_bytes}
-use Rattle.std.specs.List.{list_all}
+use Rattle.std.specs.Prelude.{◌&&◌, ◌||◌, Err, Result, string_bytes}
+use Rattle.std.specs.List.{list_all, list_any}
 use Rattle.std.specs.Io.KnownBytes.{Consumes}
 use Rattle.file_tree.specs.Files.{Files, Name}
 use Rattle.hcl_source.specs.Devices.{Tells}
@@ -19,7 +19,7 @@ use Rattle.editor_messages.specs.Views.{document_ranges_seen}
 use Rattle.editor_messages.specs.declared.range.DocumentRanges.{DocumentRanges as DocumentRangesOf}
 use Rattle.editor_modules.specs.Modules.{AreAlone}
 use Rattle.editor_modules.specs.Told.{file_uri}
-use Rattle.editor_names.specs.Modules.{AreFileRanges, AreModuleRanges, IsFileRanges, document_of, documents_of, is_read}
+use Rattle.editor_names.specs.Modules.{AreFileRanges, AreModuleRanges, IsFileRanges, document_of, documents_of, file_declares, is_read}
 use Rattle.editor_names.specs.Names.{Query}
 use Rattle.editor_names.specs.Inner.Searching.{HaveRanges}
 use Rattle.editor_names.specs.declared.file.FileRanges.{FileRanges}
@@ -53,21 +53,35 @@ all_more (x ∷ xs) one = by (is_read x) (all_more xs one)
     by true rest = rest
     by false rest = refl
 
+any_more : (files : List FileRanges) (one : FileRanges) → list_any file_declares (files ++ one ∷ []) ≡ (list_any file_declares files || file_declares one)
+any_more [] one = last (file_declares one)
+  where
+    last : (b : Bool) → (b || false) ≡ b
+    last true = refl
+    last false = refl
+any_more (x ∷ xs) one = by (file_declares x) (any_more xs one)
+  where
+    by : (b : Bool) → list_any file_declares (xs ++ one ∷ []) ≡ (list_any file_declares xs || file_declares one) → (b || list_any file_declares (xs ++ one ∷ [])) ≡ ((b || list_any file_declares xs) || file_declares one)
+    by true rest = refl
+    by false rest = rest
+
 -- what was found in the files so far
-pub record HaveFound (q : Query) (documents : List OpenText) (told : Name → Option (List ℕ)) (names : List Name) (found : List DocumentRangesOf) (whole : Bool) : Type 0 where
+pub record HaveFound (q : Query) (documents : List OpenText) (told : Name → Option (List ℕ)) (names : List Name) (found : List DocumentRangesOf) (declared whole : Bool) : Type 0 where
   pub files : List FileRanges
   pub are : AreFileRanges q told names files
   pub documents_are : map document_ranges_seen found ≡ documents_of documents names files
+  pub declared_is : declared ≡ list_any file_declares files
   pub whole_is : whole ≡ list_all is_read files
 
-pub found_none : (q : Query) (documents : List OpenText) (told : Name → Option (List ℕ)) (found : List DocumentRangesOf) → found ≡ [] → HaveFound q documents told [] found true
-found_none q documents told found none = record { files = []; are = tt; documents_are = ap (map document_ranges_seen) none; whole_is = refl }
+pub found_none : (q : Query) (documents : List OpenText) (told : Name → Option (List ℕ)) (found : List DocumentRangesOf) → found ≡ [] → HaveFound q documents told [] found false true
+found_none q documents told found none = record { files = []; are = tt; documents_are = ap (map document_ranges_seen) none; declared_is = refl; whole_is = refl }
 
-pub found_more : (q : Query) (documents : List OpenText) (told : Name → Option (List ℕ)) (names : List Name) (i : ℕ) (name : Name) (here : Option (List ℕ)) (found after : List DocumentRangesOf) (whole more : Bool) (file : FileRanges)
+pub found_more : (q : Query) (documents : List OpenText) (told : Name → Option (List ℕ)) (names : List Name) (i : ℕ) (name : Name) (here : Option (List ℕ)) (found after : List DocumentRangesOf) (declared either whole both : Bool) (file : FileRanges)
     → i < length names → name ≡ get_or names i [] → here ≡ told name → IsFileRanges q here file
     → map document_ranges_seen after ≡ map document_ranges_seen found ++ document_of (file_uri documents name) (version_open documents name) file
-    → more ≡ (whole && is_read file) → HaveFound q documents told (take i names) found whole → HaveFound q documents told (take (i + 1) names) after more
-found_more q documents told names i name here found after whole more file lt named same is grown both h =
+    → either ≡ (declared || file_declares file) → both ≡ (whole && is_read file)
+    → HaveFound q documents told (take i names) found declared whole → HaveFound q documents told (take (i + 1) names) after either both
+found_more q documents told names i name here found after declared either whole both file lt named same is grown either_is both_is h =
     let front : take i names ++ name ∷ [] ≡ take (i + 1) names = ap (λ (n : Name). take i names ++ n ∷ []) named ∙ sym (take_more names i [] lt) in
     let told_is = subst (λ t. IsFileRanges q t file) same is in
     record {
@@ -76,7 +90,8 @@ found_more q documents told names i name here found after whole more file lt nam
       documents_are = grown ∙ ap (λ ds. ds ++ document_of (file_uri documents name) (version_open documents name) file) h.documents_are
           ∙ sym (documents_more documents q told (take i names) h.files name file h.are)
           ∙ ap (λ ns. documents_of documents ns (h.files ++ file ∷ [])) front;
-      whole_is = both ∙ ap (λ w. w && is_read file) h.whole_is ∙ sym (all_more h.files file);
+      declared_is = either_is ∙ ap (λ d. d || file_declares file) h.declared_is ∙ sym (any_more h.files file);
+      whole_is = both_is ∙ ap (λ w. w && is_read file) h.whole_is ∙ sym (all_more h.files file);
     }
 
 pub name_here : (names : List (String Global)) (i : ℕ) (item : String Global) (name : Name) → i < length names → item ≡ get_or names i item → name ≡ string_bytes item → name ≡ get_or (map string_bytes names) i []
@@ -105,7 +120,7 @@ only files folder (m ∷ n ∷ ms) left one a e = absurd (no a.are)
 pub module_searched : (q : Query) (documents : List OpenText) (disk : Files) (folder : Name) (files later : Files) (modules left : List Module) (one : Module) (names : List (String Global)) (found : NameRanges) (whole : Bool)
     → files ≡ with_open documents disk → later ≡ files → modules ≡ left ++ one ∷ [] → AreAlone files folder modules → names ≡ one.files.items
     → HaveRanges q documents (λ name. later.told (later.real name)) (map string_bytes names) found → whole ≡ (one.is_whole && found.is_whole)
-    → AreModuleRanges q documents disk folder (record { documents = map document_ranges_seen found.documents.items; is_whole = whole })
+    → AreModuleRanges q documents disk folder (record { documents = map document_ranges_seen found.documents.items; is_declared = found.is_declared; is_whole = whole })
 module_searched q documents disk folder files later modules left one names found whole laid kept popped alone named have both = record {
   candidate = one;
   alone = subst (λ (all : Files). AreAlone all folder (one ∷ [])) laid (only files folder modules left one alone popped);
@@ -113,6 +128,7 @@ module_searched q documents disk folder files later modules left one names found
   are = subst (λ (all : Files). AreFileRanges q (bytes_of_name all) (names_in one) have.files) (kept ∙ laid)
       (subst (λ (ns : List (String Global)). AreFileRanges q (λ name. later.told (later.real name)) (map string_bytes ns) have.files) named have.are);
   documents_are = have.documents_are ∙ ap (λ (ns : List (String Global)). documents_of documents (map string_bytes ns) have.files) named;
+  declared = have.declared;
   whole = both ∙ ap (λ w. one.is_whole && w) have.whole;
 }
 

@@ -1,6 +1,6 @@
 -- WHERE THE FILES OF A MODULE spell a name.
 use Rattle.std.specs.Prelude.{◌≡◌, ℕ, ◌&&◌, ◌++◌, Bool, true, false, List, [], ◌∷◌, Option, Some}
-use Rattle.std.specs.List.{list_all}
+use Rattle.std.specs.List.{list_all, list_any}
 use Rattle.file_tree.specs.Files.{Files, Name}
 use Rattle.hcl_source.specs.Devices.{Tells}
 use Rattle.hcl_tokens.specs.Scanned.{Scanned}
@@ -12,7 +12,7 @@ use Rattle.tree_lint.specs.Verdicts.{bytes_of_name, names_in}
 use Rattle.editor_messages.specs.Names.{DocumentRanges}
 use Rattle.editor_modules.specs.Modules.{AreAlone}
 use Rattle.editor_modules.specs.Told.{file_uri}
-use Rattle.editor_names.specs.Names.{Query, ranges_in}
+use Rattle.editor_names.specs.Names.{Query, declares, ranges_in}
 use Rattle.editor_names.specs.declared.file.FileRanges.{FileRanges}
 use Rattle.editor_names.specs.declared.file.FileRanges.TheVariants.{Spelled, Refused, Unread}
 
@@ -21,17 +21,23 @@ use Rattle.editor_names.specs.declared.file.FileRanges.TheVariants.{Spelled, Ref
 -- THE RANGES of a file, by the bytes that the device tells for its name. Nothing is claimed of a file that can't be
 -- opened or read.
 abbrev pub IsFileRanges : Query → Option (List ℕ) → FileRanges → Type 0
-IsFileRanges q told (Spelled ranges) =
+IsFileRanges q told (Spelled spelling) =
     (text : List ℕ) × (s : Scanned) × Tells told text × IsFile text s
-    × (ranges.items ≡ ranges_in q s)
+    × (spelling.ranges.items ≡ ranges_in q s) × (spelling.declares ≡ declares q s)
 IsFileRanges q told Refused = (bytes : List ℕ) × Tells told bytes × IsRefused bytes
 IsFileRanges q told Unread = Unit {0}
 
 -- it is a file of the language
 abbrev pub is_read : FileRanges → Bool
-is_read (Spelled ranges) = true
+is_read (Spelled spelling) = true
 is_read Refused = false
 is_read Unread = false
+
+-- it is one that declares the name
+abbrev pub file_declares : FileRanges → Bool
+file_declares (Spelled spelling) = spelling.declares
+file_declares Refused = false
+file_declares Unread = false
 
 -- ---- where a document spells a name
 
@@ -42,20 +48,25 @@ document_with uri version (r ∷ rs) =
     record { uri = uri; version = version; ranges = r ∷ rs } ∷ []
 
 abbrev pub document_of : List ℕ → Option ℕ → FileRanges → List DocumentRanges
-document_of uri version (Spelled ranges) = document_with uri version ranges.items
+document_of uri version (Spelled spelling) = document_with uri version spelling.ranges.items
 document_of uri version Refused = []
 document_of uri version Unread = []
 
--- the documents that spell a name, and whether each file that may spell it is one of the language
+-- the documents that spell a name, whether a file declares it, and whether each file that may spell it is one of the language
 pub record NameRanges : Type 0 where
   pub documents : List DocumentRanges
+  pub is_declared : Bool
   pub is_whole : Bool
 
 -- THE RANGES of a document alone
 abbrev pub IsDocumentRanges : Query → List ℕ → Option ℕ → List ℕ → NameRanges → Type 0
 IsDocumentRanges q uri version text found =
     (file : FileRanges) × IsFileRanges q (Some text) file
-    × (found ≡ record { documents = document_of uri version file; is_whole = is_read file })
+    × (found ≡ record {
+      documents = document_of uri version file;
+      is_declared = file_declares file;
+      is_whole = is_read file;
+    })
 
 -- ---- where the files of a module spell a name
 
@@ -82,4 +93,5 @@ pub record AreModuleRanges (q : Query) (documents : List OpenText) (disk : Files
   pub files : List FileRanges
   pub are : AreFileRanges q (bytes_of_name (with_open documents disk)) (names_in candidate) files
   pub documents_are : found.documents ≡ documents_of documents (names_in candidate) files
+  pub declared : found.is_declared ≡ list_any file_declares files
   pub whole : found.is_whole ≡ (candidate.is_whole && list_all is_read files)

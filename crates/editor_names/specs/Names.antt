@@ -1,5 +1,6 @@
 -- THE NAMES of a text as an editor asks for them: the name at a place, and where a file spells a name.
 use Rattle.std.specs.Prelude.{◌≡◌, ◌⊎◌, ℕ, ◌&&◌, Bool, true, false, List, Option, None, filter, find, map, nat_le, option_map}
+use Rattle.std.specs.List.{list_any}
 use Rattle.hcl_tokens.specs.Scanned.{Scanned}
 use Rattle.line_edits.specs.declared.ranges.Range.{Range}
 use Rattle.text_outline.specs.Files.{IsFile, IsRefused}
@@ -60,6 +61,13 @@ is_wanted_kind wanted.All kind = true
 
 abbrev pub is_wanted : Query → Occurrence → Bool
 is_wanted q o = is_same q.name o.name && is_wanted_kind q.wanted o.kind
+
+abbrev pub declarations_of : Query → Query
+declarations_of q = record q { wanted = wanted.Declarations }
+
+-- a file declares it
+abbrev pub declares : Query → Scanned → Bool
+declares q s = list_any (is_wanted (declarations_of q)) (occurrences s)
 
 -- the ranges in which a file spells it
 abbrev pub ranges_in : Query → Scanned → List Range

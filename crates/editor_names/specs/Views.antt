@@ -29,5 +29,6 @@ query_seen q = record { name = name_seen q.name; wanted = q.wanted; units = q.un
 abbrev pub found_seen : NameRangesOf → NameRanges
 found_seen f = record {
   documents = map document_ranges_seen f.documents.items;
+  is_declared = f.is_declared;
   is_whole = f.is_whole;
 }

@@ -1,16 +1,18 @@
 //! Where one file spells a name.
 
 ghost use Rattle.std.specs.Prelude.{◌≡◌, ◌++◌, ◌∷◌, [], All, List, ℕ, Option, Some, IfOk, OnOk, filter, length, map};
+ghost use Rattle.std.specs.List.{list_any};
 ghost use Rattle.file_tree.specs.Unchanged.{Unchanged};
 ghost use Rattle.hcl_source.specs.Devices.{Tells};
 ghost use Rattle.hcl_source.specs.Load.{IsText};
 ghost use Rattle.tf_names.specs.Names.{IsInOrder};
 ghost use Rattle.tf_names.specs.Views.{occurrence_seen};
-ghost use Rattle.editor_names.specs.Modules.{IsFileRanges, is_read};
-ghost use Rattle.editor_names.specs.Names.{is_wanted, range_of, ranges_in};
+ghost use Rattle.editor_names.specs.Modules.{IsFileRanges, file_declares, is_read};
+ghost use Rattle.editor_names.specs.Names.{declarations_of, declares, is_wanted, range_of, ranges_in};
 ghost use Rattle.editor_names.specs.Views.{query_seen};
 
-use crate::query::{Query, is_wanted, range_of};
+use crate::query::{Query, Wanted, is_wanted, range_of};
+use file_tree::fault::TreeFault;
 use file_tree::tree::Tree;
 use hcl_scan::{ByteSource, LoadError, ScanError, Source, scan};
 use hcl_syntax::{Accepted, accepts};
@@ -19,11 +21,20 @@ use std::alloc::{AllocError, Global};
 use text_places::PlaceIndex;
 use tf_names::{Occurrence, occurrences_of};
 
+/// How a file of the language spells a name.
+#[derive(Debug, Drop)]
+pub struct Spelling {
+    /// In which the occurrences stand that are asked for.
+    pub ranges: Vec<Range>,
+    /// Whether the file declares the name.
+    pub declares: bool,
+}
+
 /// Where a file of a module spells a name.
 #[derive(Debug, Drop)]
 pub enum FileRanges {
-    /// It is a file of the language, and spells the name in these ranges.
-    Spelled(Vec<Range>),
+    /// It is a file of the language.
+    Spelled(Spelling),
     /// It is no file of the language.
     Refused,
     /// It can't be opened or read.
@@ -35,6 +46,16 @@ pub(crate) fn is_read(file: &FileRanges) -> bool
     ensures { result ≡ is_read file.now }
 {
     matches!(file, FileRanges::Spelled(_))
+}
+
+/// Whether it is a file of the language that declares the name.
+pub(crate) fn file_declares(file: &FileRanges) -> bool
+    ensures { result ≡ file_declares file.now }
+{
+    match file {
+        FileRanges::Spelled(spelling) => spelling.declares,
+        FileRanges::Refused | FileRanges::Unread => false,
+    }
 }
 
 /// Adds the range of an occurrence, if it is asked for.
@@ -76,19 +97,39 @@ fn wanted_ranges(
     Ok(ranges)
 }
 
-/// Where an accepted file spells a name.
-fn ranges_in(
+/// Whether one of the occurrences declares the name.
+fn is_declared_among(query: Query<'_>, occurrences: &[Occurrence<'_>]) -> bool
+    ensures { result ≡ list_any (λ o. is_wanted (declarations_of (query_seen query.entry))
+        (occurrence_seen o)) occurrences.now }
+{
+    let declarations = Query {
+        name: query.name,
+        wanted: Wanted::Declarations,
+        units: query.units,
+    };
+    occurrences
+        .iter()
+        .any(|occurrence| is_wanted(declarations, *occurrence))
+}
+
+/// How an accepted file spells a name.
+fn spelling_in(
     alloc: Global,
     query: Query<'_>,
     accepted: &Accepted<'_, '_>,
-) -> Result<Vec<Range>, AllocError>
-    ensures { IfOk result (λ ranges. ranges.items
+) -> Result<Spelling, AllocError>
+    ensures ranges { IfOk result (λ spelling. spelling.ranges.items
         ≡ ranges_in (query_seen query.entry) accepted.now) }
+    ensures declares { IfOk result (λ spelling. spelling.declares
+        ≡ declares (query_seen query.entry) accepted.now) }
 {
     let occurrences = occurrences_of(alloc, accepted)?;
     let text = accepted.tokens().source().text();
     let places = PlaceIndex::new(alloc, query.units, text)?;
-    wanted_ranges(alloc, query, &places, occurrences.as_slice())
+    Ok(Spelling {
+        ranges: wanted_ranges(alloc, query, &places, occurrences.as_slice())?,
+        declares: is_declared_among(query, occurrences.as_slice()),
+    })
 }
 
 /// Where a source spells a name.
@@ -107,7 +148,7 @@ pub(crate) fn source_ranges(
         Err(ScanError::Fault(_)) => return Ok(FileRanges::Refused),
     };
     match accepts(&tokens) {
-        Ok(accepted) => Ok(FileRanges::Spelled(ranges_in(alloc, query, &accepted)?)),
+        Ok(accepted) => Ok(FileRanges::Spelled(spelling_in(alloc, query, &accepted)?)),
         Err(_) => Ok(FileRanges::Refused),
     }
 }
@@ -140,6 +181,7 @@ pub(crate) fn file_ranges<T: Tree>(
 {
     let mut reader = match tree.reader(name.as_bytes()) {
         Ok(reader) => reader,
+        Err(TreeFault::OutOfMemory) => return Err(AllocError),
         Err(_) => return Ok(FileRanges::Unread),
     };
     let loaded = Source::read_from(alloc, &mut reader);

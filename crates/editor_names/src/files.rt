@@ -7,7 +7,7 @@ ghost use Rattle.editor_names.specs.Modules.{document_of};
 ghost use Rattle.editor_names.specs.Inner.Searching.{HaveRanges};
 ghost use Rattle.editor_names.specs.Views.{query_seen};
 
-use crate::file::{FileRanges, file_ranges, is_read};
+use crate::file::{FileRanges, file_declares, file_ranges, is_read};
 use crate::query::Query;
 use crate::search::NameRanges;
 use editor_messages::DocumentRanges;
@@ -27,16 +27,16 @@ pub(crate) fn add_document(
         ≡ map document_ranges_seen found.old.items
         ++ document_of (string_bytes uri) version file) }
 {
-    let FileRanges::Spelled(ranges) = file else {
+    let FileRanges::Spelled(spelling) = file else {
         return Ok(());
     };
-    if ranges.is_empty() {
+    if spelling.ranges.is_empty() {
         return Ok(());
     }
     let document = DocumentRanges {
         uri,
         version,
-        ranges,
+        ranges: spelling.ranges,
     };
     match found.push(document) {
         Ok(()) => Ok(()),
@@ -44,7 +44,7 @@ pub(crate) fn add_document(
     }
 }
 
-/// Where the files of these names spell a name, and whether each is a file of the language.
+/// Where the files of these names spell a name, whether one declares it, and whether each is a file of the language.
 pub(crate) fn ranges_in_files<T: Tree>(
     alloc: Global,
     query: Query<'_>,
@@ -58,16 +58,19 @@ pub(crate) fn ranges_in_files<T: Tree>(
         (map string_bytes names.now)) }
 {
     let mut found = Vec::new(alloc);
+    let mut is_declared = false;
     let mut is_whole = true;
     for number in 0..names.len() {
         let name = names[number].as_str();
         let file = file_ranges(alloc, query, name, tree)?;
+        is_declared = is_declared || file_declares(&file);
         is_whole = is_whole && is_read(&file);
         let uri = file_uri(alloc, documents, name.as_bytes())?;
         add_document(uri, documents.version_at(name.as_bytes()), file, &mut found)?;
     }
     Ok(NameRanges {
         documents: found,
+        is_declared,
         is_whole,
     })
 }

@@ -10,7 +10,7 @@ mod owned_name;
 mod query;
 mod search;
 
-pub use file::FileRanges;
+pub use file::{FileRanges, Spelling};
 pub use identifier::is_identifier;
 pub use named::{NameAt, name_at};
 pub use owned_name::OwnedName;

@@ -4,7 +4,7 @@ ghost use Rattle.std.specs.Prelude.{IfOk};
 ghost use Rattle.editor_names.specs.Modules.{AreModuleRanges, IsDocumentRanges};
 ghost use Rattle.editor_names.specs.Views.{found_seen, query_seen};
 
-use crate::file::{is_read, text_ranges};
+use crate::file::{file_declares, is_read, text_ranges};
 use crate::files::{add_document, ranges_in_files};
 use crate::query::Query;
 use editor_messages::DocumentRanges;
@@ -18,6 +18,8 @@ use std::alloc::{AllocError, Global};
 pub struct NameRanges {
     /// The documents that spell it.
     pub documents: Vec<DocumentRanges>,
+    /// Whether a file that may spell it declares it.
+    pub is_declared: bool,
     /// Whether each file that may spell it is one of the language.
     pub is_whole: bool,
 }
@@ -39,6 +41,7 @@ pub fn ranges_in_module<T: Tree + Drop>(
     let Some(candidate) = modules.pop() else {
         return Ok(NameRanges {
             documents: Vec::new(alloc),
+            is_declared: false,
             is_whole: false,
         });
     };
@@ -46,6 +49,7 @@ pub fn ranges_in_module<T: Tree + Drop>(
     let found = ranges_in_files(alloc, query, documents, names, &mut files)?;
     Ok(NameRanges {
         documents: found.documents,
+        is_declared: found.is_declared,
         is_whole: candidate.is_whole && found.is_whole,
     })
 }
@@ -62,11 +66,13 @@ pub fn ranges_in_document(
         text.now (found_seen found)) }
 {
     let file = text_ranges(alloc, query, text)?;
+    let is_declared = file_declares(&file);
     let is_whole = is_read(&file);
     let mut documents = Vec::new(alloc);
     add_document(String::from_str(alloc, uri)?, version, file, &mut documents)?;
     Ok(NameRanges {
         documents,
+        is_declared,
         is_whole,
     })
 }

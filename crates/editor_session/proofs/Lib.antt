@@ -1,4 +1,4 @@
-pub mod ForgetLemmas
+pub mod LossLemmas
 pub mod FormatLemmas
 pub mod ReplyLemmas
 pub mod TellLemmas

@@ -1,5 +1,5 @@
 -- THE ANSWERS about the name at a place of a document.
-use Rattle.std.specs.Prelude.{◌≡◌, ◌&&◌, ℕ, Bool, true, false, List, [], ◌∷◌, Option, Some, None, Result, Ok, Err, if◌then◌else◌}
+use Rattle.std.specs.Prelude.{◌≡◌, ◌&&◌, not, ℕ, Bool, true, false, List, [], ◌∷◌, Option, Some, None, Result, Ok, Err, if◌then◌else◌}
 use Rattle.std.specs.Str.{chars}
 use Rattle.file_tree.specs.Files.{Files, Name as FileName}
 use Rattle.file_uris.specs.Uris.{path_of}
@@ -72,11 +72,14 @@ abbrev pub changes_unless : Session → List ℕ → List DocumentRanges → Lis
 changes_unless s new old [] = Ok (rename_json s.takes_versions new old)
 changes_unless s new old (d ∷ ds) = Err error.NameTaken
 
--- the changes of a name to this one, by where the old name is spelled, and where the new one is before
+-- The changes of a name to this one, by where the old name is spelled, and where the new one is before. If the text of an
+-- open document was lost, its file may spell them elsewhere; and what declares the old name outside the files would keep it.
 abbrev pub renaming : Session → List ℕ → NameRanges → NameRanges → Result Json ReplyError
 renaming s new old taken =
-    if old.is_whole && taken.is_whole then changes_unless s new old.documents taken.documents
-    else Err error.UnreadModule
+    if s.has_lost then Err error.LostText
+    else if not (old.is_whole && taken.is_whole) then Err error.UnreadModule
+    else if not old.is_declared then Err error.NoDeclaration
+    else changes_unless s new old.documents taken.documents
 
 abbrev pub IsRenamingOf : Session → Files → List ℕ → TextPlace → Result Json ReplyError
     → Option NamedRange → Type 0
@@ -98,7 +101,7 @@ IsRenameIf s disk new p answer true = IsRenaming s disk new p answer
 IsRenameIf s disk new p answer false = answer ≡ Err error.NotIdentifier
 
 -- THE CHANGES of the name at a place to a new one: in all files of the module, each of which must be one of the language,
--- if none of them spells the new name yet
+-- if one of them declares the name and none spells the new one yet
 abbrev pub IsRename : Session → Files → Option (List ℕ) → TextPlace → Result Json ReplyError
     → Type 0
 IsRename s disk None p answer = answer ≡ Err error.NotIdentifier

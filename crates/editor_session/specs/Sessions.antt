@@ -1,6 +1,6 @@
 -- THE SESSION of an editor with the server, and what a message makes of it (Language Server Protocol 3.17, "Server
 -- lifecycle" and "Text Document Synchronization").
-use Rattle.std.specs.Prelude.{ℕ, Bool, false, List, [], Option, Some, None}
+use Rattle.std.specs.Prelude.{ℕ, Bool, true, false, List, [], Option, Some, None}
 use Rattle.open_files.specs.OpenTexts.{OpenText, with_open_text, without}
 use Rattle.text_places.specs.declared.place.Units.{Units}
 use Rattle.text_places.specs.declared.place.Units.TheVariants.{Utf16}
@@ -18,6 +18,8 @@ pub record Session : Type 0 where
   pub takes_versions : Bool
   -- the documents whose texts are known, the newest first
   pub documents : List OpenText
+  -- whether the text of a document was lost that may still be open
+  pub has_lost : Bool
   -- what the editor shows of modules
   pub shown : List ShownModule
 
@@ -29,20 +31,26 @@ new_session =
       units = Utf16;
       takes_versions = false;
       documents = [];
+      has_lost = false;
       shown = [];
     }
 
 -- ---- texts
 
--- the document that has this URI has this version and text now, or a text that is not known
+-- the document that has this URI has this version and text now, or its text is lost
 abbrev pub with_text : List ℕ → Option ℕ → Option (List ℕ) → Session → Session
 with_text uri version (Some text) s =
     record s { documents = with_open_text uri version text s.documents }
-with_text uri version None s = record s { documents = without uri s.documents }
+with_text uri version None s =
+    record s { documents = without uri s.documents; has_lost = true }
 
--- no text is known any more
+-- the document is closed
+abbrev pub with_closed : List ℕ → Session → Session
+with_closed uri s = record s { documents = without uri s.documents }
+
+-- all texts are lost
 abbrev pub without_texts : Session → Session
-without_texts s = record s { documents = [] }
+without_texts s = record s { documents = []; has_lost = true }
 
 -- ---- requests
 
@@ -76,11 +84,11 @@ while_open s t phase.Fresh = s
 while_open s t phase.Open = t
 while_open s t phase.ShutDown = s
 
--- the session after a notification: the text of a document that is closed is not known
+-- the session after a notification
 abbrev pub after_notification : Session → Notification → Session
 after_notification s (Text uri version text) =
     while_open s (with_text uri version text s) s.phase
-after_notification s (Close uri) = while_open s (with_text uri None None s) s.phase
+after_notification s (Close uri) = while_open s (with_closed uri s) s.phase
 after_notification s Exit = s
 after_notification s Other = s
 

@@ -8,5 +8,6 @@ session_seen s = record {
   units = s.units;
   takes_versions = s.takes_versions;
   documents = s.documents;
+  has_lost = s.has_lost;
   shown = s.shown;
 }

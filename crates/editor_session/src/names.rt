@@ -166,8 +166,14 @@ impl Session {
             (renaming (session_seen self.now) new.now (found_seen old.now)
             (found_seen taken.now)))) }
     {
+        if self.has_lost {
+            return error_reply(alloc, id, ReplyError::LostText);
+        }
         if !old.is_whole || !taken.is_whole {
             return error_reply(alloc, id, ReplyError::UnreadModule);
+        }
+        if !old.is_declared {
+            return error_reply(alloc, id, ReplyError::NoDeclaration);
         }
         if !taken.documents.is_empty() {
             return error_reply(alloc, id, ReplyError::NameTaken);

@@ -1,7 +1,7 @@
 //! What is known of an editor and its documents.
 
 ghost use Rattle.std.specs.Prelude.{◌≡◌, Some, None, OnErr, OnOk, option_map};
-ghost use Rattle.editor_session.specs.Sessions.{new_session, with_text, without_texts};
+ghost use Rattle.editor_session.specs.Sessions.{new_session, with_closed, with_text, without_texts};
 ghost use Rattle.editor_session.specs.Views.{session_seen};
 ghost use Rattle.open_files.specs.OpenTexts.{text_of};
 
@@ -24,6 +24,8 @@ pub struct Session {
     pub(crate) hashing: Hashing,
     /// The documents whose texts are known.
     pub(crate) documents: Documents,
+    /// Whether the text of a document was lost that may still be open.
+    pub(crate) has_lost: bool,
     /// What the editor shows of modules.
     pub(crate) shown: Shown,
 }
@@ -39,6 +41,7 @@ impl Session {
             takes_versions: false,
             hashing,
             documents: Documents::new(alloc),
+            has_lost: false,
             shown: Shown::new(alloc),
         }
     }
@@ -51,21 +54,30 @@ impl Session {
         self.documents.text(uri)
     }
 
-    /// Forgets all texts.
-    pub(crate) fn forget_texts(&mut self)
+    /// Loses all texts.
+    pub(crate) fn lose_all(&mut self)
         ensures { session_seen self.new ≡ without_texts (session_seen self.old) }
     {
         self.documents.clear();
+        self.has_lost = true;
     }
 
-    /// Forgets the text of the document that has this URI.
-    pub(crate) fn forget(&mut self, uri: &str)
+    /// Loses the text of the document that has this URI.
+    pub(crate) fn lose(&mut self, uri: &str)
         ensures { session_seen self.new ≡ with_text uri.now None None (session_seen self.old) }
+    {
+        self.documents.remove(uri);
+        self.has_lost = true;
+    }
+
+    /// Forgets the document that has this URI.
+    pub(crate) fn close(&mut self, uri: &str)
+        ensures { session_seen self.new ≡ with_closed uri.now (session_seen self.old) }
     {
         self.documents.remove(uri);
     }
 
-    /// Keeps the version and the text of the document that has this URI. If memory runs out, its text is not known.
+    /// Keeps the version and the text of the document that has this URI. If memory runs out, its text is lost.
     pub(crate) fn keep(
         &mut self,
         alloc: Global,
@@ -75,9 +87,15 @@ impl Session {
     ) -> Result<(), AllocError>
         ensures kept { OnOk result (session_seen self.new
             ≡ with_text uri.now version (Some text.now) (session_seen self.old)) }
-        ensures forgotten { OnErr result
+        ensures lost { OnErr result
             (session_seen self.new ≡ with_text uri.now None None (session_seen self.old)) }
     {
-        self.documents.set(alloc, uri, version, text)
+        match self.documents.set(alloc, uri, version, text) {
+            Ok(()) => Ok(()),
+            Err(error) => {
+                self.has_lost = true;
+                Err(error)
+            }
+        }
     }
 }

@@ -76,8 +76,8 @@ impl Session {
         Ok(Turn::Say(reply))
     }
 
-    /// Takes in the text of a document, and returns the messages that it leads to. If memory runs out, the text is not
-    /// known.
+    /// Takes in the text of a document, and returns the messages that it leads to. If memory runs out, the text is
+    /// lost.
     fn take_text<D: Disk>(
         &mut self,
         alloc: Global,
@@ -89,20 +89,20 @@ impl Session {
         ensures told { IfOk result (Have (TellsText (D.files disk.now) uri.now (Some text.now)
             (with_text uri.now version (Some text.now) (session_seen self.old))
             (session_seen self.new))) }
-        ensures forgotten { OnErr result
+        ensures lost { OnErr result
             (session_seen self.new ≡ with_text uri.now None None (session_seen self.old)) }
     {
         self.keep(alloc, uri, version, text)?;
         match self.tell_text(alloc, disk, uri) {
             Ok(messages) => Ok(messages),
             Err(error) => {
-                self.forget(uri);
+                self.lose(uri);
                 Err(error)
             }
         }
     }
 
-    /// Takes in what a document's text is, or that it is not known, and returns the messages that this leads to.
+    /// Takes in what a document's text is, or that it is lost, and returns the messages that this leads to.
     fn take_change<D: Disk>(
         &mut self,
         alloc: Global,
@@ -115,13 +115,13 @@ impl Session {
             (text_seen text.entry)
             (with_text uri.now version (text_seen text.entry) (session_seen self.old))
             (session_seen self.new))) }
-        ensures forgotten { OnErr result
+        ensures lost { OnErr result
             (session_seen self.new ≡ with_text uri.now None None (session_seen self.old)) }
     {
         match text {
             Some(text) => self.take_text(alloc, disk, uri, version, text),
             None => {
-                self.forget(uri);
+                self.lose(uri);
                 self.tell_lost(alloc, uri)
             }
         }
@@ -158,7 +158,7 @@ impl Session {
         match self.phase {
             Phase::Fresh => Turn::Quiet,
             Phase::Open => {
-                self.forget(uri);
+                self.close(uri);
                 match self.tell_closed(alloc, disk, uri) {
                     Ok(messages) => Turn::Publish(messages),
                     Err(_) => Turn::Quiet,
@@ -202,12 +202,12 @@ impl Session {
         }
     }
 
-    /// Forgets all texts, since a body that could not be read may have been the change of one.
+    /// Loses all texts, since a body that could not be read may have been the change of one.
     fn lose_texts(&mut self, alloc: Global, error: ReplyError) -> Result<Turn, AllocError>
         ensures texts { session_seen self.new ≡ without_texts (session_seen self.old) }
         ensures says { IfOk result (Says (error_json null error)) }
     {
-        self.forget_texts();
+        self.lose_all();
         say_error(alloc, Id::Null, error)
     }
 

@@ -120,6 +120,7 @@ pub(crate) fn state_of<T: Tree>(
 {
     let mut reader = match tree.reader(name.as_bytes()) {
         Ok(reader) => reader,
+        Err(TreeFault::OutOfMemory) => return Err(AllocError),
         Err(fault) => return Ok(FileState::Unread(fault)),
     };
     let loaded = Source::read_from(alloc, &mut reader);

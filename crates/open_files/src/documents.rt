@@ -36,13 +36,6 @@ impl Documents {
         }
     }
 
-    /// All of them.
-    pub fn as_slice(&self) -> &[OpenFile]
-        ensures { open_seen result.now ≡ self.now }
-    {
-        self.files.as_slice()
-    }
-
     /// The text of the document that has this URI, if it is open.
     pub fn text(&self, uri: &str) -> Option<&str>
         ensures { option_map (λ text. text.now) result ≡ text_of self.now uri.now }

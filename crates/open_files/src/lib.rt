@@ -8,7 +8,6 @@ mod reader;
 mod tree;
 
 pub use disk::Disk;
-pub use document::OpenFile;
 pub use documents::Documents;
 pub use reader::OpenReader;
 pub use tree::OpenFiles;

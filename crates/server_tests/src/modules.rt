@@ -25,7 +25,7 @@ static MODULE: [Entry; 5] = [
     ),
 ];
 
-static MESSAGES: [Said; 6] = [
+static MESSAGES: [Said; 7] = [
     BEGIN,
     // the open text is linted, not the saved one, and the URI stays the editor's
     (
@@ -58,6 +58,11 @@ static MESSAGES: [Said; 6] = [
     (
         r#"{"method":"textDocument/didOpen","params":{"textDocument":{"uri":"file:///m/a.tfvars","text":"b = 1\n"}}}"#,
         r#"{"jsonrpc":"2.0","method":"textDocument/publishDiagnostics","params":{"uri":"file:///m/a.tfvars","diagnostics":[]}}"#,
+    ),
+    // and so is one whose name is passed over
+    (
+        r#"{"method":"textDocument/didOpen","params":{"textDocument":{"uri":"file:///m/.x.tf","text":"a="}}}"#,
+        r#"{"jsonrpc":"2.0","method":"textDocument/publishDiagnostics","params":{"uri":"file:///m/.x.tf","diagnostics":[{"range":{"start":{"line":0,"character":2},"end":{"line":0,"character":2}},"severity":1,"source":"tfls","message":"unexpected end"}]}}"#,
     ),
 ];
 

@@ -125,7 +125,7 @@ static MESSAGES: [Said; 24] = [
 ];
 
 /// A document that belongs to no module.
-static ALONE: [Said; 6] = [
+static ALONE: [Said; 12] = [
     BEGIN,
     (
         r#"{"method":"textDocument/didOpen","params":{"textDocument":{"uri":"a","version":1.5,"text":"a = var.b\nvariable b {}\n"}}}"#,
@@ -146,6 +146,33 @@ static ALONE: [Said; 6] = [
     (
         r#"{"id":1,"method":"textDocument/rename","params":{"textDocument":{"uri":"a"},"position":{"line":1,"character":8},"newName":"c"}}"#,
         r#"{"jsonrpc":"2.0","id":1,"error":{"code":-32803,"message":"no name that can be changed is here"}}"#,
+    ),
+    // what declares the name would keep it
+    (
+        r#"{"method":"textDocument/didOpen","params":{"textDocument":{"uri":"b","text":"a = local.c\n"}}}"#,
+        r#"{"jsonrpc":"2.0","method":"textDocument/publishDiagnostics","params":{"uri":"b","diagnostics":[]}}"#,
+    ),
+    (
+        r#"{"id":1,"method":"textDocument/rename","params":{"textDocument":{"uri":"b"},"position":{"line":0,"character":10},"newName":"d"}}"#,
+        r#"{"jsonrpc":"2.0","id":1,"error":{"code":-32803,"message":"no file of the module declares this name"}}"#,
+    ),
+    // a close loses no text
+    (
+        r#"{"method":"textDocument/didClose","params":{"textDocument":{"uri":"b"}}}"#,
+        r#"{"jsonrpc":"2.0","method":"textDocument/publishDiagnostics","params":{"uri":"b","diagnostics":[]}}"#,
+    ),
+    (
+        r#"{"id":1,"method":"textDocument/rename","params":{"textDocument":{"uri":"a"},"position":{"line":1,"character":9},"newName":"d"}}"#,
+        r#"{"jsonrpc":"2.0","id":1,"result":{"changes":{"a":[{"range":{"start":{"line":1,"character":9},"end":{"line":1,"character":10}},"newText":"d"},{"range":{"start":{"line":0,"character":8},"end":{"line":0,"character":9}},"newText":"d"}]}}}"#,
+    ),
+    // once a text is lost, no name is changed
+    (
+        r#"{"method":"textDocument/didChange","params":{"textDocument":{"uri":"b"},"contentChanges":[{"range":{},"text":"x"}]}}"#,
+        r#"{"jsonrpc":"2.0","method":"textDocument/publishDiagnostics","params":{"uri":"b","diagnostics":[]}}"#,
+    ),
+    (
+        r#"{"id":1,"method":"textDocument/rename","params":{"textDocument":{"uri":"a"},"position":{"line":1,"character":9},"newName":"c"}}"#,
+        r#"{"jsonrpc":"2.0","id":1,"error":{"code":-32803,"message":"the text of an open document was lost"}}"#,
     ),
 ];
 

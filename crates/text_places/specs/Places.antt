@@ -67,12 +67,13 @@ offset_from_walk units w (b ∷ bs) place =
     if is_there units w b place then 0
     else suc (offset_from_walk units (walk_step units w b) bs place)
 
--- THE OFFSET of a place, as an editor reads it: within a character it is the character's front, after a line's last
--- character the line's end, and after the last line the text's end
+-- THE OFFSET of a place, as an editor reads it: within a character of two units of UTF-16 it is the character's front, after
+-- a line's last character the line's end, and after the last line the text's end. In bytes each offset of a line has a place.
 abbrev pub offset_at : Units → List ℕ → Place → ℕ
 offset_at units text place = offset_from_walk units walk_start text place
 
--- After this walk one of these bytes begins a character, or none is left. Between a CR and its LF none begins.
+-- After this walk one of these bytes begins a character, or none is left. Between a CR and its LF none begins. In bytes
+-- each byte is taken for a character.
 abbrev pub begins_character : Units → Walk → List ℕ → Bool
 begins_character units w [] = true
 begins_character units w (b ∷ bs) =

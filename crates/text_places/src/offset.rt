@@ -22,8 +22,8 @@ fn is_there(units: Units, walk: Walk, byte: u8, place: Place) -> bool
     place.character < walk.character + units_of(units, byte)
 }
 
-/// The offset of a place, as an editor reads it: within a character it is the character's front, after a line's last
-/// character the line's end, and after the last line the text's end.
+/// The offset of a place, as an editor reads it: within a character of two units of UTF-16 it is the character's front,
+/// after a line's last character the line's end, and after the last line the text's end.
 pub fn offset_at(units: Units, text: &[u8], place: Place) -> usize
     requires { length text.now < 2 ^ 32 }
     ensures offset { result ≡ offset_at units text.now place }

@@ -1,4 +1,4 @@
--- A document that is forgotten right after it got a text.
+-- A document whose text is lost right after it got it.
 use Rattle.std.proofs.Common.{◌≡◌, ◌∙◌, ◌∷◌, [], ℕ, Bool, List, ap, cond, false, not, refl, true}
 use Rattle.std.specs.Prelude.{Option, Some, None}
 use Rattle.std.specs.Str.{bytes_eq}
@@ -14,9 +14,9 @@ without_twice uri (o ∷ os) = by (bytes_eq uri o.uri) refl (without_twice uri o
     by true e again = again
     by false e again = ap (λ b. cond (not b) (o ∷ without uri (without uri os)) (without uri (without uri os))) e ∙ ap (λ l. o ∷ l) again
 
-forgotten_text : (uri : List ℕ) (version : Option ℕ) (text : List ℕ) (documents : List OpenText) → without uri (with_open_text uri version text documents) ≡ without uri documents
-forgotten_text uri version text documents =
+lost_text : (uri : List ℕ) (version : Option ℕ) (text : List ℕ) (documents : List OpenText) → without uri (with_open_text uri version text documents) ≡ without uri documents
+lost_text uri version text documents =
     ap (λ b. cond (not b) (open_text uri version text ∷ without uri (without uri documents)) (without uri (without uri documents))) ((bytes_eq-Decides uri uri).1 refl) ∙ without_twice uri documents
 
-pub forgotten : (uri : List ℕ) (version : Option ℕ) (text : List ℕ) (s : Session) → with_text uri None None (with_text uri version (Some text) s) ≡ with_text uri None None s
-forgotten uri version text s = ap (λ documents. record s { documents = documents }) (forgotten_text uri version text s.documents)
+pub lost : (uri : List ℕ) (version : Option ℕ) (text : List ℕ) (s : Session) → with_text uri None None (with_text uri version (Some text) s) ≡ with_text uri None None s
+lost uri version text s = ap (λ documents. record s { documents = documents; has_lost = true }) (lost_text uri version text s.documents)
