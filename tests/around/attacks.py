@@ -38,6 +38,17 @@ def library(group):
     return str(made)
 
 
+def outputs(started, top):
+    """(what a run says, whether it waited at a pipe, and was woken). A run that is slow for the machine's sake goes on."""
+    woken = False
+    for _ in range(0, LIMIT, SECONDS):
+        try:
+            return started.communicate(timeout=SECONDS), woken
+        except subprocess.TimeoutExpired:
+            woken = wake(top) or woken
+    raise TimeoutError('a run waits, and not at a pipe')
+
+
 def attacked(group, words, top, counted='any', program=None, **setting):
     """(the output of a run, whether the call was reached before which something is done, whether the run had to be
     woken)."""
@@ -53,13 +64,7 @@ def attacked(group, words, top, counted='any', program=None, **setting):
     )
     os.close(told)
     try:
-        woken = False
-        try:
-            out, err = started.communicate(timeout=SECONDS)
-        except subprocess.TimeoutExpired:
-            woken = True
-            wake(top)
-            out, err = started.communicate(timeout=SECONDS)
+        (out, err), woken = outputs(started, top)
         return (started.returncode, out, err), os.read(back, 4), woken
     finally:
         started.kill()
@@ -110,14 +115,17 @@ class Held:
 
 
 def wake(top):
-    """Writes to the pipes that are read, so that nobody waits for them."""
+    """Opens the pipes that a run waits to read, so that it goes on. Whether there was one."""
+    woken = False
     for path in top.rglob('*'):
         try:
             if stat.S_ISFIFO(os.lstat(str(path)).st_mode):
                 os.close(os.open(str(path), os.O_WRONLY | os.O_NONBLOCK))
+                woken = True
         except OSError as fault:
             if fault.errno not in (errno.ENXIO, errno.ENOENT):
                 raise
+    return woken
 
 
 def give_away(path):
