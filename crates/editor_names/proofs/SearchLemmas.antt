@@ -1,8 +1,9 @@
 -- The files of a module, searched in turn.
 use Rattle.std.proofs.Common.{◌≡◌, ◌∙◌, ◌<◌, ◌+◌, ◌++◌, ◌∷◌, [], ℕ, Bool, List, String, Global, Option, true, false, ap, append_assoc, append-nil, arith, get_or, length, map, refl, subst, suc, sym, take, zero}
 use Rattle.std.proofs.lemmas.List.{take_more}
-use Rattle.std.specs.Prelude.{◌&&◌, ◌||◌, Err, Result, string_bytes}
+use Rattle.std.specs.Prelude.{◌&&◌, ◌||◌, Err, IfOk, Ok, Result, string_bytes}
 use Rattle.std.specs.List.{list_all, list_any}
+use Rattle.std.specs.declared.alloc.AllocError.{AllocError}
 use Rattle.std.specs.Io.KnownBytes.{Consumes}
 use Rattle.file_tree.specs.Files.{Files, Name}
 use Rattle.hcl_source.specs.Devices.{Tells}
@@ -19,10 +20,11 @@ use Rattle.editor_messages.specs.Views.{document_ranges_seen}
 use Rattle.editor_messages.specs.declared.range.DocumentRanges.{DocumentRanges as DocumentRangesOf}
 use Rattle.editor_modules.specs.Modules.{AreAlone}
 use Rattle.editor_modules.specs.Told.{file_uri}
-use Rattle.editor_names.specs.Modules.{AreFileRanges, AreModuleRanges, IsFileRanges, document_of, documents_of, file_declares, is_read}
+use Rattle.editor_names.specs.Modules.{AreFileRanges, AreModuleRanges, IsFileRanges, IsTextRanges, document_of, documents_of, file_declares, is_read}
 use Rattle.editor_names.specs.Names.{Query}
 use Rattle.editor_names.specs.Inner.Searching.{HaveRanges}
 use Rattle.editor_names.specs.declared.file.FileRanges.{FileRanges}
+use Rattle.editor_names.specs.declared.file.FileRanges.TheVariants.{Spelled, Refused, Unread}
 use Rattle.editor_names.specs.declared.search.NameRanges.{NameRanges}
 
 ranges_more : (q : Query) (told : Name → Option (List ℕ)) (names : List Name) (files : List FileRanges) (name : Name) (file : FileRanges) → AreFileRanges q told names files → IsFileRanges q (told name) file
@@ -133,6 +135,13 @@ module_searched q documents disk folder files later modules left one names found
 }
 
 -- ---- a file that is loaded
+
+-- where its text spells the name, the file does
+pub file_of_text : (q : Query) (told : Option (List ℕ)) (text : List ℕ) (searched : Result FileRanges AllocError) → Tells told text → IfOk searched (IsTextRanges q text) → IfOk searched (IsFileRanges q told)
+file_of_text q told text (Err e) is h = h
+file_of_text q told text (Ok (Spelled spelling)) is h = (text, is, h)
+file_of_text q told text (Ok Refused) is h = (text, is, h)
+file_of_text q told text (Ok Unread) is h = absurd h
 
 -- the device tells the bytes that have the fault
 pub fault_told : (told read left' left : Option (List ℕ)) (bytes : List ℕ) (loaded : Result (List ℕ) LoadError) (fault : Fault) → loaded ≡ Err (error.Fault fault) → left ≡ read → read ≡ told → Consumes left left' bytes → Loads bytes left' loaded

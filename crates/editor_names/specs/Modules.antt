@@ -1,5 +1,5 @@
 -- WHERE THE FILES OF A MODULE spell a name.
-use Rattle.std.specs.Prelude.{◌≡◌, ℕ, ◌&&◌, ◌++◌, Bool, true, false, List, [], ◌∷◌, Option, Some}
+use Rattle.std.specs.Prelude.{◌≡◌, ℕ, ◌&&◌, ◌++◌, Bool, true, false, List, [], ◌∷◌, Option}
 use Rattle.std.specs.List.{list_all, list_any}
 use Rattle.file_tree.specs.Files.{Files, Name}
 use Rattle.hcl_source.specs.Devices.{Tells}
@@ -18,14 +18,19 @@ use Rattle.editor_names.specs.declared.file.FileRanges.TheVariants.{Spelled, Ref
 
 -- ---- one file
 
+-- THE RANGES of a text
+abbrev pub IsTextRanges : Query → List ℕ → FileRanges → Type 0
+IsTextRanges q text (Spelled spelling) =
+    (s : Scanned) × IsFile text s
+    × (spelling.ranges.items ≡ ranges_in q s) × (spelling.declares ≡ declares q s)
+IsTextRanges q text Refused = IsRefused text
+IsTextRanges q text Unread = ⊥
+
 -- THE RANGES of a file, by the bytes that the device tells for its name. Nothing is claimed of a file that can't be
 -- opened or read.
 abbrev pub IsFileRanges : Query → Option (List ℕ) → FileRanges → Type 0
-IsFileRanges q told (Spelled spelling) =
-    (text : List ℕ) × (s : Scanned) × Tells told text × IsFile text s
-    × (spelling.ranges.items ≡ ranges_in q s) × (spelling.declares ≡ declares q s)
-IsFileRanges q told Refused = (bytes : List ℕ) × Tells told bytes × IsRefused bytes
 IsFileRanges q told Unread = Unit {0}
+IsFileRanges q told file = (text : List ℕ) × Tells told text × IsTextRanges q text file
 
 -- it is a file of the language
 abbrev pub is_read : FileRanges → Bool
@@ -52,7 +57,8 @@ document_of uri version (Spelled spelling) = document_with uri version spelling.
 document_of uri version Refused = []
 document_of uri version Unread = []
 
--- the documents that spell a name, whether a file declares it, and whether each file that may spell it is one of the language
+-- the documents that spell a name, whether a file declares it, and whether each file that may spell it is one of the
+-- language
 pub record NameRanges : Type 0 where
   pub documents : List DocumentRanges
   pub is_declared : Bool
@@ -61,7 +67,7 @@ pub record NameRanges : Type 0 where
 -- THE RANGES of a document alone
 abbrev pub IsDocumentRanges : Query → List ℕ → Option ℕ → List ℕ → NameRanges → Type 0
 IsDocumentRanges q uri version text found =
-    (file : FileRanges) × IsFileRanges q (Some text) file
+    (file : FileRanges) × IsTextRanges q text file
     × (found ≡ record {
       documents = document_of uri version file;
       is_declared = file_declares file;

@@ -1,13 +1,12 @@
 //! Where one file spells a name.
 
-ghost use Rattle.std.specs.Prelude.{◌≡◌, ◌++◌, ◌∷◌, [], All, List, ℕ, Option, Some, IfOk, OnOk, filter, length, map};
+ghost use Rattle.std.specs.Prelude.{◌≡◌, ◌++◌, ◌∷◌, [], All, IfOk, OnOk, filter, length, map};
 ghost use Rattle.std.specs.List.{list_any};
 ghost use Rattle.file_tree.specs.Unchanged.{Unchanged};
-ghost use Rattle.hcl_source.specs.Devices.{Tells};
 ghost use Rattle.hcl_source.specs.Load.{IsText};
 ghost use Rattle.tf_names.specs.Names.{IsInOrder};
 ghost use Rattle.tf_names.specs.Views.{occurrence_seen};
-ghost use Rattle.editor_names.specs.Modules.{IsFileRanges, file_declares, is_read};
+ghost use Rattle.editor_names.specs.Modules.{IsFileRanges, IsTextRanges, file_declares, is_read};
 ghost use Rattle.editor_names.specs.Names.{declarations_of, declares, is_wanted, range_of, ranges_in};
 ghost use Rattle.editor_names.specs.Views.{query_seen};
 
@@ -139,8 +138,7 @@ pub(crate) fn source_ranges(
     source: &Source,
 ) -> Result<FileRanges, AllocError>
     requires { IsText source.now }
-    ensures { (told : Option (List ℕ)) → Tells told source.now
-        → IfOk result (IsFileRanges (query_seen query.entry) told) }
+    ensures { IfOk result (IsTextRanges (query_seen query.entry) source.now) }
 {
     let tokens = match scan(alloc, source) {
         Ok(tokens) => tokens,
@@ -159,7 +157,7 @@ pub(crate) fn text_ranges(
     query: Query<'_>,
     text: &str,
 ) -> Result<FileRanges, AllocError>
-    ensures { IfOk result (IsFileRanges (query_seen query.entry) (Some text.now)) }
+    ensures { IfOk result (IsTextRanges (query_seen query.entry) text.now) }
 {
     match Source::from_bytes(alloc, text.as_bytes()) {
         Ok(source) => source_ranges(alloc, query, &source),

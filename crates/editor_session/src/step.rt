@@ -76,8 +76,7 @@ impl Session {
         Ok(Turn::Say(reply))
     }
 
-    /// Takes in the text of a document, and returns the messages that it leads to. If memory runs out, the text is
-    /// lost.
+    /// Takes in the text of a document, and returns the messages that it leads to. The text is lost if memory runs out.
     fn take_text<D: Disk>(
         &mut self,
         alloc: Global,
