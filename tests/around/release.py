@@ -246,7 +246,7 @@ def unpacked(group, file):
 
 def told(prefix, path=False):
     """What install.sh says."""
-    names = 'tfls tffmt tffmt-all tffmt-hook tfrules tfrules-all tfrules-modules'
+    names = 'tffmt tffmt-all tffmt-hook tfls tfrules tfrules-all tfrules-modules'
     said = ['installed in %s/bin: %s' % (prefix, names)]
     said += ['with man pages, completions, and documents in %s/share/doc/tffmt' % prefix]
     if not path:
