@@ -246,8 +246,8 @@ def unpacked(group, file):
 
 def told(prefix, path=False):
     """What install.sh says."""
-    names = 'tffmt tffmt-all tffmt-hook tfls tfrules tfrules-all tfrules-modules'
-    said = ['installed in %s/bin: %s' % (prefix, names)]
+    names = sorted(PROGRAMS + ('tffmt-hook', 'tfrules-modules'))
+    said = ['installed in %s/bin: %s' % (prefix, ' '.join(names))]
     said += ['with man pages, completions, and documents in %s/share/doc/tffmt' % prefix]
     if not path:
         said += ['add to PATH, in the file that your shell reads first: export PATH="%s/bin:$PATH"' % prefix]
