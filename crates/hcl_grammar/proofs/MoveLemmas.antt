@@ -1,5 +1,6 @@
 -- The openers that the predictor's states must close, over whole runs, and the numbers in its refusals and symbols.
 use Rattle.std.proofs.Common.{◌≡◌, ℕ, ◌+◌, nat_lt, Bool, true, false, cond, List, [], ◌∷◌, ◌++◌, Some, None, refl, subst, sym}
+use Rattle.std.proofs.lemmas.Bool.{false≢true}
 use Rattle.hcl_tokens.specs.Lexemes.{Lexeme, Opener}
 use Rattle.hcl_grammar.specs.declared.class.Class.{Class}
 use Rattle.hcl_grammar.specs.declared.class.Class.TheVariants.{Newline, Trivia}
@@ -40,7 +41,7 @@ more-numbers P s m ss h = h
 shift-dropped : (m : Newlines) (c : Class) (a : List Opener) → drops m c ≡ true → Shift c a a
 shift-dropped Seen c a h = cc
 shift-dropped Dropped Newline a h = refl
-shift-dropped Dropped _ a h = cc
+shift-dropped Dropped _ a h = absurd (false≢true h)
 
 shift-after : (c : Class) (a : List Opener) (xs ss : List Marked) → Shift c a (unclosed_in_all xs) → Shift c (a ++ unclosed_in_all ss) (unclosed_in_all (xs ++ ss))
 shift-after c a xs ss h = subst (λ l. Shift c (a ++ unclosed_in_all ss) l) (sym (unclosed_in_all-append xs ss)) (shift-above c a (unclosed_in_all xs) (unclosed_in_all ss) h)
@@ -70,7 +71,7 @@ Shifts (t ∷ ts) a b = (mid : List Opener) × Shift (class_of t) a mid × Shift
 
 shift-trivia : (c : Class) (a : List Opener) → is_trivia c ≡ true → Shift c a a
 shift-trivia Trivia a h = refl
-shift-trivia _ a h = cc
+shift-trivia _ a h = absurd (false≢true h)
 
 abbrev Fronts : List Lexeme → List Marked → Type 0
 Fronts ps ss = (b : List Opener) × Shifts ps (unclosed_in_all ss) b

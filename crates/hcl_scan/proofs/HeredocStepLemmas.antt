@@ -3,7 +3,7 @@ use Rattle.std.proofs.Common.{◌≡◌, ℕ, ◌+◌, ◌-◌, ◌<◌, ◌≤�
 use Rattle.std.specs.List.{prefix_len}
 use Rattle.std.specs.Str.{IsCharBoundary}
 use Rattle.std.proofs.lemmas.Str.{IsCharBoundary-start, IsCharBoundary-after_ascii}
-use Rattle.std.proofs.lemmas.Bool.{cases_order}
+use Rattle.std.proofs.lemmas.Bool.{false≢true, cases_order}
 use Rattle.std.proofs.lemmas.Bool.Decides.{nat_tests}
 use Rattle.std.proofs.lemmas.List.{length-map}
 use Rattle.std.proofs.lemmas.List.Sums.{prefix_len-le-length}
@@ -32,7 +32,7 @@ use Rattle.hcl_scan.proofs.StepLemmas.{ahead_is, entry_is, text_len, blank_ascii
 
 heredoc_kind : (kind : Kind) → is HeredocOpen kind ≡ true → kind ≡ HeredocOpen
 heredoc_kind HeredocOpen h = refl
-heredoc_kind _ h = absurd (cc)
+heredoc_kind _ h = absurd (false≢true h)
 
 -- a marker line begins between characters, and so ends its marker
 pub ascii_there : (xs : List ℕ) (n : ℕ) → n ≤ length xs → (drop n xs ≡ []) ⊎ (get_or (drop n xs) 0 0 < 128) → IsCharBoundary xs n

@@ -5,6 +5,7 @@ use Rattle.std.specs.Char.{is_ascii_digit}
 use Rattle.std.specs.Prelude.{nat_le}
 use Rattle.std.proofs.lemmas.List.{get_or_append_left}
 use Rattle.std.proofs.lemmas.Bool.Decides.{nat_tests}
+use Rattle.std.proofs.lemmas.Bool.{false≢true}
 use Rattle.hcl_tokens.specs.Lexemes.{Lexeme, Opener, in_heredoc, open_after}
 use Rattle.hcl_tokens.specs.Spelling.{punctuation, IsPunctuation, IsExpressionText, context, Expression}
 use Rattle.hcl_tokens.specs.Kinds.{is}
@@ -62,7 +63,7 @@ grown_place opens dot Greater text rest g s = (in_place opens dot Greater text r
 grown_place opens dot Slash text rest g s = (in_place opens dot Slash text rest refl s, refl)
 grown_place opens dot InterpOpen text rest g s = (refl, refl)
 grown_place opens dot ControlOpen text rest g s = (refl, refl)
-grown_place opens dot _ text rest g s = absurd (cc)
+grown_place opens dot _ text rest g s = absurd (false≢true g)
 
 -- ---- what is read in an expression outside heredocs
 pub record ReadPlain (s : State) (t : Lexeme) : Type 0 where

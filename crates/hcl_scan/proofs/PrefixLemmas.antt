@@ -4,6 +4,7 @@ use Rattle.std.specs.List.{list_all}
 use Rattle.std.specs.Char.{is_ascii_digit}
 use Rattle.std.proofs.lemmas.Bool.Decides.{nat_tests}
 use Rattle.std.proofs.lemmas.List.{append-nil}
+use Rattle.std.proofs.lemmas.Bool.{false≢true}
 use Rattle.hcl_tokens.specs.Lexemes.{Opener}
 use Rattle.hcl_tokens.specs.Spelling.{punctuation, IsPunctuation, IsDigits, is_blank, starts}
 use Rattle.hcl_scan.specs.Inner.Prefixes.{prefix_of, prefix_bytes, slash_prefix}
@@ -32,6 +33,22 @@ kind_lead SeqClose = Closer
 kind_lead BraceClose = Closer
 kind_lead _ = Sign
 
+abbrev rank : Prefix → ℕ
+rank LineEnd = 0
+rank Space = 1
+rank Letter = 2
+rank Digit = 3
+rank HashOrSlashes = 4
+rank SlashStar = 5
+rank OneSlash = 6
+rank LessLess = 7
+rank Closer = 8
+rank Sign = 9
+
+-- whether the second is the first, by computation
+abbrev is_lead : Prefix → Prefix → Bool
+is_lead l m = rank l == rank m
+
 is_sign_lead : Prefix → Bool
 is_sign_lead Sign = true
 is_sign_lead _ = false
@@ -39,7 +56,7 @@ is_sign_lead _ = false
 sign_is : (l : Prefix) → is_sign_lead l ≡ true → l ≡ Sign
 unfolding is_sign_lead
 sign_is Sign h = refl
-sign_is _ h = absurd (cc)
+sign_is _ h = absurd (false≢true h)
 
 mark_leads : (text : List ℕ) (kind : Kind) → IsPunctuation punctuation text kind → (is_sign_lead (prefix_of text) && is_sign_lead (kind_lead kind)) ≡ true
 unfolding punctuation is_sign_lead
@@ -153,40 +170,40 @@ some opens dot kind text rest (mark is) = some_mark text kind is
 -- the kinds of a lead
 pub line_kind : (kind : Kind) → kind_lead kind ≡ LineEnd → kind ≡ Newline
 line_kind Newline h = refl
-line_kind _ h = absurd (cc)
+line_kind _ h = absurd (false≢true (ap (is_lead LineEnd) h))
 
 pub space_kind : (kind : Kind) → kind_lead kind ≡ Space → kind ≡ Blank
 space_kind Blank h = refl
-space_kind _ h = absurd (cc)
+space_kind _ h = absurd (false≢true (ap (is_lead Space) h))
 
 pub letter_kind : (kind : Kind) → kind_lead kind ≡ Letter → kind ≡ Ident
 letter_kind Ident h = refl
-letter_kind _ h = absurd (cc)
+letter_kind _ h = absurd (false≢true (ap (is_lead Letter) h))
 
 pub digit_kind : (kind : Kind) → kind_lead kind ≡ Digit → kind ≡ Number
 digit_kind Number h = refl
-digit_kind _ h = absurd (cc)
+digit_kind _ h = absurd (false≢true (ap (is_lead Digit) h))
 
 pub hash_kind : (kind : Kind) → kind_lead kind ≡ HashOrSlashes → kind ≡ LineComment
 hash_kind LineComment h = refl
-hash_kind _ h = absurd (cc)
+hash_kind _ h = absurd (false≢true (ap (is_lead HashOrSlashes) h))
 
 pub star_kind : (kind : Kind) → kind_lead kind ≡ SlashStar → kind ≡ InlineComment
 star_kind InlineComment h = refl
-star_kind _ h = absurd (cc)
+star_kind _ h = absurd (false≢true (ap (is_lead SlashStar) h))
 
 pub slash_kind : (kind : Kind) → kind_lead kind ≡ OneSlash → kind ≡ Slash
 slash_kind Slash h = refl
-slash_kind _ h = absurd (cc)
+slash_kind _ h = absurd (false≢true (ap (is_lead OneSlash) h))
 
 pub less_kind : (kind : Kind) → kind_lead kind ≡ LessLess → kind ≡ HeredocOpen
 less_kind HeredocOpen h = refl
-less_kind _ h = absurd (cc)
+less_kind _ h = absurd (false≢true (ap (is_lead LessLess) h))
 
 pub closer_kinds : (kind : Kind) → kind_lead kind ≡ Closer → (kind ≡ SeqClose) ⊎ (kind ≡ BraceClose)
 closer_kinds SeqClose h = inl refl
 closer_kinds BraceClose h = inr refl
-closer_kinds _ h = absurd (cc)
+closer_kinds _ h = absurd (false≢true (ap (is_lead Closer) h))
 
 -- a text of a kind that begins as the marks do is a mark
 pub sign_mark : (opens : List Opener) (dot : Bool) (kind : Kind) (text rest : List ℕ) → kind_lead kind ≡ Sign → Ways opens dot kind text rest → IsPunctuation punctuation text kind

@@ -1,7 +1,8 @@
 -- The scanner's stack and the open constructs.
-use Rattle.std.proofs.Common.{◌≡◌, ◌≢◌, ℕ, suc, ◌+◌, ◌-◌, ◌<◌, ◌≤◌, ◌||◌, Bool, true, false, IsTrue, List, [], ◌∷◌, length, drop, length-drop, if◌then◌else◌, Some, None, refl, sym, ap, subst, ◌∙◌, arith, nat_lt}
+use Rattle.std.proofs.Common.{◌≡◌, ◌≢◌, Option, ℕ, suc, ◌+◌, ◌-◌, ◌<◌, ◌≤◌, ◌||◌, Bool, true, false, IsTrue, List, [], ◌∷◌, length, drop, length-drop, if◌then◌else◌, Some, None, refl, sym, ap, subst, ◌∙◌, arith, nat_lt}
 use Rattle.std.proofs.lemmas.List.{length-map, drop-map, drop-drop}
 use Rattle.std.proofs.lemmas.Bool.Decides.{nat_tests}
+use Rattle.std.proofs.lemmas.Bool.{false≢true}
 use Rattle.hcl_tokens.specs.Lexemes.{Opener, Quote, Heredoc, Sequence, Brace, Bracket, Paren, is_group, in_heredoc, below_groups, closes_sequence, pop_if, tops_with, open_after, same_opener}
 use Rattle.hcl_tokens.specs.Spelling.{Context, Template, Expression, context, context_in}
 use Rattle.hcl_tokens.specs.Kinds.{is}
@@ -380,6 +381,10 @@ push_offsets at opener opens offsets = ap (λ v. if v then at ∷ offsets else d
     less n = grind (arith, nat_tests)
 
 -- OPENERS
+abbrev is_opener : Option kept.Opener → Bool
+is_opener (Some opener) = true
+is_opener None = false
+
 pub opens_so : (kind : Kind) (opener : kept.Opener) (opens : List Opener) → opened_by kind ≡ Some opener → (opener_of opener ∷ opens ≡ open_after kind opens) × (same_opener Heredoc (opener_of opener) ≡ false)
 opens_so QuoteOpen opener opens h = let e : by.Quote ≡ opener = cc in (ap (λ o. opener_of o ∷ opens) (sym e), ap (λ o. same_opener Heredoc (opener_of o)) (sym e))
 opens_so InterpOpen opener opens h = let e : by.Sequence ≡ opener = cc in (ap (λ o. opener_of o ∷ opens) (sym e), ap (λ o. same_opener Heredoc (opener_of o)) (sym e))
@@ -387,7 +392,7 @@ opens_so ControlOpen opener opens h = let e : by.Sequence ≡ opener = cc in (ap
 opens_so ParenOpen opener opens h = let e : by.Paren ≡ opener = cc in (ap (λ o. opener_of o ∷ opens) (sym e), ap (λ o. same_opener Heredoc (opener_of o)) (sym e))
 opens_so BracketOpen opener opens h = let e : by.Bracket ≡ opener = cc in (ap (λ o. opener_of o ∷ opens) (sym e), ap (λ o. same_opener Heredoc (opener_of o)) (sym e))
 opens_so BraceOpen opener opens h = let e : by.Brace ≡ opener = cc in (ap (λ o. opener_of o ∷ opens) (sym e), ap (λ o. same_opener Heredoc (opener_of o)) (sym e))
-opens_so _ opener opens h = absurd (cc)
+opens_so _ opener opens h = absurd (false≢true (ap is_opener h))
 
 pub ends_of : (text : List ℕ) (end : ℕ) (opener : kept.Opener) (around : ℕ → Type 0) → same_opener Heredoc (opener_of opener) ≡ false → around end → AreEndsBy text end opener around
 ends_of text end (by.Heredoc c o) around e h = absurd (cc)

@@ -7,6 +7,7 @@ use Rattle.std.proofs.lemmas.Str.{IsCharBoundary-start, IsCharBoundary-end, IsUt
 use Rattle.std.proofs.lemmas.Bool.Decides.{nat_tests}
 use Rattle.std.proofs.lemmas.List.{length-map}
 use Rattle.std.proofs.lemmas.List.Sums.{prefix_len-le-length}
+use Rattle.std.proofs.lemmas.Bool.{false≢true}
 use Rattle.hcl_source.specs.Load.{max_source}
 use Rattle.hcl_tokens.specs.Lexemes.{Opener, in_heredoc, open_after, Heredoc, Quote, Sequence, Brace, Bracket, Paren, max_open}
 use Rattle.hcl_tokens.specs.Spelling.{is_blank, Context, Template, Expression, context, context_in}
@@ -84,7 +85,7 @@ module _ (s : Scanner) (e : TokenEntry) (sound : IsSound s) (this : IsNext s e) 
   opener_no_dot : (kind : Kind) (opener : kept.Opener) → opened_by kind ≡ Some opener → (false ≡ is Dot kind) × (kind ≢ HeredocOpen)
   opener_no_dot Dot opener h = absurd (cc)
   opener_no_dot HeredocOpen opener h = absurd (cc)
-  opener_no_dot _ opener h = (refl, λ k. cc)
+  opener_no_dot _ opener h = (refl, λ k. false≢true (ap (is HeredocOpen) k))
 
   pub reads_opener : (opener : kept.Opener) (stack : List Opened) → opened_by e.kind ≡ Some opener → length s.stack < max_open → stack ≡ opened_on opener e.start s.stack → Moves s e (record { text = s.text; at = e.end; end = s.end; after_dot = false; stack = stack })
   reads_opener opener stack opens_is room stack_is =

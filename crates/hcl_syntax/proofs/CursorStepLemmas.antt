@@ -1,5 +1,6 @@
 -- Laws of the predictor's runs.
 use Rattle.std.proofs.Common.{◌≡◌, ◌≢◌, zero, suc, subst, ℕ, ◌+◌, ◌-◌, ◌<◌, ◌≤◌, Bool, true, false, List, [], ◌∷◌, ◌++◌, Option, Some, None, Result, Ok, Err, IsErrAnd, lt-ltb, le-ltb, arith, refl, cond, sym, ap, ◌∙◌, append_assoc}
+use Rattle.std.proofs.lemmas.Bool.{false≢true}
 use Rattle.hcl_grammar.specs.declared.class.Lookahead.{Lookahead}
 use Rattle.hcl_grammar.specs.declared.class.Class.{Class}
 use Rattle.hcl_grammar.specs.declared.class.Class.TheVariants.{Newline, Ident, ParenClose, BracketClose, BraceClose, Comma, Ellipsis, Assign, Minus, Star}
@@ -200,7 +201,7 @@ alike {count = count} {s = s} {s' = s'} {m = m} {old = old} {mid = mid} e f show
 -- A read terminal. Only rows of templates depend on the number of a token, so the others are named at 0.
 pub args-end : (m : Newlines) (k : Class) → fits EndParen k ≡ true → row_of args m 0 k ≡ reads []
 args-end m ParenClose h = refl
-args-end m _ h = cc
+args-end m _ h = absurd (false≢true h)
 
 pub args-else : (m : Newlines) (k : Class) → fits EndParen k ≡ false → row_of args m 0 k ≡ (row_of expr m 0 k then (arg_next at m ∷ []))
 args-else m ParenClose h = cc
@@ -208,7 +209,7 @@ args-else m _ h = refl
 
 pub tuple-end : (m : Newlines) (k : Class) → fits EndBracket k ≡ true → row_of tuple_item m 0 k ≡ reads []
 tuple-end m BracketClose h = refl
-tuple-end m _ h = cc
+tuple-end m _ h = absurd (false≢true h)
 
 pub tuple-else : (m : Newlines) (k : Class) → fits EndBracket k ≡ false → row_of tuple_item m 0 k ≡ (row_of expr m 0 k then (tuple_next at m ∷ []))
 tuple-else m BracketClose h = cc
@@ -216,7 +217,7 @@ tuple-else m _ h = refl
 
 pub index-star : (m : Newlines) (k : Class) → fits Asterisk k ≡ true → row_of index m 0 k ≡ reads (the EndBracket at m ∷ [])
 index-star m Star h = refl
-index-star m _ h = cc
+index-star m _ h = absurd (false≢true h)
 
 pub index-else : (m : Newlines) (k : Class) → fits Asterisk k ≡ false → row_of index m 0 k ≡ (row_of expr m 0 k then (the EndBracket at m ∷ []))
 index-else m Star h = cc
@@ -233,7 +234,7 @@ renamed {count = count} {xs = xs} {old = old} {new = new} {r = r} e h = subst (�
 pub names-in : (m : Newlines) (k : Class) → fits InWord k ≡ true → row_of names m 0 k ≡ reads []
 names-in m (Ident In) h = refl
 names-in m Comma h = cc
-names-in m _ h = cc
+names-in m _ h = absurd (false≢true h)
 
 pub names-else : (m : Newlines) (k : Class) → fits InWord k ≡ false → row_of names m 0 k ≡ (row_of (the CommaSign) m 0 k then (the Name at m ∷ the InWord at m ∷ []))
 names-else m (Ident In) h = cc
@@ -302,7 +303,7 @@ same-token o t u e f = cc
 
 pub rest-equals : (m : Newlines) (k : Class) → fits Equals k ≡ true → row_of rest m 0 k ≡ reads (expr at Seen ∷ eol at m ∷ [])
 rest-equals m Assign h = refl
-rest-equals m _ h = cc
+rest-equals m _ h = absurd (false≢true h)
 
 pub rest-else : (m : Newlines) (k : Class) → fits Equals k ≡ false → row_of rest m 0 k ≡ row_of labels m 0 k
 rest-else m Assign h = cc
@@ -364,7 +365,7 @@ bodies-up n = let e : suc n ≡ n + 1 = omega arith in ap (λ k. bodies k) e
 -- For-expressions, and their conditions.
 pub tuple-for : (m : Newlines) (c : Class) → fits ForWord c ≡ true → row_of tuple m 0 c ≡ reads (the Name at m ∷ names at m ∷ expr at m ∷ the Separator at m ∷ expr at m ∷ tuple_if at m ∷ [])
 tuple-for m (Ident For) h = refl
-tuple-for m _ h = cc
+tuple-for m _ h = absurd (false≢true h)
 
 pub tuple-listed : (m : Newlines) (c : Class) → fits ForWord c ≡ false → row_of tuple m 0 c ≡ row_of tuple_item m 0 c
 tuple-listed m (Ident For) h = cc
@@ -373,7 +374,7 @@ tuple-listed m _ h = refl
 
 pub tuple-if : (m : Newlines) (c : Class) → fits IfWord c ≡ true → row_of tuple_if m 0 c ≡ reads (expr at m ∷ the EndBracket at m ∷ [])
 tuple-if m (Ident If) h = refl
-tuple-if m _ h = cc
+tuple-if m _ h = absurd (false≢true h)
 
 pub tuple-plain : (m : Newlines) (c : Class) → fits IfWord c ≡ false → row_of tuple_if m 0 c ≡ row_of (the EndBracket) m 0 c
 tuple-plain m (Ident If) h = cc
@@ -382,7 +383,7 @@ tuple-plain m _ h = refl
 
 pub object-if : (m : Newlines) (c : Class) → fits IfWord c ≡ true → row_of object_if m 0 c ≡ reads (expr at m ∷ the EndBrace at m ∷ [])
 object-if m (Ident If) h = refl
-object-if m _ h = cc
+object-if m _ h = absurd (false≢true h)
 
 pub object-plain : (m : Newlines) (c : Class) → fits IfWord c ≡ false → row_of object_if m 0 c ≡ row_of (the EndBrace) m 0 c
 object-plain m (Ident If) h = cc
@@ -391,7 +392,7 @@ object-plain m _ h = refl
 
 pub group-dots : (m : Newlines) (c : Class) → fits Ellipses c ≡ true → row_of group m 0 c ≡ reads (object_if at m ∷ [])
 group-dots m Ellipsis h = refl
-group-dots m _ h = cc
+group-dots m _ h = absurd (false≢true h)
 
 pub group-plain : (m : Newlines) (c : Class) → fits Ellipses c ≡ false → row_of group m 0 c ≡ row_of object_if m 0 c
 group-plain m Ellipsis h = cc
@@ -406,14 +407,14 @@ object-passes t e = object-passes-at t.class e
   where
     object-passes-at : (c : Class) → drops Dropped c ≡ true → row_of object Seen 0 c ≡ reads (object at Seen ∷ [])
     object-passes-at Newline h = refl
-    object-passes-at _ h = cc
+    object-passes-at _ h = absurd (false≢true h)
 
 pub item-passes : PassesNewlines object_item
 item-passes t e = item-passes-at t.class e
   where
     item-passes-at : (c : Class) → drops Dropped c ≡ true → row_of object_item Seen 0 c ≡ reads (object_item at Seen ∷ [])
     item-passes-at Newline h = refl
-    item-passes-at _ h = cc
+    item-passes-at _ h = absurd (false≢true h)
 
 passes-by : (count : ℕ) (s : Symbol) (ss : List Marked) (t : Lookahead) (ts : List Lookahead) (b : Bool) → drops Dropped t.class ≡ b → PassesNewlines s →
     run count (s at Seen ∷ ss) ts ≡ run count (s at Seen ∷ ss) (past_newlines Dropped ts) →
@@ -438,7 +439,7 @@ looks-past {old = old} l = record { is = seen-all (past_newlines Dropped old) �
 
 pub object-for : (m : Newlines) (c : Class) → fits ForWord c ≡ true → row_of object m 0 c ≡ reads (the Name at Dropped ∷ names at Dropped ∷ expr at Dropped ∷ the Separator at Dropped ∷ expr at Dropped ∷ the FatArrow at Dropped ∷ expr at Dropped ∷ group at Dropped ∷ [])
 object-for m (Ident For) h = refl
-object-for m _ h = cc
+object-for m _ h = absurd (false≢true h)
 
 pub object-listed : (m : Newlines) (c : Class) → fits ForWord c ≡ false → drops Dropped c ≡ false → row_of object m 0 c ≡ row_of object_item m 0 c
 object-listed m (Ident For) h k = cc
@@ -448,7 +449,7 @@ object-listed m _ h k = refl
 
 pub item-end : (m : Newlines) (c : Class) → fits EndBrace c ≡ true → row_of object_item m 0 c ≡ reads []
 item-end m BraceClose h = refl
-item-end m _ h = cc
+item-end m _ h = absurd (false≢true h)
 
 pub item-else : (m : Newlines) (c : Class) → fits EndBrace c ≡ false → drops Dropped c ≡ false → row_of object_item m 0 c ≡ (row_of expr m 0 c then (separator at m ∷ expr at m ∷ object_next at m ∷ []))
 item-else m BraceClose h k = cc

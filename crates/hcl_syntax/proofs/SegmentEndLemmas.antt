@@ -2,7 +2,7 @@
 use Rattle.std.proofs.Common.{◌≡◌, ◌∙◌, ap, sym, refl, ℕ, suc, zero, ◌+◌, ◌-◌, ◌<◌, ◌≤◌, Bool, true, false, cond, min, ap₂, subst, true≢false, List, [], ◌∷◌, ◌++◌, drop, length, get_or, set, replicate, reverse, arith, ◌⊎◌, inl, inr, ◌≢◌}
 use Rattle.std.specs.Prelude.{Some, slice_get, ◌&&◌, ◌||◌}
 use Rattle.std.proofs.lemmas.List.{reverse-append, get_or-set_same, get_or-set_other, length-set, length-replicate, drop_all}
-use Rattle.std.proofs.lemmas.Bool.{cases_eq}
+use Rattle.std.proofs.lemmas.Bool.{false≢true, cases_eq}
 use Rattle.hcl_tokens.specs.Lexemes.{Lexeme}
 use Rattle.hcl_tokens.specs.declared.token.Kind.{Kind}
 use Rattle.hcl_tokens.specs.declared.token.Kind.TheVariants as kind
@@ -30,7 +30,7 @@ down d = omega arith
 
 pub at_newline : (k : Kind) → is kind.Newline k ≡ true → Moves k true (λ d. d)
 at_newline kind.Newline e = record { newline_is = refl; moves = flat }
-at_newline _ e = absurd (cc)
+at_newline _ e = absurd (false≢true e)
 
 pub at_opener : (k : Kind) → nesting k ≡ Opens → Moves k false (λ d. d + 1)
 at_opener kind.ParenOpen e = record { newline_is = refl; moves = up }
@@ -38,26 +38,26 @@ at_opener kind.BracketOpen e = record { newline_is = refl; moves = up }
 at_opener kind.BraceOpen e = record { newline_is = refl; moves = up }
 at_opener kind.InterpOpen e = record { newline_is = refl; moves = up }
 at_opener kind.ControlOpen e = record { newline_is = refl; moves = up }
-at_opener _ e = absurd (cc)
+at_opener _ e = absurd (false≢true (ap is_opens e))
 
 pub at_closer : (k : Kind) → nesting k ≡ Closes → Moves k false (λ d. d - 1)
 at_closer kind.ParenClose e = record { newline_is = refl; moves = down }
 at_closer kind.BracketClose e = record { newline_is = refl; moves = down }
 at_closer kind.BraceClose e = record { newline_is = refl; moves = down }
 at_closer kind.SeqClose e = record { newline_is = refl; moves = down }
-at_closer _ e = absurd (cc)
+at_closer _ e = absurd (false≢true (ap is_closes e))
 
 pub at_other : (k : Kind) → is_passed k ≡ true → Moves k false (λ d. d)
-at_other kind.Newline e = absurd (cc)
-at_other kind.ParenOpen e = absurd (cc)
-at_other kind.BracketOpen e = absurd (cc)
-at_other kind.BraceOpen e = absurd (cc)
-at_other kind.InterpOpen e = absurd (cc)
-at_other kind.ControlOpen e = absurd (cc)
-at_other kind.ParenClose e = absurd (cc)
-at_other kind.BracketClose e = absurd (cc)
-at_other kind.BraceClose e = absurd (cc)
-at_other kind.SeqClose e = absurd (cc)
+at_other kind.Newline e = absurd (false≢true e)
+at_other kind.ParenOpen e = absurd (false≢true e)
+at_other kind.BracketOpen e = absurd (false≢true e)
+at_other kind.BraceOpen e = absurd (false≢true e)
+at_other kind.InterpOpen e = absurd (false≢true e)
+at_other kind.ControlOpen e = absurd (false≢true e)
+at_other kind.ParenClose e = absurd (false≢true e)
+at_other kind.BracketClose e = absurd (false≢true e)
+at_other kind.BraceClose e = absurd (false≢true e)
+at_other kind.SeqClose e = absurd (false≢true e)
 at_other _ e = record { newline_is = refl; moves = flat }
 
 -- a token that neither is a newline nor opens or closes anything is skipped

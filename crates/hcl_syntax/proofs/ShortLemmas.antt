@@ -1,5 +1,6 @@
 -- Operands of a few tokens, and the expressions that are one of them.
-use Rattle.std.proofs.Common.{◌≡◌, length, arith, ℕ, Bool, true, false, List, [], ◌∷◌, Option, Some, None, cond, refl, sym, ap, ◌∙◌}
+use Rattle.std.proofs.Common.{◌&&◌, ◌≡◌, length, arith, ℕ, Bool, true, false, List, [], ◌∷◌, Option, Some, None, cond, refl, sym, ap, ◌∙◌}
+use Rattle.std.proofs.lemmas.Bool.{false≢true}
 use Rattle.std.specs.Option.{IfSome}
 use Rattle.hcl_grammar.specs.declared.class.Lookahead.{Lookahead}
 use Rattle.hcl_grammar.specs.declared.class.Class.{Class}
@@ -22,7 +23,7 @@ record Ends (m : Newlines) (k : Class) : Type 0 where
 
 ended : (m : Newlines) (k : Class) → ends_expression m k ≡ true → Ends m k
 ended Seen Newline h = record { kept = refl; seen = refl; after_ident = refl; after = refl }
-ended Dropped Newline h = absurd (cc)
+ended Dropped Newline h = absurd (false≢true h)
 ended Seen Comma h = record { kept = refl; seen = refl; after_ident = refl; after = refl }
 ended Dropped Comma h = record { kept = refl; seen = refl; after_ident = refl; after = refl }
 ended Seen ParenClose h = record { kept = refl; seen = refl; after_ident = refl; after = refl }
@@ -41,8 +42,8 @@ ended Seen Colon h = record { kept = refl; seen = refl; after_ident = refl; afte
 ended Dropped Colon h = record { kept = refl; seen = refl; after_ident = refl; after = refl }
 ended Seen Ellipsis h = record { kept = refl; seen = refl; after_ident = refl; after = refl }
 ended Dropped Ellipsis h = record { kept = refl; seen = refl; after_ident = refl; after = refl }
-ended Seen _ h = absurd (cc)
-ended Dropped _ h = absurd (cc)
+ended Seen _ h = absurd (false≢true h)
+ended Dropped _ h = absurd (false≢true h)
 
 -- what the grammar sees at a number's token that isn't trivia
 seen_there : (l rest : List Lookahead) (t : Lookahead) (b : Bool) → b ≡ false → l ≡ cond b rest (t ∷ rest) → l ≡ t ∷ rest
@@ -88,7 +89,7 @@ plain_kept Dropped Dot h = refl
 plain_kept Dropped Lit h = refl
 plain_kept Dropped QuoteOpen h = refl
 plain_kept Dropped QuoteClose h = refl
-plain_kept Dropped _ h = absurd (cc)
+plain_kept Dropped _ h = absurd (false≢true h)
 
 plain_seen : (k : Class) → is_plain k ≡ true → is_trivia k ≡ false
 plain_seen (Ident w) h = refl
@@ -97,7 +98,7 @@ plain_seen Dot h = refl
 plain_seen Lit h = refl
 plain_seen QuoteOpen h = refl
 plain_seen QuoteClose h = refl
-plain_seen _ h = absurd (cc)
+plain_seen _ h = absurd (false≢true h)
 
 -- what the grammar sees from a token on
 abbrev pub SeenFrom : Lookahead → List Lookahead → List Lookahead → Type 0
@@ -112,8 +113,8 @@ plain_looks m t l rest seen h = looked m l rest t (plain_first t l rest seen h) 
 -- ---- more steps
 
 module _ (d i : Lookahead) (l0 l1 l2 left : List Lookahead) (first : SeenFrom d l0 l1) (second : SeenFrom i l1 l2) (more : AreSteps l2 left) where
-  step_by : (k c : Class) → d.class ≡ k → i.class ≡ c → is_dot k ≡ true → is_identifier c ≡ true → AreSteps l0 left
-  step_by Dot (Ident w) e f g h =
+  step_by : (k c : Class) → d.class ≡ k → i.class ≡ c → (is_dot k && is_identifier c) ≡ true → AreSteps l0 left
+  step_by Dot (Ident w) e f h =
       let dot : is_plain d.class ≡ true = ap is_plain e in
       let name : is_plain i.class ≡ true = ap is_plain f in
       record {
@@ -121,10 +122,10 @@ module _ (d i : Lookahead) (l0 l1 l2 left : List Lookahead) (first : SeenFrom d 
         after = λ m count ends. reading {s = after} (plain_looks m d l0 l1 first dot) (ap (row_of after m 0) e) (onward {a = tt {0}} (beside (after at m ∷ []) (reading {s = step} (plain_looks m i l1 l2 second name) (ap (row_of step m 0) f) done)) (more.after m count ends));
         shorter = omega (arith, more.shorter, ap length (plain_first d l0 l1 first dot), ap length (plain_first i l1 l2 second name));
       }
-  step_by _ _ e f g h = absurd (cc)
+  step_by _ _ e f h = absurd (false≢true h)
 
   pub one_step : is_dot d.class ≡ true → is_identifier i.class ≡ true → AreSteps l0 left
-  one_step g h = step_by d.class i.class refl refl g h
+  one_step g h = step_by d.class i.class refl refl (ap (λ b. b && is_identifier i.class) g ∙ h)
 
 -- ---- operands
 
@@ -142,7 +143,7 @@ module _ (t : Lookahead) (old left : List Lookahead) where
         reads = λ m count ends. reading {s = expr} (plain_looks m t old rest seen plain) (ap (row_of expr m 0) e) (steps.after m count ends);
         shorter = omega (arith, steps.shorter, ap length (plain_first t old rest seen plain));
       }
-  short_by rest seen steps _ e h = absurd (cc)
+  short_by rest seen steps _ e h = absurd (false≢true h)
 
   pub short_operand : (rest : List Lookahead) → SeenFrom t old rest → AreSteps rest left → is_short_operand t.class ≡ true → IsOperand old left
   short_operand rest seen steps h = short_by rest seen steps t.class refl h
@@ -154,7 +155,7 @@ module _ (t : Lookahead) (old left : List Lookahead) where
         reads = λ m count ends. reading {s = expr} (plain_looks m t old rest seen plain) (ap (row_of expr m 0) e) (quoted.parts m count ends);
         shorter = omega (arith, quoted.shorter, ap length (plain_first t old rest seen plain));
       }
-  quoted_from rest seen quoted _ e h = absurd (cc)
+  quoted_from rest seen quoted _ e h = absurd (false≢true h)
 
   pub quoted_operand : (rest : List Lookahead) → SeenFrom t old rest → IsQuoted rest left → is_opening_quote t.class ≡ true → IsOperand old left
   quoted_operand rest seen quoted h = quoted_from rest seen quoted t.class refl h
@@ -171,7 +172,7 @@ module _ (t u : Lookahead) (old rest left : List Lookahead) (first : SeenFrom t 
             (onward {a = tt {0}} (beside (after at m ∷ []) (reading {s = the EndQuote} closes (ap (row_of (the EndQuote) m 0) f) done)) ((no_steps left).after m count ends));
         shorter = omega (arith, ap length (plain_first t old rest first lit), ap length (plain_first u rest left second close));
       }
-  quoted_by _ _ e f h = absurd (cc)
+  quoted_by _ _ e f h = absurd (false≢true h)
 
   pub quoted_rest : is_quoted t.class u.class ≡ true → IsQuoted old left
   quoted_rest h = quoted_by t.class u.class refl refl h

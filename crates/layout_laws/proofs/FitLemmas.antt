@@ -2,6 +2,7 @@
 use Rattle.std.proofs.Common.{◌≡◌, ℕ, zero, suc, ◌&&◌, ◌||◌, ◌==◌, not, Bool, true, false, Option, Some, None, inl, inr, refl, sym, ap, subst, ◌∙◌, arith, cond}
 use Rattle.std.specs.Prelude.{if◌then◌else◌}
 use Rattle.std.proofs.lemmas.Bool.Decides.{nat_tests}
+use Rattle.std.proofs.lemmas.Bool.{false≢true}
 use Rattle.hcl_tokens.specs.Lexemes.{Lexeme}
 use Rattle.hcl_tokens.specs.Neighbours as neighbours
 use Rattle.hcl_tokens.specs.Regapped as regapped
@@ -45,7 +46,7 @@ template_cell kind.InterpOpen n h = refl
 template_cell kind.ControlOpen n h = refl
 template_cell kind.QuoteClose n h = refl
 template_cell kind.HeredocClose n h = refl
-template_cell _ n h = absurd (cc)
+template_cell _ n h = absurd (false≢true h)
 
 -- no gap, if the spacing gives none and no cell begins
 zero_after : (before : Option Lexeme) (u t : Lexeme) (g : ℕ) → GapFor before (Some u) g t → has_blank before u t ≡ false → is_cell t ≡ false → g ≡ 0
@@ -72,7 +73,7 @@ is_comment _ = false
 comment_touches : (k : Kind) (t : Lexeme) → is_comment k ≡ true → (regapped.touches k t ≡ true) × (k ≡ kind.LineComment)
 unfolding is_comment
 comment_touches kind.LineComment t h = (refl, refl)
-comment_touches _ t h = absurd (cc)
+comment_touches _ t h = absurd (false≢true h)
 
 free_touches : (k : Kind) (t : Lexeme) → is_comment k ≡ false → regapped.is_template t.kind ≡ false → t.inside_heredoc ≡ false → regapped.touches k t ≡ false
 unfolding is_comment

@@ -2,6 +2,7 @@
 use Rattle.std.proofs.Common.{◌≡◌, ◌≢◌, ℕ, ◌&&◌, ◌||◌, ◌==◌, not, Bool, true, false, List, [], ◌∷◌, get_or, Option, Some, None, refl, sym, ap, ap₂, ◌∙◌, map}
 use Rattle.std.specs.Prelude.{if◌then◌else◌}
 use Rattle.std.specs.List.{flat_map}
+use Rattle.std.proofs.lemmas.Bool.{false≢true}
 use Rattle.hcl_tokens.specs.Lexemes.{Lexeme}
 use Rattle.hcl_tokens.specs.Regapped.{is_template}
 use Rattle.hcl_tokens.specs.SideBySide.{Beside, Besides, opens_template}
@@ -87,7 +88,7 @@ colon_byte (b ∷ text) h = h
 
 colon_opens_none : (k : Kind) → is kind.Colon k ≡ true → opens_template k ≡ true → ⊥
 colon_opens_none kind.Colon h e = cc
-colon_opens_none _ h e = cc
+colon_opens_none _ h e = false≢true h
 
 meets : (u t : Lexeme) → Beside u.kind t → (u.kind ≢ kind.ColonColon) → (t.kind ≢ kind.ColonColon) → (is kind.Colon u.kind ≡ true → is kind.Colon t.kind ≡ false) → Meets u t
 meets u t beside h k disjoint = record { left = older_kind u.kind h; right = older_kind t.kind k; disjoint = λ inside. by inside (is kind.Colon u.kind) refl (begins_with_colon t.text) refl }

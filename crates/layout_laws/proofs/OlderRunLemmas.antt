@@ -4,6 +4,7 @@ use Rattle.std.proofs.Common.{◌≡◌, ◌≢◌, ℕ, suc, zero, ◌+◌, ◌
 use Rattle.std.specs.Prelude.{nat_lt}
 use Rattle.std.specs.List.{list_all}
 use Rattle.std.proofs.lemmas.Bool.Decides.{nat_tests}
+use Rattle.std.proofs.lemmas.Bool.{false≢true}
 use Rattle.hcl_tokens.specs.Lexemes.{Lexeme}
 use Rattle.hcl_tokens.specs.declared.token.Kind.{Kind}
 use Rattle.hcl_tokens.specs.declared.token.Kind.TheVariants as kind
@@ -228,11 +229,11 @@ is_colon_class _ = false
 
 colon_class_is : (c : Class) → is_colon_class c ≡ true → c ≡ class.Colon
 colon_class_is class.Colon h = refl
-colon_class_is _ h = absurd (cc)
+colon_class_is _ h = absurd (false≢true h)
 
 not_dropped : (m : Newlines) (c : Class) → is_colon_class c ≡ true → drops m c ≡ true → ⊥
-not_dropped Dropped class.Newline h d = absurd (cc)
-not_dropped _ _ h d = absurd (cc)
+not_dropped Dropped class.Newline h d = false≢true h
+not_dropped _ _ h d = false≢true d
 
 record Waits (s : Symbol) (xs : List Marked) : Type 0 where
   waits : waits_colon s ≡ true
@@ -283,7 +284,7 @@ led count ss t later us (gone c s m vs u l ws d e h) p = led c vs u l ws h (and_
 -- no expression begins with a colon
 expr_is : (s : Symbol) (m : Newlines) (ss : List Marked) → begins_expr (s at m ∷ ss) ≡ true → s ≡ expr
 expr_is expr m ss h = refl
-expr_is _ m ss h = absurd (cc)
+expr_is _ m ss h = absurd (false≢true h)
 
 expr_row_none : (s : Symbol) (m : Newlines) (ss : List Marked) (t : Lookahead) → begins_expr (s at m ∷ ss) ≡ true → is_colon_class t.class ≡ true → row s m t ≡ none
 expr_row_none s m ss t b h = (λ i. row_of (expr_is s m ss b i) m t.number (colon_class_is t.class h i))
@@ -320,7 +321,7 @@ stepped count ss l o (refused c us u vs r h) e t ts k = absurd (cc)
 
 colon_class : (k : Kind) (text : List ℕ) → is kind.Colon k ≡ true → is_colon_class (class_at k text) ≡ true
 colon_class kind.Colon text h = refl
-colon_class _ text h = absurd (cc)
+colon_class _ text h = absurd (false≢true h)
 
 trivia_no_colon : (k : Kind) (text : List ℕ) → is_trivia (class_at k text) ≡ true → is kind.Colon k ≡ false
 trivia_no_colon kind.Colon text h = absurd (cc)

@@ -5,6 +5,7 @@ use Rattle.std.specs.Char.{is_ascii_digit}
 use Rattle.std.specs.List.{list_all, prefix_len}
 use Rattle.std.proofs.lemmas.List.{append-nil}
 use Rattle.std.proofs.lemmas.Bool.Decides.{nat_tests}
+use Rattle.std.proofs.lemmas.Bool.{false≢true}
 use Rattle.hcl_tokens.specs.Lexemes.{Lexeme, Opener, in_heredoc, open_after}
 use Rattle.hcl_tokens.specs.Spelling.{punctuation, IsPunctuation, IsSpelling, IsExpressionText, context, Expression, is_blank, starts}
 use Rattle.hcl_tokens.specs.Scans.{State, begin, ahead, gap_in, has_gaps_in, Leaves, Reads, Closes, Run, IsComplete, Scans}
@@ -38,7 +39,7 @@ Older (t ∷ ts) = (t.kind ≢ kind.ColonColon) × Older ts
 
 pub colon_colon_is : (k : Kind) → is kind.ColonColon k ≡ true → k ≡ kind.ColonColon
 colon_colon_is kind.ColonColon h = refl
-colon_colon_is _ h = absurd (cc)
+colon_colon_is _ h = absurd (false≢true h)
 
 -- a text that begins with `:`
 abbrev pub is_coloned : Kind → Bool
@@ -47,7 +48,7 @@ is_coloned k = is kind.Colon k || is kind.ColonColon k
 pub coloned_is : (k : Kind) → is_coloned k ≡ true → (k ≢ kind.ColonColon) → k ≡ kind.Colon
 coloned_is kind.Colon h n = refl
 coloned_is kind.ColonColon h n = absurd (n refl)
-coloned_is _ h n = absurd (cc)
+coloned_is _ h n = absurd (false≢true h)
 
 -- ---- a text that begins with a colon
 abbrev colon_test : List ℕ → Kind → Bool

@@ -2,6 +2,7 @@
 use Rattle.std.proofs.Common.{◌≡◌, ℕ, suc, ◌&&◌, not, Bool, true, false, List, [], ◌∷◌, ◌++◌, length, replicate, Option, Some, None, refl, sym, ap, subst, ◌∙◌, append_assoc}
 use Rattle.std.specs.Prelude.{if◌then◌else◌}
 use Rattle.std.specs.List.{flat_map}
+use Rattle.std.proofs.lemmas.Bool.{false≢true}
 use Rattle.hcl_tokens.specs.Lexemes.{Lexeme}
 use Rattle.hcl_tokens.specs.Scans.{Scans}
 use Rattle.hcl_tokens.specs.Regapped.{AllFit, without_gaps, text_with_gaps}
@@ -49,7 +50,7 @@ cut (g ∷ gs) (l ∷ ls) s = record { front = g; back = gs; whole = refl; first
 
 newline_is : (k : Kind) (v : Bool) → (is kind.Newline k && v) ≡ true → k ≡ kind.Newline
 newline_is kind.Newline v h = refl
-newline_is _ v h = absurd (cc)
+newline_is _ v h = absurd (false≢true h)
 
 abbrev Fits : List Lexeme → Type 0
 Fits ts = (before u : Option Lexeme) (dot : Bool) (k : Kind) (g : List ℕ) (gs : List (List ℕ)) → Coherent before u dot k → Spread before u g (first_line (lines ts)) → AllSpread gs (more_lines (lines ts)) → Besides k ts → AllFit dot k (with_gaps (g ++ all_gaps gs) ts)

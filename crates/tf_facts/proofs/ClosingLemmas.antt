@@ -2,6 +2,7 @@
 use Rattle.std.proofs.Common.{◌≡◌, ◌∙◌, ap, sym, refl, ℕ, suc, zero, ◌+◌, ◌-◌, Bool, true, false, cond, List, [], ◌∷◌, ◌++◌, get_or, reverse, arith}
 use Rattle.std.specs.Prelude.{◌==◌, ◌&&◌, Some, slice_get}
 use Rattle.std.proofs.lemmas.List.{reverse-append}
+use Rattle.std.proofs.lemmas.Bool.{false≢true}
 use Rattle.hcl_tokens.specs.Kinds.{is}
 use Rattle.hcl_tokens.specs.Lexemes.{Lexeme}
 use Rattle.hcl_tokens.specs.declared.token.Kind.{Kind}
@@ -35,13 +36,26 @@ up d = omega arith
 down : (d : ℕ) → d + 0 - 1 ≡ d - 1
 down d = omega arith
 
+abbrev rank : Role → ℕ
+rank part.PassedOver = 0
+rank part.LineComment = 1
+rank part.Dot = 2
+rank part.QuoteOpen = 3
+rank part.Opens = 4
+rank part.Closes = 5
+rank part.Plain = 6
+
+-- whether the second is the first, by computation
+abbrev is_part : Role → Role → Bool
+is_part p q = rank p == rank q
+
 pub at_dot : (k : Kind) → role_of k ≡ part.Dot → Says k true false false false (λ d. d)
 at_dot kind.Dot e = record { seen = refl; dot_is = refl; quote_is = refl; closer_is = refl; moves = flat; opened = λ here known h. refl }
-at_dot _ e = absurd (cc)
+at_dot _ e = absurd (false≢true (ap (is_part part.Dot) e))
 
 pub at_quote : (k : Kind) → role_of k ≡ part.QuoteOpen → Says k false true false false (λ d. d)
 at_quote kind.QuoteOpen e = record { seen = refl; dot_is = refl; quote_is = refl; closer_is = refl; moves = flat; opened = λ here known h. refl }
-at_quote _ e = absurd (cc)
+at_quote _ e = absurd (false≢true (ap (is_part part.QuoteOpen) e))
 
 pub at_opener : (k : Kind) → role_of k ≡ part.Opens → Says k false false true false (λ d. d + 1)
 at_opener kind.ParenOpen e = record { seen = refl; dot_is = refl; quote_is = refl; closer_is = refl; moves = up; opened = λ here known h. refl }
@@ -49,31 +63,31 @@ at_opener kind.BracketOpen e = record { seen = refl; dot_is = refl; quote_is = r
 at_opener kind.BraceOpen e = record { seen = refl; dot_is = refl; quote_is = refl; closer_is = refl; moves = up; opened = λ here known h. refl }
 at_opener kind.InterpOpen e = record { seen = refl; dot_is = refl; quote_is = refl; closer_is = refl; moves = up; opened = λ here known h. h refl }
 at_opener kind.ControlOpen e = record { seen = refl; dot_is = refl; quote_is = refl; closer_is = refl; moves = up; opened = λ here known h. refl }
-at_opener _ e = absurd (cc)
+at_opener _ e = absurd (false≢true (ap (is_part part.Opens) e))
 
 pub at_closer : (k : Kind) → role_of k ≡ part.Closes → Says k false false false true (λ d. d - 1)
 at_closer kind.ParenClose e = record { seen = refl; dot_is = refl; quote_is = refl; closer_is = refl; moves = down; opened = λ here known h. refl }
 at_closer kind.BracketClose e = record { seen = refl; dot_is = refl; quote_is = refl; closer_is = refl; moves = down; opened = λ here known h. refl }
 at_closer kind.BraceClose e = record { seen = refl; dot_is = refl; quote_is = refl; closer_is = refl; moves = down; opened = λ here known h. refl }
 at_closer kind.SeqClose e = record { seen = refl; dot_is = refl; quote_is = refl; closer_is = refl; moves = down; opened = λ here known h. refl }
-at_closer _ e = absurd (cc)
+at_closer _ e = absurd (false≢true (ap (is_part part.Closes) e))
 
 pub at_plain : (k : Kind) → role_of k ≡ part.Plain → Says k false false false false (λ d. d)
-at_plain kind.LineComment e = absurd (cc)
-at_plain kind.InlineComment e = absurd (cc)
-at_plain kind.Blank e = absurd (cc)
-at_plain kind.Newline e = absurd (cc)
-at_plain kind.Dot e = absurd (cc)
-at_plain kind.QuoteOpen e = absurd (cc)
-at_plain kind.ParenOpen e = absurd (cc)
-at_plain kind.BracketOpen e = absurd (cc)
-at_plain kind.BraceOpen e = absurd (cc)
-at_plain kind.InterpOpen e = absurd (cc)
-at_plain kind.ControlOpen e = absurd (cc)
-at_plain kind.ParenClose e = absurd (cc)
-at_plain kind.BracketClose e = absurd (cc)
-at_plain kind.BraceClose e = absurd (cc)
-at_plain kind.SeqClose e = absurd (cc)
+at_plain kind.LineComment e = absurd (false≢true (ap (is_part part.Plain) e))
+at_plain kind.InlineComment e = absurd (false≢true (ap (is_part part.Plain) e))
+at_plain kind.Blank e = absurd (false≢true (ap (is_part part.Plain) e))
+at_plain kind.Newline e = absurd (false≢true (ap (is_part part.Plain) e))
+at_plain kind.Dot e = absurd (false≢true (ap (is_part part.Plain) e))
+at_plain kind.QuoteOpen e = absurd (false≢true (ap (is_part part.Plain) e))
+at_plain kind.ParenOpen e = absurd (false≢true (ap (is_part part.Plain) e))
+at_plain kind.BracketOpen e = absurd (false≢true (ap (is_part part.Plain) e))
+at_plain kind.BraceOpen e = absurd (false≢true (ap (is_part part.Plain) e))
+at_plain kind.InterpOpen e = absurd (false≢true (ap (is_part part.Plain) e))
+at_plain kind.ControlOpen e = absurd (false≢true (ap (is_part part.Plain) e))
+at_plain kind.ParenClose e = absurd (false≢true (ap (is_part part.Plain) e))
+at_plain kind.BracketClose e = absurd (false≢true (ap (is_part part.Plain) e))
+at_plain kind.BraceClose e = absurd (false≢true (ap (is_part part.Plain) e))
+at_plain kind.SeqClose e = absurd (false≢true (ap (is_part part.Plain) e))
 at_plain _ e = record { seen = refl; dot_is = refl; quote_is = refl; closer_is = refl; moves = flat; opened = λ here known h. refl }
 
 pub past : (k : Kind) → role_of k ≡ part.PassedOver → is_passed_over k ≡ true
@@ -81,11 +95,11 @@ past kind.LineComment e = refl
 past kind.InlineComment e = refl
 past kind.Blank e = refl
 past kind.Newline e = refl
-past _ e = absurd (cc)
+past _ e = absurd (false≢true (ap (is_part part.PassedOver) e))
 
 pub past_comment : (k : Kind) → role_of k ≡ part.LineComment → is_passed_over k ≡ true
 past_comment kind.LineComment e = refl
-past_comment _ e = absurd (cc)
+past_comment _ e = absurd (false≢true (ap (is_part part.LineComment) e))
 
 -- the walk takes only line comments for line comments
 pub no_comment : (k : Kind) (p : Role) → role_of k ≡ p → (part.LineComment ≡ p → ⊥) → is kind.LineComment k ≡ false

@@ -1,6 +1,7 @@
 -- The significant tokens from a number on, token by token.
 use Rattle.std.proofs.Common.{◌≡◌, ◌∙◌, ap, refl, ℕ, suc, zero, ◌+◌, ◌≤◌, true, false, cond, not, List, [], ◌∷◌, drop, length, arith}
 use Rattle.std.specs.Prelude.{Some, slice_get}
+use Rattle.std.proofs.lemmas.Bool.{false≢true}
 use Rattle.hcl_tokens.specs.Kinds.{is}
 use Rattle.hcl_tokens.specs.declared.token.Kind.{Kind}
 use Rattle.hcl_tokens.specs.declared.token.Kind.TheVariants as kind
@@ -46,4 +47,4 @@ module _ (ts : List Lexeme) (n m : ℕ) (at : m ≡ n + 1) (t : Lexeme) (e : sli
 -- identifiers are significant
 pub word_seen : (k : Kind) → is kind.Ident k ≡ true → is_passed_over k ≡ false
 word_seen kind.Ident e = refl
-word_seen _ e = absurd (cc)
+word_seen _ e = absurd (false≢true e)

@@ -30,11 +30,14 @@ hidden_length (h ∷ hidden) = length h.closer + length h.after + hidden_length 
 abbrev left_length : State → ℕ
 left_length s = length s.seen + hidden_length s.hidden
 
+left_all : (rest : List ℕ) (hidden : List Hidden) (seen : List ℕ) (after : List Hidden) → seen ≡ rest → after ≡ hidden → length seen + hidden_length after ≡ length rest + hidden_length hidden
+left_all rest hidden seen after s h = omega (arith, ap length s, ap hidden_length h)
+
 left_after : (k : Kind) (text rest : List ℕ) (hidden : List Hidden) (seen : List ℕ) (after : List Hidden) → Leaves k text rest hidden seen after
     → length seen + hidden_length after ≡ length rest + hidden_length hidden
 left_after kind.HeredocOpen text rest hidden seen after p =
     omega (arith, ap length p.2, ap hidden_length p.3, cut_length p.0 rest, cut_length (closer_len (marker_of text) (drop p.0 rest)) (drop p.0 rest))
-left_after _ text rest hidden seen after p = omega (arith, ap length p.0, ap hidden_length p.1)
+left_after _ text rest hidden seen after p = left_all rest hidden seen after p.0 p.1
 
 pub gap_within : (s : State) → gap_len s ≤ length s.seen
 gap_within s = by (has_gaps_in (context s.opens) (in_heredoc s.opens))

@@ -2,6 +2,7 @@
 use Rattle.std.proofs.Common.{◌≡◌, ◌∙◌, ap, refl, subst, sym, ℕ, ◌+◌, Bool, true, cond, true≢false, List, [], ◌∷◌, ◌++◌, append_assoc, arith, drop, length, take, take-append-drop, drop-drop, ⊎_elim}
 use Rattle.std.specs.List.{list_all, prefix_len}
 use Rattle.std.proofs.lemmas.List.{append-nil, drop-append-le, drop_at, take_at}
+use Rattle.std.proofs.lemmas.Bool.{false≢true}
 use Rattle.hcl_tokens.specs.Kinds.{is}
 use Rattle.hcl_tokens.specs.Lexemes.{Lexeme, Opener, in_heredoc, marker_of}
 use Rattle.hcl_tokens.specs.Scans.{Closes, Hidden, Leaves, Next, Reads, Run, Scans, State, begin, closer_len, gap_len, has_gaps_in}
@@ -63,7 +64,7 @@ no_gap_in : (c : Context) (opens : List Opener) (dot inside : Bool) (seen : List
     → cond (has_gaps_in c inside) (prefix_len is_blank seen) 0 ≡ 0
 no_gap_in (Template quoted) opens dot inside seen k text rest l h = refl
 no_gap_in Expression opens dot inside seen kind.Lit text rest l h = absurd (no_literal text h)
-no_gap_in Expression opens dot inside seen _ text rest l h = absurd (cc)
+no_gap_in Expression opens dot inside seen _ text rest l h = absurd (false≢true l)
 
 -- ---- token by token
 

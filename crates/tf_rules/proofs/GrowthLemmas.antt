@@ -22,6 +22,9 @@ use Rattle.tf_facts.specs.Silencing.{has_slashes, silenced_rules}
 use Rattle.tf_rules.proofs.ItemCostLemmas.{is_telling, places, places_few, tally, tally_filter}
 use Rattle.tf_rules.proofs.ItemWeightLemmas.{bit}
 
+none_at_most_one : 0 ≤ 1
+none_at_most_one = omega arith
+
 one_kind : (k : Kind) → bit (is kind.LineComment k) + (bit (is kind.Dot k) + (bit (is kind.InterpOpen k) + bit (is_telling k))) ≤ 1
 one_kind kind.LineComment = omega arith
 one_kind kind.Dot = omega arith
@@ -29,7 +32,7 @@ one_kind kind.InterpOpen = omega arith
 one_kind kind.Assign = omega arith
 one_kind kind.Ident = omega arith
 one_kind kind.QuoteOpen = omega arith
-one_kind _ = omega arith
+one_kind _ = none_at_most_one
 
 kinds_few : (ts : List Numbered) → tally (is kind.LineComment) ts + (tally (is kind.Dot) ts + (tally (is kind.InterpOpen) ts + tally is_telling ts)) ≤ length ts
 kinds_few [] = omega arith

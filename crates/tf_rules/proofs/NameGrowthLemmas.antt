@@ -73,6 +73,9 @@ in_reference dot next k n = cond (is_passed_over k) 0 (bit (is kind.Dot k) + con
 abbrev as_name : Bool → Bool → Kind → ℕ → ℕ
 as_name dot next k n = cond (is kind.QuoteOpen k || (is kind.Ident k && (not dot && not next))) n 0
 
+none_few : (n m : ℕ) → 0 ≤ n + m
+none_few n m = omega arith
+
 one_token : (k : Kind) (dot next : Bool) (n m : ℕ) → bit (is kind.Dot k || is kind.Assign k) ≤ n → bit (is kind.Assign k) + (as_name dot next k (n + m) + (in_reference dot next k n + cond (is kind.Lit k) n 0)) ≤ n + m
 one_token kind.Ident true next n m h = omega arith
 one_token kind.Ident false true n m h = omega arith
@@ -81,7 +84,7 @@ one_token kind.QuoteOpen dot next n m h = omega arith
 one_token kind.Dot dot next n m h = omega (arith, h)
 one_token kind.Assign dot next n m h = omega (arith, h)
 one_token kind.Lit dot next n m h = omega arith
-one_token _ dot next n m h = omega arith
+one_token _ dot next n m h = none_few n m
 
 dotted_here : (dot : Bool) (t : Numbered) (ts : List Numbered)
     → dotted dot (significant (t ∷ ts)) ≡ in_reference dot (begins_dot (significant ts)) t.kind (length t.text) + dotted (follows_dot dot t.kind) (significant ts)

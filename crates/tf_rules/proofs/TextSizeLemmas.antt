@@ -27,10 +27,13 @@ left s = length s.seen + hidden_bytes s.hidden
 cut_bytes : (n : ℕ) (xs : List ℕ) → length (take n xs) + length (drop n xs) ≡ length xs
 cut_bytes n xs = sym (length-append (take n xs) (drop n xs)) ∙ ap length (take-append-drop n xs)
 
+leaves_all : (rest : List ℕ) (hidden : List Hidden) (seen' : List ℕ) (hidden' : List Hidden) → seen' ≡ rest → hidden' ≡ hidden → length seen' + hidden_bytes hidden' ≤ length rest + hidden_bytes hidden
+leaves_all rest hidden seen' hidden' s h = omega (arith, ap length s, ap hidden_bytes h)
+
 leaves_few : (kind : Kind) (text rest : List ℕ) (hidden : List Hidden) (seen' : List ℕ) (hidden' : List Hidden) → Leaves kind text rest hidden seen' hidden' → length seen' + hidden_bytes hidden' ≤ length rest + hidden_bytes hidden
 leaves_few HeredocOpen text rest hidden seen' hidden' l =
     omega (arith, ap length l.2, ap hidden_bytes l.3, cut_bytes l.0 rest, cut_bytes (closer_len (marker_of text) (drop l.0 rest)) (drop l.0 rest))
-leaves_few _ text rest hidden seen' hidden' l = omega (arith, ap length l.0, ap hidden_bytes l.1)
+leaves_few _ text rest hidden seen' hidden' l = leaves_all rest hidden seen' hidden' l.0 l.1
 
 step_few : (s : State) (t : Lexeme) (next : State) → Next s t next → length t.text + left next ≤ left s
 step_few s t next (inl r) =
