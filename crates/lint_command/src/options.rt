@@ -11,7 +11,7 @@ ghost use Rattle.lint_command.specs.declared.usage.Usage.TheVariants.{BadNaming,
 
 use crate::usage::Usage;
 use clap::{ArgMatches, Command};
-use command_line::{option_named, usage_for};
+use command_line::usage_for;
 use lint_config::Said;
 use lint_forms::Form;
 use rule_lists::{ListFault, rules_in};
@@ -19,8 +19,9 @@ use rule_set::{ALL_RULES, rule_named};
 use std::alloc::{AllocError, Global};
 use tf_rules::{Naming, RuleSet, Severity};
 use tfrules_command::options::{naming_of_text, severity_of_text};
-use tree_words::jobs::{are_jobs_good, jobs};
-use tree_words::options::{counted_flag, file, is_given, names_in, null};
+use tree_words::argument::{Argument, command_of};
+use tree_words::jobs::are_jobs_good;
+use tree_words::options::{is_given, names_in};
 use tree_words::shard::{Shard, shard_of};
 
 /// The options by which modules are linted.
@@ -59,22 +60,27 @@ pub struct LintOptions<'a> {
 pub(crate) fn command<'a>(alloc: Global) -> Result<Command<'a>, AllocError>
     ensures { IfOk result (λ c. app_of c ≡ tfrules_all) }
 {
-    Command::new(alloc, "tfrules-all")
-        .arg(option_named(alloc, "rules"))?
-        .arg(option_named(alloc, "naming"))?
-        .arg(option_named(alloc, "minimum-failure-severity"))?
-        .arg(counted_flag(alloc, "force"))?
-        .arg(counted_flag(alloc, "check-comments"))?
-        .arg(counted_flag(alloc, "no-config"))?
-        .arg(option_named(alloc, "format"))?
-        .arg(counted_flag(alloc, "quiet"))?
-        .arg(counted_flag(alloc, "version"))?
-        .arg(null(alloc))?
-        .arg(option_named(alloc, "shard"))?
-        .arg(jobs(alloc))?
-        .arg(counted_flag(alloc, "list-rules"))?
-        .arg(option_named(alloc, "explain"))?
-        .arg(file(alloc))
+    command_of(
+        alloc,
+        "tfrules-all",
+        &[
+            Argument::Value("rules"),
+            Argument::Value("naming"),
+            Argument::Value("minimum-failure-severity"),
+            Argument::Flag("force"),
+            Argument::Flag("check-comments"),
+            Argument::Flag("no-config"),
+            Argument::Value("format"),
+            Argument::Flag("quiet"),
+            Argument::Flag("version"),
+            Argument::Null,
+            Argument::Value("shard"),
+            Argument::Jobs,
+            Argument::Flag("list-rules"),
+            Argument::Value("explain"),
+            Argument::Names,
+        ],
+    )
 }
 
 /// The rules that a text requests, if there is one.

@@ -3,8 +3,7 @@
 -- that all other words are names.
 use Rattle.std.specs.Prelude.{ℕ, ◌==◌, ◌&&◌, not, Bool, true, false, List, [], ◌∷◌, ◌++◌, Option, Some, None, Result, Ok, Err, codes, fold, length, if◌then◌else◌}
 use Rattle.std.specs.Option.{option_map_or}
-use Rattle.clap.specs.Words.{App, Row, Rule, Text, fault_of, first_of, matches_of, new_app, new_rule, with_rule}
-use Rattle.clap.specs.declared.builder.ArgAction.TheVariants.{Append}
+use Rattle.clap.specs.Words.{App, Row, Text, fault_of, first_of, matches_of, new_app, with_rule}
 use Rattle.command_line.specs.Arguments.{option_rule, unless_fault, usage_by}
 use Rattle.file_tree.specs.Choices.{Chosen, chosen_by}
 use Rattle.file_tree.specs.Files.{Name}
@@ -13,7 +12,7 @@ use Rattle.tree_format.specs.declared.mode.Ending.{Ending}
 use Rattle.tree_format.specs.declared.mode.Ending.TheVariants.{Line, Null}
 use Rattle.tree_format.specs.declared.mode.Mode.{Mode}
 use Rattle.tree_format.specs.declared.mode.Mode.TheVariants.{Write, Check, List as Listed, Diff}
-use Rattle.tree_words.specs.Line.{are_jobs_good, count_rule, file_rule, is_given, jobs_rule, null_rule, others_in, shard_given, texts_in, texts_of}
+use Rattle.tree_words.specs.Line.{are_jobs_good, count_rule, file_rule, is_given, jobs_rule, null_rule, others_in, repeated_rule, shard_given, texts_in, texts_of}
 use Rattle.tree_words.specs.declared.shard.Shard.{Shard}
 use Rattle.tree_command.specs.declared.usage.Usage.{Usage}
 use Rattle.tree_command.specs.declared.usage.Usage.TheVariants.{Help, Version, BadLine, TwoModes, BadPart, BadJobs, NamesTwice, OutOfMemory}
@@ -45,10 +44,6 @@ selection_of asking =
 
 -- ---- the command
 
--- `--exclude TEXT`, which may be given more than once
-abbrev pub exclude_rule : Rule
-exclude_rule = record (count_rule (codes "exclude")) { action = Some Append }
-
 -- `tffmt-all [--check | --diff | --list] [--in-place] [--sync] [--quiet] [--shard K/N] [--exclude PATH]... [--any-name]
 -- [--jobs NUMBER] [--null] [--version] [--] [FILE|FOLDER]...`
 abbrev pub tffmt_all : App
@@ -57,7 +52,7 @@ tffmt_all =
     (count_rule (codes "check") ∷ count_rule (codes "diff") ∷ count_rule (codes "list")
     ∷ count_rule (codes "in-place") ∷ count_rule (codes "sync")
     ∷ count_rule (codes "quiet") ∷ count_rule (codes "any-name") ∷ count_rule (codes "version")
-    ∷ null_rule ∷ option_rule (codes "shard") ∷ exclude_rule
+    ∷ null_rule ∷ option_rule (codes "shard") ∷ repeated_rule (codes "exclude")
     ∷ jobs_rule ∷ file_rule ∷ [])
 
 -- ---- the mode

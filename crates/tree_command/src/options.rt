@@ -1,21 +1,22 @@
 //! The words of the command line.
 
-ghost use Rattle.std.specs.Prelude.{◌≡◌, ◌⊎◌, false, codes, Err, IfOk, Some, map};
-ghost use Rattle.clap.specs.Words.{app_of, found_of, rows_of, rule_of};
+ghost use Rattle.std.specs.Prelude.{◌≡◌, ◌⊎◌, codes, Err, IfOk, Some, map};
+ghost use Rattle.clap.specs.Words.{app_of, found_of, rows_of};
 ghost use Rattle.tree_command.specs.Inner.Asked.{result_request, given_of};
-ghost use Rattle.tree_command.specs.Line.{request_by, request_of_rows, request_of_texts, exclude_rule, given_by, mode_asked, mode_by, mode_of_texts, tffmt_all};
+ghost use Rattle.tree_command.specs.Line.{request_by, request_of_rows, request_of_texts, given_by, mode_asked, mode_by, mode_of_texts, tffmt_all};
 ghost use Rattle.tree_command.specs.Inner.Asked.{request_with, ending_by, has_names_twice};
 ghost use Rattle.tree_command.specs.declared.usage.Usage.TheVariants.{OutOfMemory};
 ghost use Rattle.tree_words.specs.Line.{texts_of};
 
 use crate::usage::Usage;
-use clap::{Arg, ArgAction, ArgMatches, Command};
-use command_line::{option_named, usage_for};
+use clap::{ArgMatches, Command};
+use command_line::usage_for;
 use file_tree::tree::Writing;
 use std::alloc::{AllocError, Global};
 use tree_format::mode::{Ending, Mode};
-use tree_words::jobs::{are_jobs_good, jobs};
-use tree_words::options::{counted_flag, file, is_given, names_in, names_of, null};
+use tree_words::argument::{Argument, command_of};
+use tree_words::jobs::are_jobs_good;
+use tree_words::options::{is_given, names_in, names_of};
 use tree_words::shard::{Shard, shard_of};
 
 /// The parts of the words that are never wrong by themselves.
@@ -44,34 +45,29 @@ pub struct TreeOptions<'a> {
     pub given: Given<'a>,
 }
 
-/// `--exclude PATH`.
-fn exclude<'a>(alloc: Global) -> Arg<'a>
-    ensures rule { rule_of result ≡ exclude_rule }
-    ensures local { result.global ≡ false }
-{
-    Arg::new(alloc, "exclude")
-        .long("exclude")
-        .action(ArgAction::Append)
-}
-
 /// The command with its options.
 fn command<'a>(alloc: Global) -> Result<Command<'a>, AllocError>
     ensures { IfOk result (λ c. app_of c ≡ tffmt_all) }
 {
-    Command::new(alloc, "tffmt-all")
-        .arg(counted_flag(alloc, "check"))?
-        .arg(counted_flag(alloc, "diff"))?
-        .arg(counted_flag(alloc, "list"))?
-        .arg(counted_flag(alloc, "in-place"))?
-        .arg(counted_flag(alloc, "sync"))?
-        .arg(counted_flag(alloc, "quiet"))?
-        .arg(counted_flag(alloc, "any-name"))?
-        .arg(counted_flag(alloc, "version"))?
-        .arg(null(alloc))?
-        .arg(option_named(alloc, "shard"))?
-        .arg(exclude(alloc))?
-        .arg(jobs(alloc))?
-        .arg(file(alloc))
+    command_of(
+        alloc,
+        "tffmt-all",
+        &[
+            Argument::Flag("check"),
+            Argument::Flag("diff"),
+            Argument::Flag("list"),
+            Argument::Flag("in-place"),
+            Argument::Flag("sync"),
+            Argument::Flag("quiet"),
+            Argument::Flag("any-name"),
+            Argument::Flag("version"),
+            Argument::Null,
+            Argument::Value("shard"),
+            Argument::Values("exclude"),
+            Argument::Jobs,
+            Argument::Names,
+        ],
+    )
 }
 
 /// The mode of these flags, if they may stand together.

@@ -1,15 +1,18 @@
 -- The requests that the programs for trees read alike in the words of a line. clap reads the words that are UTF-8: its
 -- own definition of the matches of a line decides. The values of `--shard` are our own choice, and so is that all other
 -- words are names.
-use Rattle.std.specs.Prelude.{ℕ, ◌==◌, ◌&&◌, not, Bool, false, List, [], ◌∷◌, Option, Some, None, codes, drop, filter, length, nat_le, nat_lt, option_map, slice_get, unwrap_or, if◌then◌else◌}
+use Rattle.std.specs.Prelude.{ℕ, ◌==◌, ◌&&◌, not, Bool, false, List, [], ◌∷◌, Option, Some, None, codes, drop, filter, fold, length, nat_le, nat_lt, option_map, slice_get, unwrap_or, if◌then◌else◌}
 use Rattle.std.specs.List.{after_first, before_first, list_all}
 use Rattle.std.specs.Char.{is_ascii_digit}
 use Rattle.std.specs.Option.{option_map_or}
 use Rattle.std.specs.Str.{is_utf8}
 use Rattle.std.specs.Str.Parse.{digits_value}
-use Rattle.clap.specs.Words.{Row, Rule, Text, all_of, count_of, new_rule}
+use Rattle.clap.specs.Words.{App, Row, Rule, Text, all_of, count_of, new_app, new_rule, with_rule}
 use Rattle.clap.specs.declared.builder.ArgAction.TheVariants.{Append, Count}
+use Rattle.command_line.specs.Arguments.{option_rule}
 use Rattle.file_tree.specs.Files.{Name}
+use Rattle.tree_words.specs.declared.argument.Argument.{Argument}
+use Rattle.tree_words.specs.declared.argument.Argument.TheVariants.{Value, Values, Flag, Null, Jobs, Names}
 use Rattle.tree_words.specs.declared.shard.Shard.{Shard}
 
 -- ---- options
@@ -17,6 +20,10 @@ use Rattle.tree_words.specs.declared.shard.Shard.{Shard}
 -- `--NAME`, which may be given more than once
 abbrev pub count_rule : Text → Rule
 count_rule name = record (new_rule name) { long = Some name; action = Some Count }
+
+-- `--NAME VALUE`, which may be given more than once
+abbrev pub repeated_rule : Text → Rule
+repeated_rule name = record (count_rule name) { action = Some Append }
 
 -- `-0` and `--null`
 abbrev pub null_rule : Rule
@@ -80,6 +87,23 @@ is_jobs text = option_map_or (λ n. nat_le n max_jobs) (number_in text) false
 -- each text for the number of jobs is a number from 1 to `max_jobs`
 abbrev pub are_jobs_good : List Row → Bool
 are_jobs_good rows = list_all is_jobs (texts_of (codes "jobs") rows)
+
+-- ---- a command
+
+abbrev pub argument_rule : Argument → Rule
+argument_rule (Value name) = option_rule name.now
+argument_rule (Values name) = repeated_rule name.now
+argument_rule (Flag name) = count_rule name.now
+argument_rule Null = null_rule
+argument_rule Jobs = jobs_rule
+argument_rule Names = file_rule
+
+abbrev pub with_argument : App → Argument → App
+with_argument app argument = with_rule app (argument_rule argument)
+
+-- the command of this name with these arguments, in this order
+abbrev pub command_by : Text → List Argument → App
+command_by name arguments = fold with_argument (new_app name) arguments
 
 -- ---- words that aren't UTF-8
 

@@ -12,7 +12,7 @@ use std::alloc::Global;
 const MAX_JOBS: u32 = 9_999;
 
 /// `-j NUMBER` and `--jobs NUMBER`.
-pub fn jobs<'a>(alloc: Global) -> Arg<'a>
+pub(crate) fn jobs<'a>(alloc: Global) -> Arg<'a>
     ensures rule { rule_of result ≡ jobs_rule }
     ensures local { result.global ≡ false }
 {

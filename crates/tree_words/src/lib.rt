@@ -2,6 +2,7 @@
 //! of the found files that is taken, and the message for a wrong line.
 #![tactic(auto)]
 
+pub mod argument;
 pub mod jobs;
 pub mod number;
 pub mod operands;

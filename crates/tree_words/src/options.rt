@@ -8,7 +8,7 @@ use clap::{Arg, ArgAction, ArgMatches};
 use std::alloc::{AllocError, Global};
 
 /// The flag `--NAME`, which may be given more than once.
-pub fn counted_flag<'a>(alloc: Global, name: &'a str) -> Arg<'a>
+pub(crate) fn counted_flag<'a>(alloc: Global, name: &'a str) -> Arg<'a>
     ensures rule { rule_of result ≡ count_rule name.entry.now }
     ensures local { result.global ≡ false }
 {
@@ -16,7 +16,7 @@ pub fn counted_flag<'a>(alloc: Global, name: &'a str) -> Arg<'a>
 }
 
 /// `-0` and `--null`.
-pub fn null<'a>(alloc: Global) -> Arg<'a>
+pub(crate) fn null<'a>(alloc: Global) -> Arg<'a>
     ensures rule { rule_of result ≡ null_rule }
     ensures local { result.global ≡ false }
 {
@@ -27,7 +27,7 @@ pub fn null<'a>(alloc: Global) -> Arg<'a>
 }
 
 /// Files and folders.
-pub fn file<'a>(alloc: Global) -> Arg<'a>
+pub(crate) fn file<'a>(alloc: Global) -> Arg<'a>
     ensures rule { rule_of result ≡ file_rule }
     ensures local { result.global ≡ false }
 {
