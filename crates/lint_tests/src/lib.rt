@@ -7,6 +7,8 @@ mod checks;
 #[cfg(test)]
 mod comments;
 #[cfg(test)]
+mod config_lines;
+#[cfg(test)]
 mod configs;
 #[cfg(test)]
 mod documents;

@@ -1,5 +1,5 @@
 //! Whole runs over files in memory, with ample memory, on modules whose answers were worked out by hand: the output,
-//! and which files are opened for it. The rules' reports for many modules are tested by `rule_tests`, and end to end.
+//! and which files are opened for it. The rules' reports for many modules are tested by `library_tests`, and end to end.
 
 use crate::compared::{Files, Shown, first_text, join, same_number};
 use crate::devices::{Devices, run, steady_devices};

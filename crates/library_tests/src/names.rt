@@ -1,6 +1,6 @@
 //! The names of small files, worked out by hand.
 
-use crate::checks::holds;
+use crate::checks::holds_at;
 use hcl_scan::{Source, scan};
 use hcl_syntax::accepts;
 use std::alloc::Global;
@@ -65,9 +65,9 @@ fn finds(rt: &impl Abort, alloc: Global, text: &str, wanted: &[Wanted<'_>]) -> R
     let tokens = scan(alloc, &source)?;
     let accepted = accepts(&tokens)?;
     let found = occurrences_of(alloc, &accepted)?;
-    holds(rt, found.len() == wanted.len(), "count of names", text);
+    holds_at(rt, found.len() == wanted.len(), "count of names", text);
     for i in 0..wanted.len() {
-        holds(rt, is_found(&found, i, wanted[i]), "name", text);
+        holds_at(rt, is_found(&found, i, wanted[i]), "name", text);
     }
     Ok(())
 }
@@ -119,12 +119,12 @@ fn finds_references_in_own_blocks(rt: HostRuntime) -> Result<(), Fail> {
 #[test]
 fn tells_names_apart(rt: HostRuntime) -> Result<(), Fail> {
     let name = Name::Data("t", "n");
-    holds(&rt, is_same(name, Name::Data("t", "n")), "same", "data");
-    holds(&rt, !is_same(name, Name::Data("u", "n")), "type", "data");
-    holds(&rt, !is_same(name, Name::Module("n")), "module", "data");
+    holds_at(&rt, is_same(name, Name::Data("t", "n")), "same", "data");
+    holds_at(&rt, !is_same(name, Name::Data("u", "n")), "type", "data");
+    holds_at(&rt, !is_same(name, Name::Module("n")), "module", "data");
     let other = with_last_part(name, "m");
-    holds(&rt, is_same(other, Name::Data("t", "m")), "new", "data");
-    holds(&rt, last_part(other) == "m", "last part", "data");
+    holds_at(&rt, is_same(other, Name::Data("t", "m")), "new", "data");
+    holds_at(&rt, last_part(other) == "m", "last part", "data");
     Ok(())
 }
 
@@ -142,13 +142,13 @@ fn finds_many_references(rt: HostRuntime) -> Result<(), Fail> {
     let tokens = scan(alloc, &source)?;
     let accepted = accepts(&tokens)?;
     let found = occurrences_of(alloc, &accepted)?;
-    holds(&rt, found.len() == MANY, "count of names", "many");
+    holds_at(&rt, found.len() == MANY, "count of names", "many");
     let last = refers(
         Name::Variable("b"),
         10 * MANY - 6,
         10 * MANY - 2,
         10 * MANY - 1,
     );
-    holds(&rt, is_found(&found, MANY - 1, last), "name", "many");
+    holds_at(&rt, is_found(&found, MANY - 1, last), "name", "many");
     Ok(())
 }

@@ -11,6 +11,11 @@ pub(crate) fn holds(rt: &impl Abort, is_so: bool, what: &str) {
     }
 }
 
+/// Ends the test unless this holds, with the expectation and the row.
+pub(crate) fn holds_at(rt: &impl Abort, is_so: bool, what: &str, row: &str) {
+    assert!(rt; is_so, "{what}: {row}");
+}
+
 /// Checks that two values are the same.
 pub(crate) fn check_same<T: Debug + PartialEq>(rt: &impl Abort, found: &T, wanted: &T, what: &str) {
     assert!(rt; *found == *wanted, "{found:?}, not {wanted:?}, at {what}");

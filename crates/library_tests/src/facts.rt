@@ -1,6 +1,6 @@
 //! The facts of small files, worked out by hand.
 
-use crate::checks::holds;
+use crate::checks::holds_at;
 use hcl_scan::{Source, scan};
 use hcl_syntax::{Accepted, accepts, outline};
 use rule_set::{Rule, RuleSet};
@@ -69,14 +69,14 @@ fn are_declared(
     wanted: &[(DeclarationKind, bool, bool)],
     text: &str,
 ) {
-    holds(
+    holds_at(
         rt,
         found.len() == wanted.len(),
         "count of declarations",
         text,
     );
     for i in 0..wanted.len() {
-        holds(rt, is_declared(found, i, wanted[i]), "declaration", text);
+        holds_at(rt, is_declared(found, i, wanted[i]), "declaration", text);
     }
 }
 
@@ -94,17 +94,17 @@ fn is_comment(found: &[FoundComment], i: usize, wanted: (bool, bool)) -> bool {
 
 /// Checks the comments.
 fn are_comments(rt: &impl Abort, found: &[FoundComment], wanted: &[(bool, bool)], text: &str) {
-    holds(rt, found.len() == wanted.len(), "count of comments", text);
+    holds_at(rt, found.len() == wanted.len(), "count of comments", text);
     for i in 0..wanted.len() {
-        holds(rt, is_comment(found, i, wanted[i]), "comment", text);
+        holds_at(rt, is_comment(found, i, wanted[i]), "comment", text);
     }
 }
 
 /// Checks the references.
 fn are_references(rt: &impl Abort, used: &TextSet, wanted: &[&str], text: &str) {
-    holds(rt, used.len() == wanted.len(), "count of references", text);
+    holds_at(rt, used.len() == wanted.len(), "count of references", text);
     for reference in wanted {
-        holds(rt, used.contains(*reference), "reference", *reference);
+        holds_at(rt, used.contains(*reference), "reference", *reference);
     }
 }
 
@@ -119,10 +119,10 @@ fn are_found(
     match wanted {
         Wanted::Source(source) => {
             let first = first_source(&found.declarations);
-            holds(rt, first == Some(source), "source", text);
+            holds_at(rt, first == Some(source), "source", text);
         }
         Wanted::Silenced(rules) => {
-            holds(
+            holds_at(
                 rt,
                 first_silenced(&found.comments) == rules,
                 "silenced",
@@ -134,8 +134,8 @@ fn are_found(
             indexes,
         } => {
             let wrapped = found.interpolations.as_slice();
-            holds(rt, wrapped == interpolations, "interpolations", text);
-            holds(rt, found.indexes.as_slice() == indexes, "indexes", text);
+            holds_at(rt, wrapped == interpolations, "interpolations", text);
+            holds_at(rt, found.indexes.as_slice() == indexes, "indexes", text);
         }
         Wanted::Declarations(rows) => are_declared(rt, &found.declarations, rows, text),
         Wanted::Comments(rows) => are_comments(rt, &found.comments, rows, text),

@@ -1,22 +1,22 @@
 //! The rules' names, severities and sets, from the table that users read.
 
-use crate::checks::holds;
+use crate::checks::holds_at;
 use rule_set::{Rule, RuleSet, Severity};
 use std::process::Abort;
 
 /// Checks that the name is the rule's, and the rule the name's.
 fn is_named(rt: &impl Abort, name: &str, rule: Rule) {
-    holds(rt, rule.name() == name, "name", name);
-    holds(rt, Rule::from_name(name) == Some(rule), "rule", name);
+    holds_at(rt, rule.name() == name, "name", name);
+    holds_at(rt, Rule::from_name(name) == Some(rule), "rule", name);
 }
 
 /// Checks that the rule is in the expected sets.
 fn is_in_sets(rt: &impl Abort, name: &str, rule: Rule, recommended: bool) {
     let is_recommended = RuleSet::recommended().holds(rule);
-    holds(rt, is_recommended == recommended, "recommended", name);
-    holds(rt, RuleSet::all().holds(rule), "among all", name);
-    holds(rt, !RuleSet::none().holds(rule), "not in none", name);
-    holds(rt, RuleSet::none().with(rule).holds(rule), "put in", name);
+    holds_at(rt, is_recommended == recommended, "recommended", name);
+    holds_at(rt, RuleSet::all().holds(rule), "among all", name);
+    holds_at(rt, !RuleSet::none().holds(rule), "not in none", name);
+    holds_at(rt, RuleSet::none().with(rule).holds(rule), "put in", name);
 }
 
 /// Each rule's name, the rule, its severity, and whether it is recommended.
@@ -88,7 +88,7 @@ fn rules_have_their_names(rt: HostRuntime) {
     for (name, rule, severity, recommended) in RULES {
         is_named(&rt, *name, *rule);
         is_in_sets(&rt, *name, *rule, *recommended);
-        holds(&rt, rule.severity() == *severity, "severity", *name);
+        holds_at(&rt, rule.severity() == *severity, "severity", *name);
     }
 }
 
@@ -102,7 +102,7 @@ fn other_names_are_no_rules(rt: HostRuntime) {
         "Terraform_module_version",
     ];
     for name in NAMES {
-        holds(&rt, Rule::from_name(*name) == None, "no rule", *name);
+        holds_at(&rt, Rule::from_name(*name) == None, "no rule", *name);
     }
 }
 
@@ -114,8 +114,8 @@ fn words_are_as_users_write_them(rt: HostRuntime) {
         (Severity::Error, "Error"),
     ];
     for (severity, word) in WORDS {
-        holds(&rt, severity.text() == *word, "word", *word);
+        holds_at(&rt, severity.text() == *word, "word", *word);
     }
     let is_ordered = Severity::Notice < Severity::Warning && Severity::Warning < Severity::Error;
-    holds(&rt, is_ordered, "severities", "in order");
+    holds_at(&rt, is_ordered, "severities", "in order");
 }

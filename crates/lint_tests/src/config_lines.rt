@@ -1,5 +1,6 @@
 //! The contents of the lines of a `.tfrules`.
 
+use crate::checks::holds;
 use lint_config::{BadLine, Config, Said, config_in};
 use rule_set::{Rule, RuleSet, Severity};
 use std::alloc::Global;
@@ -146,7 +147,7 @@ fn says(config: &Config, row: &Row) -> bool {
 /// Reads the text of a row, and compares its contents.
 fn reads(rt: &impl Abort, alloc: Global, row: &Row) {
     let config = config_in(alloc, row.text).expect(rt, "memory");
-    assert!(rt; says(&config, row), "of {:?}", row.text);
+    holds(rt, says(&config, row), "contents", row.text);
 }
 
 #[test]
