@@ -1,10 +1,11 @@
-//! Devices that count their calls, and runs of the program over them.
+//! Devices that count their calls, and a sink with calls that can fail.
 
-use hcl_scan::{FromRead, ToWrite};
+ghost use Rattle.std.specs.Prelude.{◌≡◌, false};
+
+use hcl_scan::MemorySink;
 use std::alloc::Global;
 use std::io;
 use std::io::{ErrorKind, Read, Write};
-use tffmt_command::run::program;
 
 /// Gives its bytes at one call, counts its calls, and fails at one of them.
 #[derive(Drop)]
@@ -82,16 +83,13 @@ impl Write for Writer {
     }
 }
 
-/// Runs the program, and returns its status.
-pub fn run(
-    alloc: Global,
-    words: &[&str],
-    reader: &mut Reader<'_>,
-    written: &mut Writer,
-    told: &mut Writer,
-) -> u8 {
-    let mut from = FromRead::new(reader);
-    let mut out = ToWrite::new(written);
-    let mut err = ToWrite::new(told);
-    program(alloc, words, &mut from, &mut out, &mut err)
+/// A sink that takes at most this many bytes per call, whose write after this many good ones fails, and whose flush may.
+pub fn sink(most: usize, write: Option<usize>, flush: bool) -> MemorySink
+    ensures { result.has_failed ≡ false }
+{
+    let sink = match write {
+        Some(good) => MemorySink::new(most).failing_after(good),
+        None => MemorySink::new(most),
+    };
+    if flush { sink.failing_flush() } else { sink }
 }

@@ -1,5 +1,5 @@
-//! The comparisons of the tests, with one assertion each, so that it is proved once. A failure shows the text of a file
-//! of the run.
+//! The comparisons of the tests, with one assertion each, so that it is proved once. A failure shows the input of the run,
+//! or the text of a file.
 
 use std::alloc::Global;
 use std::process::Abort;
@@ -7,7 +7,7 @@ use std::process::Abort;
 /// The files of a module: their names and their bytes.
 pub type Files<'a> = &'a [(&'a str, &'a [u8])];
 
-/// The result of a run: its report, its message and its status.
+/// The result of a run: its output, its message and its status.
 pub type Shown<'a> = (&'a [u8], &'a [u8], u8);
 
 /// Checks a property of the text.
@@ -30,6 +30,11 @@ pub fn same_shown(rt: &impl Abort, found: Shown<'_>, wanted: Shown<'_>, text: &[
     same_bytes(rt, found.0, wanted.0, text);
     same_bytes(rt, found.1, wanted.1, text);
     same_number(rt, u64::from(found.2), u64::from(wanted.2), text);
+}
+
+/// The bytes of this many good calls, with at most this many each.
+pub fn front(text: &[u8], calls: usize, most: usize) -> &[u8] {
+    text.split_at(calls.saturating_mul(most).min(text.len())).0
 }
 
 /// The text of the first file, or no text if there is no file.

@@ -3,8 +3,9 @@
 
 ghost use Rattle.std.specs.Prelude.{◌≡◌, false};
 
-use crate::compared::{Shown, holds, same_number, same_shown};
-use crate::row_tests::{PRINT, repeat_parts};
+use crate::compared::{Shown, front, holds, same_number, same_shown};
+use crate::devices::sink;
+use crate::format_rows::{PRINT, repeat_parts};
 use hcl_scan::{ByteSink, ByteSource, MemorySink, MemorySource, SINK_ROOM};
 use std::alloc::Global;
 use std::process::Abort;
@@ -77,16 +78,6 @@ fn source(bytes: &[u8], most: usize, read: Option<usize>) -> MemorySource<'_>
     }
 }
 
-fn sink(most: usize, write: Option<usize>, flush: bool) -> MemorySink
-    ensures { result.has_failed ≡ false }
-{
-    let sink = match write {
-        Some(good) => MemorySink::new(most).failing_after(good),
-        None => MemorySink::new(most),
-    };
-    if flush { sink.failing_flush() } else { sink }
-}
-
 fn run(alloc: Global, row: &Row<'_>, devices: &Devices) -> Outcome {
     let mut input = source(row.input, devices.most_read, devices.read);
     let mut out = sink(devices.most_written, devices.write, devices.flush);
@@ -98,11 +89,6 @@ fn run(alloc: Global, row: &Row<'_>, devices: &Devices) -> Outcome {
         err,
         status,
     }
-}
-
-// The bytes of this many good calls.
-fn front(text: &[u8], calls: usize, most: usize) -> &[u8] {
-    text.split_at(calls.saturating_mul(most).min(text.len())).0
 }
 
 // Runs over devices whose message fails after this many good writes: the run has the expected result, or of the message

@@ -1,13 +1,10 @@
-//! Runs of the program over devices in memory, with calls that can fail.
-
-ghost use Rattle.std.specs.Prelude.{◌≡◌, false};
+//! Runs of the linter over devices in memory, with calls that can fail.
 
 use crate::compared::{Files, Shown, first_text, same_number, same_shown};
+use crate::devices::{Writer, sink};
 use crate::memory_files::{FileFailure, MemoryFiles};
 use hcl_scan::{ByteSink, MemorySink, SINK_ROOM, ToWrite};
 use std::alloc::Global;
-use std::io;
-use std::io::Write;
 use std::process::Abort;
 use tfrules_command::module_files::ModuleFiles;
 use tfrules_command::run::program;
@@ -55,16 +52,6 @@ impl Outcome {
     }
 }
 
-fn sink(most: usize, write: Option<usize>, flush: bool) -> MemorySink
-    ensures { result.has_failed ≡ false }
-{
-    let sink = match write {
-        Some(good) => MemorySink::new(most).failing_after(good),
-        None => MemorySink::new(most),
-    };
-    if flush { sink.failing_flush() } else { sink }
-}
-
 /// Runs the program on a module.
 pub fn run(alloc: Global, words: &[&str], files: Files<'_>, devices: &Devices) -> Outcome {
     let mut module = MemoryFiles::new(files, devices.most, devices.file);
@@ -81,38 +68,6 @@ pub fn run(alloc: Global, words: &[&str], files: Files<'_>, devices: &Devices) -
     }
 }
 
-/// Takes all, and counts its flushes.
-#[derive(Drop)]
-pub struct Writer {
-    pub taken: Vec<u8>,
-    pub flushes: u32,
-    /// How many bytes it had taken at the last flush.
-    pub at_flush: u64,
-}
-
-impl Writer {
-    pub fn new(alloc: Global) -> Writer {
-        Writer {
-            taken: Vec::new(alloc),
-            flushes: 0,
-            at_flush: 0,
-        }
-    }
-}
-
-impl Write for Writer {
-    fn write(&mut self, buf: &[u8]) -> io::Result<usize> {
-        self.taken.extend_from_slice(buf)?;
-        Ok(buf.len())
-    }
-
-    fn flush(&mut self) -> io::Result<()> {
-        self.flushes = self.flushes.saturating_add(1);
-        self.at_flush = self.taken.len() as u64;
-        Ok(())
-    }
-}
-
 /// Runs the program on a module over writers that count, and compares its result, and that it flushes once everything
 /// is written, or not at all if nothing is.
 pub fn flushes_at_the_end(
@@ -123,8 +78,8 @@ pub fn flushes_at_the_end(
     wanted: Shown<'_>,
 ) {
     let mut module = MemoryFiles::new(files, SINK_ROOM, FileFailure::None);
-    let mut written = Writer::new(alloc);
-    let mut told = Writer::new(alloc);
+    let mut written = Writer::new(alloc, 0, 0);
+    let mut told = Writer::new(alloc, 0, 0);
     let mut out = ToWrite::new(&mut written);
     let mut err = ToWrite::new(&mut told);
     let status = program(alloc, words, &mut module, &mut out, &mut err);

@@ -1,10 +1,26 @@
 //! Whole runs over memory, with ample memory, on inputs whose answers were worked out by hand.
 
 use crate::compared::{Shown, same_shown};
-use crate::devices::{Reader, Writer, run};
+use crate::devices::{Reader, Writer};
+use hcl_scan::{FromRead, ToWrite};
 use std::alloc::Global;
 use std::process::Abort;
 use tffmt_command::options::{FmtOptions, Usage, options};
+use tffmt_command::run::program;
+
+/// Runs the program, and returns its status.
+pub fn run(
+    alloc: Global,
+    words: &[&str],
+    reader: &mut Reader<'_>,
+    written: &mut Writer,
+    told: &mut Writer,
+) -> u8 {
+    let mut from = FromRead::new(reader);
+    let mut out = ToWrite::new(written);
+    let mut err = ToWrite::new(told);
+    program(alloc, words, &mut from, &mut out, &mut err)
+}
 
 /// Runs the program, and compares its output and its status.
 pub fn check(rt: &impl Abort, alloc: Global, words: &[&str], input: &[u8], wanted: Shown<'_>) {

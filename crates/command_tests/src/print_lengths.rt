@@ -1,7 +1,7 @@
 //! The lengths of the prints of files, worked out by hand.
 
 use crate::compared::{holds, same_number};
-use crate::row_tests::repeat_parts;
+use crate::format_rows::repeat_parts;
 use hcl_layout::{fits, printed_len, prints_nothing};
 use hcl_scan::{Source, Tokens, scan};
 use hcl_syntax::{Accepted, accepts};

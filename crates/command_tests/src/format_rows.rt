@@ -1,7 +1,7 @@
 //! Files and the program's results for them, from small ones up to the limits.
 
 use crate::compared::Shown;
-use crate::tests::check;
+use crate::format_runs::check;
 use std::alloc::Global;
 use std::process::Abort;
 

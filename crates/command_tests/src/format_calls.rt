@@ -2,8 +2,9 @@
 //! written and whether they were flushed, but not the number of calls.
 
 use crate::compared::{Shown, same_number, same_shown};
-use crate::devices::{Reader, Writer, run};
-use crate::row_tests::{CHECK, PRINT, repeat_parts};
+use crate::devices::{Reader, Writer};
+use crate::format_rows::{CHECK, PRINT, repeat_parts};
+use crate::format_runs::run;
 use std::alloc::Global;
 use std::process::Abort;
 

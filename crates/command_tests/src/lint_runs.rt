@@ -2,7 +2,7 @@
 //! and which files are opened for it. The rules' reports for many modules are tested by `library_tests`, and end to end.
 
 use crate::compared::{Files, Shown, first_text, join, same_number};
-use crate::devices::{Devices, run, steady_devices};
+use crate::lint_devices::{Devices, run, steady_devices};
 use crate::memory_files::FileFailure;
 use hcl_scan::SINK_ROOM;
 use std::alloc::Global;

@@ -1,10 +1,10 @@
 //! Runs in which every call of a device fails in turn: each open, each read, each write and the flush that a run
 //! reaches, and then each write of the message too, with one byte per call and with many.
 
-use crate::compared::{Files, Shown, first_text, holds, join, same_bytes, same_number};
-use crate::devices::{Devices, flushes_at_the_end, run, steady_devices};
+use crate::compared::{Files, Shown, first_text, front, holds, join, same_bytes, same_number};
+use crate::lint_devices::{Devices, flushes_at_the_end, run, steady_devices};
+use crate::lint_runs::{USAGE, Words};
 use crate::memory_files::FileFailure;
-use crate::tests::{USAGE, Words};
 use hcl_scan::{ByteSink, SINK_ROOM};
 use std::alloc::Global;
 use std::process::Abort;
@@ -46,11 +46,6 @@ fn report_front(
     front
 }
 
-// The bytes of this many good calls of a message.
-fn message_front(text: &[u8], calls: usize, most: usize) -> &[u8] {
-    text.split_at(calls.saturating_mul(most).min(text.len())).0
-}
-
 // Runs over devices whose message fails after this many good writes: the run has the expected result, or of the message
 // only the bytes of these writes. Returns whether that write was reached.
 fn message_fails(
@@ -68,7 +63,7 @@ fn message_fails(
     let run = run(alloc, row.words, row.files, &devices);
     let failed = run.err.has_failed();
     if failed {
-        let told = message_front(message, good, devices.most);
+        let told = front(message, good, devices.most);
         run.check(rt, (out, told, 1), row.files);
     } else {
         run.check(rt, (out, message, status), row.files);
