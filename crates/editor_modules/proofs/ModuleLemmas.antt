@@ -1,42 +1,27 @@
 -- The module of a folder, and its files as they are told in turn.
-use Rattle.std.proofs.Common.{◌≡◌, ◌∙◌, ◌+◌, ◌<◌, ◌++◌, ◌∷◌, [], ℕ, Bool, Global, List, String, ap, ap₂, append-nil, append_assoc, arith, get_or, length, map, refl, subst, suc, sym, drop, true, zero}
+use Rattle.std.proofs.Common.{◌≡◌, ◌∙◌, ◌+◌, ◌<◌, ◌++◌, ◌∷◌, [], ℕ, Bool, Global, List, String, ap, ap₂, append_assoc, arith, get_or, length, map, refl, subst, suc, sym, drop, true, zero}
 use Rattle.std.proofs.lemmas.List.{drop_more, map-append, nil_from_length}
 use Rattle.std.proofs.lemmas.List.Elements.{Contains-push}
 use Rattle.std.specs.List.{Contains}
 use Rattle.std.specs.Option.{option_to_list}
 use Rattle.std.specs.Prelude.{MatchOption, Option, Some, None, string_bytes, vec_len}
-use Rattle.file_tree.specs.Files.{Faults, Files, Name}
-use Rattle.file_tree.specs.declared.walk.Found.{Found}
-use Rattle.file_tree.specs.declared.walk.ListedFolder.{ListedFolder}
+use Rattle.file_tree.specs.Files.{Files, Name}
 use Rattle.module_check.specs.Checks.{AreStates, IsChecked, size_with}
 use Rattle.module_check.specs.declared.check.Checked.{Checked}
 use Rattle.module_check.specs.declared.state.FileState.{FileState}
 use Rattle.module_config.specs.declared.configure.Configured.{Configured}
-use Rattle.module_find.specs.Modules.{AreModules}
-use Rattle.module_find.specs.declared.module.Module.{Module}
-use Rattle.open_files.specs.OpenTexts.{OpenText, with_open}
+use Rattle.open_files.specs.OpenTexts.{OpenText, file_uri, with_open}
 use Rattle.text_places.specs.declared.place.Units.{Units}
 use Rattle.tf_rules.specs.declared.issue.Issue.{Issue}
 use Rattle.tree_lint.specs.Verdicts.{bytes_of_name, names_in}
 use Rattle.tree_lint.specs.declared.policy.Governed.{Governed}
 use Rattle.editor_modules.specs.FileDiagnostics.{file_diagnostics}
 use Rattle.editor_modules.specs.Messages.{AreMessages, DocumentMessage, message_of, message_seen}
-use Rattle.editor_modules.specs.Modules.{AreAlone, HasModule, IsGoverned}
-use Rattle.editor_modules.specs.Told.{IsLinted, ToldDocument, file_uri, is_lintable, told_files}
+use Rattle.editor_modules.specs.Modules.{HasModule, IsGoverned}
+use Rattle.editor_modules.specs.Told.{IsLinted, ToldDocument, is_lintable, told_files}
 use Rattle.editor_modules.specs.declared.message.ToldMessage.{ToldMessage}
 
 -- ---- the module of a folder
-
-pub is_alone : (files : Files) (folder : Name) (named : Found) (before folders : List Found) (looked : List ListedFolder) (modules : List Module) (told : List Found) (was is : Faults) → named.name.items ≡ folder ++ [] → before ≡ [] → folders ≡ before ++ named ∷ [] → looked ≡ []
-    → AreModules files looked folders modules told was is → AreAlone files folder modules
-is_alone files folder named before folders looked modules told was is name first one none are = record {
-  named = named;
-  name = name ∙ append-nil folder;
-  told = told;
-  was = was;
-  is = is;
-  are = subst (λ (ls : List ListedFolder). AreModules files ls (named ∷ []) modules told was is) none (subst (λ (fs : List Found). AreModules files looked fs modules told was is) (one ∙ ap (λ (fs : List Found). fs ++ named ∷ []) first) are);
-}
 
 pub is_governed : (configured : Configured) (left : List Governed) (n : ℕ) (one : Option Governed) → configured.governed.items ≡ left ++ option_to_list one
     → MatchOption one ((vec_len configured.governed ≡ 0) × (n ≡ 0)) (λ _. n + 1 ≡ vec_len configured.governed) → IsGoverned configured one

@@ -2,22 +2,12 @@
 use Rattle.std.specs.Prelude.{◌≡◌, true, List, [], ◌∷◌, Option, Some, None}
 use Rattle.std.specs.List.{Contains}
 use Rattle.file_tree.specs.Files.{Faults, Files, Name}
-use Rattle.file_tree.specs.declared.walk.Found.{Found}
 use Rattle.lint_config.specs.Lines.{no_options}
 use Rattle.module_config.specs.Configs.{Configures}
 use Rattle.module_config.specs.declared.configure.Configured.{Configured}
-use Rattle.module_find.specs.Modules.{AreModules}
+use Rattle.module_find.specs.Modules.{AreAlone}
 use Rattle.module_find.specs.declared.module.Module.{Module}
 use Rattle.tree_lint.specs.declared.policy.Governed.{Governed}
-
--- the module of one folder
-pub record AreAlone (files : Files) (folder : Name) (modules : List Module) : Type 0 where
-  pub named : Found
-  pub name : named.name.items ≡ folder
-  pub told : List Found
-  pub was : Faults
-  pub is : Faults
-  pub are : AreModules files [] (named ∷ []) modules told was is
 
 -- it is one whose options are known, if any is
 abbrev pub IsGoverned : Configured → Option Governed → Type 0

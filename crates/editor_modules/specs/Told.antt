@@ -1,15 +1,14 @@
 -- WHAT AN EDITOR IS TOLD of a module: the diagnostics of each of its files, whether open or not; and of documents alone.
-use Rattle.std.specs.Prelude.{◌≡◌, ◌&&◌, ◌+◌, not, nat_lt, ℕ, Bool, true, false, List, [], ◌∷◌, Option, Some, None, length, unwrap_or, if◌then◌else◌}
+use Rattle.std.specs.Prelude.{◌≡◌, ◌&&◌, ◌+◌, not, nat_lt, ℕ, Bool, true, false, List, [], ◌∷◌, Option, Some, None, length, if◌then◌else◌}
 use Rattle.file_tree.specs.Files.{Files, Name}
 use Rattle.file_tree.specs.Names.{is_passed_over}
-use Rattle.file_uris.specs.Uris.{uri_of}
 use Rattle.hcl_source.specs.FaultTexts.{fault_text}
 use Rattle.module_check.specs.Checks.{IsChecked}
 use Rattle.module_check.specs.declared.check.Checked.{Checked}
 use Rattle.module_check.specs.declared.state.FileState.{FileState}
 use Rattle.module_find.specs.Modules.{folder_of, is_module_file}
 use Rattle.module_find.specs.declared.module.Module.{Module}
-use Rattle.open_files.specs.OpenTexts.{OpenText, rest_after, text_of, uri_open, with_open}
+use Rattle.open_files.specs.OpenTexts.{OpenText, file_uri, rest_after, text_of, with_open}
 use Rattle.text_faults.specs.Faults.{HasFault}
 use Rattle.text_faults.specs.declared.fault.MarkedFault.{MarkedFault}
 use Rattle.text_places.specs.declared.place.Units.{Units}
@@ -64,10 +63,6 @@ is_in_module path = is_module_file path && not (is_passed_over (rest_after (fold
 abbrev pub module_folder : Option Name → Option Name
 module_folder None = None
 module_folder (Some path) = if is_in_module path then Some (folder_of path) else None
-
--- the URI of a file: that of its document if one is open
-abbrev pub file_uri : List OpenText → Name → List ℕ
-file_uri documents name = unwrap_or (uri_open documents name) (uri_of name)
 
 -- each file in order, by its number and its state
 abbrev pub told_files : Units → List OpenText → List Issue → ℕ → List Name → List FileState

@@ -2,19 +2,16 @@
 
 ghost use Rattle.std.specs.Prelude.{◌≡◌, IfOk, option_map};
 ghost use Rattle.file_tree.specs.Unchanged.{Unchanged};
-ghost use Rattle.editor_modules.specs.Modules.{AreAlone, HasModule};
+ghost use Rattle.editor_modules.specs.Modules.{HasModule};
 ghost use Rattle.editor_modules.specs.Told.{is_in_module, module_folder};
 ghost use Rattle.module_find.specs.Modules.{folder_of};
 ghost use Rattle.open_files.specs.Views.{path_seen};
 
 use file_tree::names::is_passed_over;
-use file_tree::path::join;
 use file_tree::tree::Tree;
-use file_tree::walk::Found;
 use lint_config::NOTHING;
 use module_config::configure::configure;
-use module_find::Module;
-use module_find::modules::modules_of;
+use module_find::modules::modules_in;
 use module_find::names::{folder_of, is_module_file};
 use std::alloc::{AllocError, Global};
 use tree_lint::policy::Governed;
@@ -41,28 +38,6 @@ pub fn module_folder(path: &Option<Vec<u8>>) -> Option<&[u8]>
     } else {
         None
     }
-}
-
-/// The module of a folder alone.
-pub fn modules_in<T: Tree>(
-    alloc: Global,
-    folder: &[u8],
-    tree: &mut T,
-) -> Result<Vec<Module>, AllocError>
-    ensures unchanged { Unchanged T.Tree tree.old tree.new }
-    ensures are { IfOk result (λ modules. AreAlone (T.files tree.old) folder.now modules.items) }
-{
-    let found = Found {
-        name: join(alloc, folder, b"")?,
-        fault: None,
-        file: None,
-    };
-    let mut folders = Vec::new(alloc);
-    let Ok(()) = folders.push(found) else {
-        return Err(AllocError);
-    };
-    let found = modules_of(alloc, folders, Vec::new(alloc), tree)?;
-    Ok(found.modules)
 }
 
 /// The module of a folder, with the policy by which it is linted, unless that isn't known.

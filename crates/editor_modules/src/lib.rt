@@ -8,8 +8,8 @@ mod shown;
 mod texts;
 mod told;
 
-pub use find::{module_folder, modules_in};
+pub use find::module_folder;
 pub use message::{ToldMessage, withdrawal};
 pub use shown::Shown;
 pub use texts::text_messages;
-pub use told::{file_uri, module_messages};
+pub use told::module_messages;

@@ -2,14 +2,13 @@
 
 ghost use Rattle.std.specs.Prelude.{◌≡◌, ◌≤◌, IfOk, IsTrue, length, map, string_bytes};
 ghost use Rattle.editor_modules.specs.Messages.{AreMessages, TellsModule};
-ghost use Rattle.editor_modules.specs.Told.{file_uri, is_lintable, told_files};
+ghost use Rattle.editor_modules.specs.Told.{is_lintable, told_files};
 ghost use Rattle.tfrules_command.specs.Line.{max_files};
 
 use crate::diagnostics::file_message;
 use crate::find::module_in;
 use crate::message::ToldMessage;
 use file_tree::tree::Tree;
-use file_uris::uri_of;
 use module_check::{Checked, check_module};
 use module_find::Module;
 use open_files::{Documents, OpenFiles};
@@ -17,16 +16,6 @@ use std::alloc::{AllocError, Global};
 use text_places::Units;
 use tf_rules::Hashing;
 use tfrules_command::file_names::MAX_FILES;
-
-/// The URI of the file of this name: that of its document if one is open.
-pub fn file_uri(alloc: Global, documents: &Documents, name: &[u8]) -> Result<String, AllocError>
-    ensures { IfOk result (λ uri. string_bytes uri ≡ file_uri documents.now name.now) }
-{
-    match documents.uri_at(name) {
-        Some(uri) => String::from_str(alloc, uri),
-        None => uri_of(alloc, name),
-    }
-}
 
 /// The messages about the files of these names, which were judged and linted together.
 fn messages_of(
@@ -45,7 +34,7 @@ fn messages_of(
     let issues = checked.issues.as_slice();
     let mut all = Vec::new(alloc);
     for number in 0..names.len() {
-        let uri = file_uri(alloc, documents, names[number].as_bytes())?;
+        let uri = documents.file_uri(alloc, names[number].as_bytes())?;
         let state = &checked.files.as_slice()[number];
         let message = file_message(alloc, units, uri.as_str(), number as u32, state, issues)?;
         all.push(message)?;

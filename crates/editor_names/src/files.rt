@@ -11,7 +11,6 @@ use crate::file::{FileRanges, file_declares, file_ranges, is_read};
 use crate::query::Query;
 use crate::search::NameRanges;
 use editor_messages::DocumentRanges;
-use editor_modules::file_uri;
 use file_tree::tree::Tree;
 use open_files::Documents;
 use std::alloc::{AllocError, Global};
@@ -65,7 +64,7 @@ pub(crate) fn ranges_in_files<T: Tree>(
         let file = file_ranges(alloc, query, name, tree)?;
         is_declared = is_declared || file_declares(&file);
         is_whole = is_whole && is_read(&file);
-        let uri = file_uri(alloc, documents, name.as_bytes())?;
+        let uri = documents.file_uri(alloc, name.as_bytes())?;
         add_document(uri, documents.version_at(name.as_bytes()), file, &mut found)?;
     }
     Ok(NameRanges {

@@ -8,8 +8,8 @@ use crate::file::{file_declares, is_read, text_ranges};
 use crate::files::{add_document, ranges_in_files};
 use crate::query::Query;
 use editor_messages::DocumentRanges;
-use editor_modules::modules_in;
 use file_tree::tree::Tree;
+use module_find::modules::modules_in;
 use open_files::{Documents, OpenFiles};
 use std::alloc::{AllocError, Global};
 

@@ -20,7 +20,7 @@ use Rattle.file_tree.specs.declared.walk.FoundFile.{FoundFile}
 use Rattle.file_tree.specs.declared.walk.ListedFolder.{ListedFolder}
 use Rattle.file_tree.proofs.OrderLemmas.{none_in}
 use Rattle.module_find.specs.Inner.Adding.{AddsFolder, AddsModule, TakesFound, told_by}
-use Rattle.module_find.specs.Modules.{AreFolders, AreFoldersOf, AreModules, IsModule, IsModuleOf, StandsIn, breaks_by, fault_by, file_in, folder_of, is_file_by, is_lost, is_module_file, is_of_module, is_sound, lost_in, name_fault, stands, told_as, told_in}
+use Rattle.module_find.specs.Modules.{AreAlone, AreFolders, AreFoldersOf, AreModules, IsModule, IsModuleOf, StandsIn, breaks_by, fault_by, file_in, folder_of, is_file_by, is_lost, is_module_file, is_of_module, is_sound, lost_in, name_fault, stands, told_as, told_in}
 use Rattle.module_find.specs.declared.module.Module.{Module}
 use Rattle.module_find.specs.declared.modules.Modules.{Modules}
 use Rattle.module_find.specs.declared.modules.Sorted.{Sorted}
@@ -254,3 +254,16 @@ if_ok_more (Err e) P Q h f = tt
 pub on_ok_more : {A E : Type 0} (r : Result A E) (P Q : Type 0) → OnOk r P → (P → Q) → OnOk r Q
 on_ok_more (Ok a) P Q h f = f h
 on_ok_more (Err e) P Q h f = tt
+
+-- ---- the module of a folder alone
+
+pub is_alone : (files : Files) (folder : Name) (named : Found) (before folders : List Found) (looked : List ListedFolder) (modules : List Module) (told : List Found) (was is : Faults) → named.name.items ≡ folder ++ [] → before ≡ [] → folders ≡ before ++ named ∷ [] → looked ≡ []
+    → AreModules files looked folders modules told was is → AreAlone files folder modules
+is_alone files folder named before folders looked modules told was is name first one none are = record {
+  named = named;
+  name = name ∙ append-nil folder;
+  told = told;
+  was = was;
+  is = is;
+  are = subst (λ (ls : List ListedFolder). AreModules files ls (named ∷ []) modules told was is) none (subst (λ (fs : List Found). AreModules files looked fs modules told was is) (one ∙ ap (λ (fs : List Found). fs ++ named ∷ []) first) are);
+}

@@ -162,3 +162,12 @@ AreModules files looked (d ∷ ds) (m ∷ ms) told was is =
     × IsModule files looked d.name.items m here was between
     × AreModules files looked ds ms rest between is
 AreModules _ _ _ _ told was is = ⊥
+
+-- the module of one folder
+pub record AreAlone (files : Files) (folder : Name) (modules : List Module) : Type 0 where
+  pub named : Found
+  pub name : named.name.items ≡ folder
+  pub told : List Found
+  pub was : Faults
+  pub is : Faults
+  pub are : AreModules files [] (named ∷ []) modules told was is

@@ -5,12 +5,13 @@ ghost use Rattle.std.specs.List.{Contains};
 ghost use Rattle.file_tree.specs.Unchanged.{Unchanged};
 ghost use Rattle.file_tree.specs.declared.walk.ListedFolder.{ListedFolder};
 ghost use Rattle.module_find.specs.Inner.Adding.{AddsModule, TakesFound, told_by};
-ghost use Rattle.module_find.specs.Modules.{AreModules, IsModule, IsModuleOf, fault_by, is_module_file, told_as};
+ghost use Rattle.module_find.specs.Modules.{AreAlone, AreModules, IsModule, IsModuleOf, fault_by, is_module_file, told_as};
 
 use crate::lost::is_lost;
 use crate::module::Module;
 use crate::names::{is_module_file, is_of_module};
 use file_tree::fault::TreeFault;
+use file_tree::path::join;
 use file_tree::tree::Tree;
 use file_tree::walk::{Found, ListedFolder, find_in};
 use std::alloc::{AllocError, Global};
@@ -216,4 +217,26 @@ pub fn modules_of<T: Tree>(
         all.add(alloc, folder, &mut looked, tree)?;
     }
     Ok(all)
+}
+
+/// The module of a folder alone.
+pub fn modules_in<T: Tree>(
+    alloc: Global,
+    folder: &[u8],
+    tree: &mut T,
+) -> Result<Vec<Module>, AllocError>
+    ensures unchanged { Unchanged T.Tree tree.old tree.new }
+    ensures are { IfOk result (λ modules. AreAlone (T.files tree.old) folder.now modules.items) }
+{
+    let found = Found {
+        name: join(alloc, folder, b"")?,
+        fault: None,
+        file: None,
+    };
+    let mut folders = Vec::new(alloc);
+    let Ok(()) = folders.push(found) else {
+        return Err(AllocError);
+    };
+    let found = modules_of(alloc, folders, Vec::new(alloc), tree)?;
+    Ok(found.modules)
 }

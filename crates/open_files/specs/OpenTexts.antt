@@ -1,5 +1,5 @@
 -- WHAT A TREE TELLS with the texts of open documents over its files. Our own choice.
-use Rattle.std.specs.Prelude.{◌==◌, ◌&&◌, not, ℕ, Bool, false, List, [], ◌∷◌, ◌++◌, Option, Some, None, codes, drop, filter, find, flat_map, length, option_and_then, option_map, if◌then◌else◌}
+use Rattle.std.specs.Prelude.{◌==◌, ◌&&◌, not, ℕ, Bool, false, List, [], ◌∷◌, ◌++◌, Option, Some, None, codes, drop, filter, find, flat_map, length, option_and_then, option_map, unwrap_or, if◌then◌else◌}
 use Rattle.std.specs.List.{list_any}
 use Rattle.std.specs.Str.{bytes_eq}
 use Rattle.file_tree.specs.Files.{Files, Name}
@@ -7,7 +7,7 @@ use Rattle.file_tree.specs.Names.{begins, ends}
 use Rattle.file_tree.specs.declared.kind.Identity.{Identity}
 use Rattle.file_tree.specs.declared.kind.Kind.{Kind}
 use Rattle.file_tree.specs.declared.kind.Kind.TheVariants.{File}
-use Rattle.file_uris.specs.Uris.{path_of}
+use Rattle.file_uris.specs.Uris.{path_of, uri_of}
 
 -- an open document
 pub record OpenText : Type 0 where
@@ -59,6 +59,10 @@ text_open documents path = option_map (λ o. o.text) (open_at documents path)
 
 abbrev pub uri_open : List OpenText → Name → Option (List ℕ)
 uri_open documents path = option_map (λ o. o.uri) (open_at documents path)
+
+-- the URI of a file: that of its document if one is open
+abbrev pub file_uri : List OpenText → Name → List ℕ
+file_uri documents name = unwrap_or (uri_open documents name) (uri_of name)
 
 -- the version of the document that is open for a path, if it has one
 abbrev pub version_open : List OpenText → Name → Option ℕ

@@ -1,12 +1,13 @@
 //! The documents that are open.
 
-ghost use Rattle.std.specs.Prelude.{◌≡◌, ◌++◌, [], OnErr, OnOk, option_map};
-ghost use Rattle.open_files.specs.OpenTexts.{open_names, text_of, text_open, uri_open, version_of, version_open, with_open_text, without};
+ghost use Rattle.std.specs.Prelude.{◌≡◌, ◌++◌, [], IfOk, OnErr, OnOk, option_map, string_bytes};
+ghost use Rattle.open_files.specs.OpenTexts.{file_uri, open_names, text_of, text_open, uri_open, version_of, version_open, with_open_text, without};
 ghost use Rattle.open_files.specs.Views.{open_seen};
 
 use crate::document::{
     OpenFile, add_names, open_file, text_of, text_open, uri_open, version_of, version_open,
 };
+use file_uris::uri_of;
 use std::alloc::{AllocError, Global};
 use std::marker::Model;
 
@@ -51,10 +52,20 @@ impl Documents {
     }
 
     /// The URI of the document that is open for the file of a path.
-    pub fn uri_at(&self, path: &[u8]) -> Option<&str>
+    fn uri_at(&self, path: &[u8]) -> Option<&str>
         ensures { option_map (λ uri. uri.now) result ≡ uri_open self.now path.now }
     {
         uri_open(self.files.as_slice(), path)
+    }
+
+    /// The URI of the file of this name: that of its document if one is open.
+    pub fn file_uri(&self, alloc: Global, name: &[u8]) -> Result<String, AllocError>
+        ensures { IfOk result (λ uri. string_bytes uri ≡ file_uri self.now name.now) }
+    {
+        match self.uri_at(name) {
+            Some(uri) => String::from_str(alloc, uri),
+            None => uri_of(alloc, name),
+        }
     }
 
     /// The version of the document that has this URI, if it is open and has one.

@@ -2,9 +2,8 @@ use Rattle.std.proofs.Common.{◌≡◌, ◌∙◌, ◌<◌, ◌≤◌, ◌++◌
 use Rattle.std.proofs.lemmas.List.{length-map, take_all}
 use Rattle.std.specs.Prelude.{◌&&◌, ◌||◌, string_bytes}
 use Rattle.file_tree.specs.Files.{Files}
-use Rattle.open_files.specs.OpenTexts.{version_open}
+use Rattle.open_files.specs.OpenTexts.{file_uri, version_open}
 use Rattle.editor_messages.specs.Views.{document_ranges_seen}
-use Rattle.editor_modules.specs.Told.{file_uri}
 use Rattle.editor_names.specs.Modules.{document_of, file_declares, is_read}
 use Rattle.editor_names.specs.Views.{query_seen}
 use Rattle.editor_names.proofs.SearchLemmas.{HaveFound, found_more, found_none, name_here}

@@ -1,7 +1,7 @@
 use Rattle.std.specs.Prelude.{None}
 use Rattle.file_tree.specs.declared.walk.Found.{Found}
-use Rattle.editor_modules.proofs.ModuleLemmas.{is_alone}
-use Rattle.editor_modules.proofs.find.modules_in.Goals as goal
+use Rattle.module_find.proofs.ModuleLemmas.{is_alone}
+use Rattle.module_find.proofs.modules.modules_in.Goals as goal
 
 pub returns-clause-are : goal.returns-clause-are
 returns-clause-are g c =
