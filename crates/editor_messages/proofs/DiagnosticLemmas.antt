@@ -4,7 +4,7 @@ use Rattle.std.proofs.lemmas.List.{map-append, take_more}
 use Rattle.std.proofs.lemmas.List.Concat.{flat_map-append}
 use Rattle.std.specs.Prelude.{Option, Some, None, codes}
 use Rattle.json.specs.Token.{end_array, end_object, key, string}
-use Rattle.line_edits.specs.declared.ranges.Range.{Range}
+use Rattle.text_places.specs.declared.ranges.Range.{Range}
 use Rattle.rule_set.specs.declared.rule.Rule.{Rule}
 use Rattle.json.specs.Tree.{items_tokens, json_tokens}
 use Rattle.json_parts.specs.Values.{json_items}

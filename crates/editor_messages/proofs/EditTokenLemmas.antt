@@ -8,9 +8,9 @@ use Rattle.json.specs.Tree.{items_tokens, json_tokens}
 use Rattle.json.specs.Written.{Written}
 use Rattle.json_parts.proofs.AddsLemmas.{Added, added_then}
 use Rattle.json_parts.specs.Values.{json_items}
-use Rattle.line_edits.specs.Edits.{Edit, EditsAscend, edit_of}
-use Rattle.line_edits.specs.PlacedEdits.{PlacedEdit, placed_edits, placed_edit}
-use Rattle.line_edits.specs.declared.edits.TextEdit.{TextEdit}
+use Rattle.text_places.specs.Edits.{Edit, EditsAscend, edit_of}
+use Rattle.text_places.specs.PlacedEdits.{PlacedEdit, placed_edits, placed_edit}
+use Rattle.text_places.specs.declared.edits.TextEdit.{TextEdit}
 use Rattle.text_places.specs.Places.{walk_to}
 use Rattle.text_places.specs.declared.place.Units.{Units}
 use Rattle.text_places.specs.declared.place.Walk.{Walk}

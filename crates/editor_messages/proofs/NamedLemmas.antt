@@ -7,8 +7,8 @@ use Rattle.json.specs.Json.{Json}
 use Rattle.json.specs.Token.{Token, begin_array, begin_object, end_array, end_object, key, string}
 use Rattle.json.specs.Tree.{items_tokens, json_tokens, members_tokens}
 use Rattle.json_parts.specs.Values.{json_items}
-use Rattle.line_edits.specs.PlacedEdits.{in_range}
-use Rattle.line_edits.specs.declared.ranges.Range.{Range}
+use Rattle.text_places.specs.PlacedEdits.{in_range}
+use Rattle.text_places.specs.declared.ranges.Range.{Range}
 use Rattle.editor_messages.specs.Inner.Heads.{capabilities_head, capabilities_tail}
 use Rattle.editor_messages.specs.Inner.Named.{changes_tokens, locations_tokens, ranges_tokens, renaming_tokens, versioned_tokens}
 use Rattle.editor_messages.specs.Names.{DocumentRanges, edits_by_uri, locations_in, range_location, rename_json, renaming_edits, version_json, versioned_edits}

@@ -2,7 +2,7 @@
 use Rattle.std.specs.Prelude.{ℕ, Bool, false, true, List, Result, Ok, Err, codes, decimal, map}
 use Rattle.json.specs.Json.{Json, array, boolean, member, no_members, number, object, string}
 use Rattle.json_parts.specs.Values.{json_items}
-use Rattle.line_edits.specs.PlacedEdits.{PlacedEdit}
+use Rattle.text_places.specs.PlacedEdits.{PlacedEdit}
 use Rattle.text_places.specs.declared.place.Place.{Place}
 use Rattle.text_places.specs.declared.place.Units.{Units}
 use Rattle.text_places.specs.declared.place.Units.TheVariants.{Bytes, Utf16}

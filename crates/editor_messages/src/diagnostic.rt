@@ -13,9 +13,9 @@ ghost use Rattle.editor_messages.specs.Views.{diagnostic_seen};
 use crate::range::write_range;
 use json::Writer;
 use json_parts::{JsonPart, write_parts};
-use line_edits::Range;
 use rule_set::{Rule, Severity};
 use std::alloc::{AllocError, Global};
+use text_places::Range;
 
 /// A text about a part of a document.
 #[derive(Clone, Copy)]

@@ -14,8 +14,8 @@ use crate::range::{DocumentRanges, write_range};
 use crate::reply::{write_end, write_head};
 use json::Writer;
 use json_parts::{JsonPart, write_parts};
-use line_edits::Range;
 use std::alloc::{AllocError, Global};
+use text_places::Range;
 
 /// Writes a range in the document that has this URI.
 fn write_location(writer: &mut Writer, uri: &str, range: Range) -> Result<(), AllocError>

@@ -6,8 +6,8 @@ ghost use Rattle.editor_messages.specs.Replies.{range_json};
 
 use json::Writer;
 use json_parts::{JsonPart, write_parts};
-use line_edits::Range;
 use std::alloc::AllocError;
+use text_places::Range;
 
 /// Ranges of the document that has this URI, and its version if one is known.
 #[derive(Drop)]

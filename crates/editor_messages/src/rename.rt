@@ -14,8 +14,8 @@ use crate::range::{DocumentRanges, write_range};
 use crate::reply::{write_edit, write_end, write_head};
 use json::Writer;
 use json_parts::{JsonPart, write_parts};
-use line_edits::Range;
 use std::alloc::{AllocError, Global};
+use text_places::Range;
 
 fn write_renamings(writer: &mut Writer, name: &str, ranges: &[Range]) -> Result<(), AllocError>
     ensures { AddsTokens result writer.old writer.new (renaming_tokens name.now ranges.now) }

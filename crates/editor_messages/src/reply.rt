@@ -8,8 +8,8 @@ ghost use Rattle.json.specs.Token as Token;
 ghost use Rattle.json.specs.Tree.{HasNumbers, json_tokens};
 ghost use Rattle.json_parts.specs.AddsTokens.{AddsTokens};
 ghost use Rattle.json_parts.specs.Values.{json_text};
-ghost use Rattle.line_edits.specs.Edits.{EditsAscend, edit_of};
-ghost use Rattle.line_edits.specs.PlacedEdits.{in_range, placed_edits};
+ghost use Rattle.text_places.specs.Edits.{EditsAscend, edit_of};
+ghost use Rattle.text_places.specs.PlacedEdits.{in_range, placed_edits};
 ghost use Rattle.editor_messages.specs.Inner.Heads.{capabilities_head, capabilities_tail, edits_tokens, reply_head};
 ghost use Rattle.editor_messages.specs.Replies.{capabilities_json, edit_json, edits_json, encoding_name, error_json, error_value, rename_ability, result_json};
 ghost use Rattle.editor_messages.specs.Views.{id_seen};
@@ -19,9 +19,8 @@ use crate::message::{Abilities, Id};
 use crate::range::write_range;
 use json::Writer;
 use json_parts::{JsonPart, write_parts};
-use line_edits::{Range, TextEdit, place_edit};
 use std::alloc::{AllocError, Global};
-use text_places::{Units, Walk};
+use text_places::{Range, TextEdit, Units, Walk, place_edit};
 
 fn write_id(writer: &mut Writer, id: Id<'_>) -> Result<(), AllocError>
     requires { HasNumbers (id_seen id) }

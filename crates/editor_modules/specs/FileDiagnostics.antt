@@ -2,11 +2,11 @@
 use Rattle.std.specs.Prelude.{ℕ, ◌==◌, List, [], ◌∷◌, Some, None, codes, filter, map}
 use Rattle.hcl_source.specs.FaultTexts.{fault_text}
 use Rattle.file_tree.specs.FaultTexts.{tree_fault_text}
-use Rattle.line_edits.specs.declared.ranges.Range.{Range}
+use Rattle.text_places.specs.declared.ranges.Range.{Range}
 use Rattle.module_check.specs.declared.state.FileState.{FileState}
 use Rattle.module_check.specs.declared.state.FileState.TheVariants as state
-use Rattle.text_faults.specs.Faults.{front}
-use Rattle.text_faults.specs.Marks.{marked_range}
+use Rattle.module_check.specs.Faults.{front}
+use Rattle.module_check.specs.Marks.{marked_range}
 use Rattle.text_places.specs.declared.place.Units.{Units}
 use Rattle.tf_rules.specs.declared.issue.Issue.{Issue}
 use Rattle.editor_messages.specs.Diagnostics.{Diagnostic}

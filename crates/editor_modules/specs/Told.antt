@@ -9,8 +9,8 @@ use Rattle.module_check.specs.declared.state.FileState.{FileState}
 use Rattle.module_find.specs.Modules.{folder_of, is_module_file}
 use Rattle.module_find.specs.declared.module.Module.{Module}
 use Rattle.open_files.specs.OpenTexts.{OpenText, file_uri, rest_after, text_of, with_open}
-use Rattle.text_faults.specs.Faults.{HasFault}
-use Rattle.text_faults.specs.declared.fault.MarkedFault.{MarkedFault}
+use Rattle.module_check.specs.Faults.{HasFault}
+use Rattle.module_check.specs.declared.fault.MarkedFault.{MarkedFault}
 use Rattle.text_places.specs.declared.place.Units.{Units}
 use Rattle.tf_rules.specs.declared.issue.Issue.{Issue}
 use Rattle.tfrules_command.specs.Line.{max_files}

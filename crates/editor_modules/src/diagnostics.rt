@@ -2,7 +2,7 @@
 
 ghost use Rattle.std.specs.Prelude.{◌≡◌, ◌++◌, ◌∷◌, [], IfOk, OnOk, map};
 ghost use Rattle.hcl_source.specs.FaultTexts.{fault_text};
-ghost use Rattle.text_faults.specs.Marks.{marked_range as marked_range_of};
+ghost use Rattle.module_check.specs.Marks.{marked_range as marked_range_of};
 ghost use Rattle.editor_messages.specs.Views.{diagnostic_seen};
 ghost use Rattle.editor_modules.specs.FileDiagnostics.{at_front, file_diagnostics, issue_diagnostics, refusal};
 ghost use Rattle.editor_modules.specs.Messages.{TellsDocument};
@@ -11,11 +11,9 @@ ghost use Rattle.editor_modules.specs.Told.{told_document};
 use crate::message::{ToldMessage, told_message};
 use editor_messages::Diagnostic;
 use hcl_scan::{Fault, Source};
-use line_edits::Range;
-use module_check::FileState;
+use module_check::{FileState, Marker};
 use std::alloc::{AllocError, Global};
-use text_faults::Marker;
-use text_places::{Units, Walk};
+use text_places::{Range, Units, Walk};
 use tf_rules::Issue;
 
 /// The message that a document is refused for this reason.

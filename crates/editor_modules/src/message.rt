@@ -8,9 +8,9 @@ ghost use Rattle.editor_modules.specs.Told.{told_document, withdrawn};
 ghost use Rattle.open_files.specs.OpenTexts.{text_of};
 
 use editor_messages::{Diagnostic, diagnostics_message};
+use module_check::fault_of;
 use open_files::Documents;
 use std::alloc::{AllocError, Global};
-use text_faults::fault_of;
 use text_places::Units;
 
 /// A message that tells the diagnostics of a document.

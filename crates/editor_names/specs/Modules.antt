@@ -4,7 +4,7 @@ use Rattle.std.specs.List.{list_all, list_any}
 use Rattle.file_tree.specs.Files.{Files, Name}
 use Rattle.hcl_source.specs.Devices.{Tells}
 use Rattle.hcl_tokens.specs.Scanned.{Scanned}
-use Rattle.line_edits.specs.declared.ranges.Range.{Range}
+use Rattle.text_places.specs.declared.ranges.Range.{Range}
 use Rattle.module_find.specs.Modules.{AreAlone}
 use Rattle.module_find.specs.declared.module.Module.{Module}
 use Rattle.open_files.specs.OpenTexts.{OpenText, file_uri, version_open, with_open}

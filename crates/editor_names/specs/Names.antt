@@ -2,7 +2,7 @@
 use Rattle.std.specs.Prelude.{◌≡◌, ◌⊎◌, ℕ, ◌&&◌, Bool, true, false, List, Option, None, filter, find, map, nat_le, option_map}
 use Rattle.std.specs.List.{list_any}
 use Rattle.hcl_tokens.specs.Scanned.{Scanned}
-use Rattle.line_edits.specs.declared.ranges.Range.{Range}
+use Rattle.text_places.specs.declared.ranges.Range.{Range}
 use Rattle.text_outline.specs.Files.{IsFile, IsRefused}
 use Rattle.text_places.specs.Places.{offset_at, place_at}
 use Rattle.text_places.specs.declared.place.Place.{Place}

@@ -15,9 +15,8 @@ use file_tree::fault::TreeFault;
 use file_tree::tree::Tree;
 use hcl_scan::{ByteSource, LoadError, ScanError, Source, scan};
 use hcl_syntax::{Accepted, accepts};
-use line_edits::Range;
 use std::alloc::{AllocError, Global};
-use text_places::PlaceIndex;
+use text_places::{PlaceIndex, Range};
 use tf_names::{Occurrence, occurrences_of};
 
 /// How a file of the language spells a name.

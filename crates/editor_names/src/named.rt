@@ -11,9 +11,8 @@ use crate::owned_name::OwnedName;
 use crate::query::range_of;
 use hcl_scan::{LoadError, ScanError, Source, scan};
 use hcl_syntax::{Accepted, accepts};
-use line_edits::Range;
 use std::alloc::{AllocError, Global};
-use text_places::{Place, PlaceIndex, Units, offset_at};
+use text_places::{Place, PlaceIndex, Range, Units, offset_at};
 use tf_names::{Occurrence, occurrences_of};
 
 /// The name at a place of a text.

@@ -5,8 +5,7 @@ ghost use Rattle.tf_names.specs.Views.{occurrence_seen};
 ghost use Rattle.editor_names.specs.Names.{is_wanted, is_wanted_kind, range_of};
 ghost use Rattle.editor_names.specs.Views.{query_seen};
 
-use line_edits::Range;
-use text_places::{PlaceIndex, Units};
+use text_places::{PlaceIndex, Range, Units};
 use tf_names::{Name, Occurrence, OccurrenceKind, is_same};
 
 /// Which occurrences of a name are asked for.

@@ -2,10 +2,10 @@
 use Rattle.std.proofs.Common.{◌≡◌, ◌∙◌, ℕ, List, ap, inl, inr, map}
 use Rattle.std.specs.Prelude.{Option, Ok, Result, Some, None}
 use Rattle.json.specs.Json.{Json}
-use Rattle.line_edits.specs.Edits.{line_edits}
-use Rattle.line_edits.specs.PlacedEdits.{placed_edit, placed_edits}
-use Rattle.line_edits.proofs.EditLemmas.{no_edits}
-use Rattle.line_edits.proofs.MadeLemmas.{editors_make}
+use Rattle.text_places.specs.Edits.{line_edits}
+use Rattle.text_places.specs.PlacedEdits.{placed_edit, placed_edits}
+use Rattle.text_places.proofs.EditLemmas.{no_edits}
+use Rattle.text_places.proofs.MadeLemmas.{editors_make}
 use Rattle.text_format.specs.Format.{HasFormat}
 use Rattle.text_places.specs.declared.place.Units.{Units}
 use Rattle.editor_messages.specs.Replies.{edits_json}

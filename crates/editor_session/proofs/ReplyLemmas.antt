@@ -4,9 +4,9 @@ use Rattle.std.proofs.lemmas.Result.{IfOk-weaker}
 use Rattle.std.specs.Prelude.{IfOk, Result, Ok, Err, Vec}
 use Rattle.json.specs.Json.{Json}
 use Rattle.json_parts.specs.Values.{json_text}
-use Rattle.line_edits.specs.Edits.{edit_of, line_edits}
-use Rattle.line_edits.specs.PlacedEdits.{placed_edits}
-use Rattle.line_edits.specs.declared.edits.TextEdit.{TextEdit}
+use Rattle.text_places.specs.Edits.{edit_of, line_edits}
+use Rattle.text_places.specs.PlacedEdits.{placed_edits}
+use Rattle.text_places.specs.declared.edits.TextEdit.{TextEdit}
 use Rattle.text_places.specs.declared.place.Units.{Units}
 use Rattle.editor_messages.specs.Replies.{reply_json}
 use Rattle.editor_messages.specs.declared.error.ReplyError.{ReplyError}

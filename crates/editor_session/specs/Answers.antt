@@ -2,8 +2,8 @@
 use Rattle.std.specs.Prelude.{◌≡◌, ℕ, Bool, List, [], Option, Some, None, Result, Ok, Err, codes, if◌then◌else◌}
 use Rattle.file_tree.specs.Files.{Files}
 use Rattle.json.specs.Json.{Json, null}
-use Rattle.line_edits.specs.Edits.{Edit, line_edits}
-use Rattle.line_edits.specs.PlacedEdits.{placed_edits}
+use Rattle.text_places.specs.Edits.{Edit, line_edits}
+use Rattle.text_places.specs.PlacedEdits.{placed_edits}
 use Rattle.open_files.specs.OpenTexts.{OpenText, text_of}
 use Rattle.text_format.specs.Format.{HasFormat}
 use Rattle.text_outline.specs.Folds.{HasFolds}

@@ -2,7 +2,7 @@
 use Rattle.std.specs.Prelude.{◌≡◌, ◌⊎◌, ℕ, List, [], Result, Ok}
 use Rattle.hcl_source.specs.declared.fault.Fault.{Fault}
 use Rattle.json.specs.Json.{Json}
-use Rattle.line_edits.specs.PlacedEdits.{PlacedEdit, made_text}
+use Rattle.text_places.specs.PlacedEdits.{PlacedEdit, made_text}
 use Rattle.text_format.specs.Format.{IsFault, IsFormat}
 use Rattle.text_places.specs.declared.place.Units.{Units}
 use Rattle.editor_messages.specs.Replies.{edits_json}

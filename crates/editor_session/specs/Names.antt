@@ -2,7 +2,7 @@
 use Rattle.std.specs.Prelude.{◌≡◌, ◌&&◌, not, ℕ, Bool, true, false, List, [], ◌∷◌, Option, Some, None, Result, Ok, Err, if◌then◌else◌}
 use Rattle.std.specs.Str.{chars}
 use Rattle.file_tree.specs.Files.{Files, Name as FileName}
-use Rattle.file_uris.specs.Uris.{path_of}
+use Rattle.open_files.specs.Uris.{path_of}
 use Rattle.hcl_tokens.specs.Spelling.{are_ident}
 use Rattle.json.specs.Json.{Json, null}
 use Rattle.open_files.specs.OpenTexts.{version_of}

@@ -2,7 +2,7 @@
 -- belongs, or of documents alone.
 use Rattle.std.specs.Prelude.{◌≡◌, ◌++◌, ℕ, List, [], ◌∷◌, Option, Some, None, map}
 use Rattle.file_tree.specs.Files.{Files, Name}
-use Rattle.file_uris.specs.Uris.{path_of}
+use Rattle.open_files.specs.Uris.{path_of}
 use Rattle.editor_modules.specs.Messages.{DocumentMessage, TellTexts, message_of}
 use Rattle.editor_modules.specs.Shown.{other_uris, shown_in, with_stale, with_told, without_module}
 use Rattle.editor_modules.specs.Told.{IsModuleTold, ToldDocument, module_folder, withdrawn}

@@ -2,8 +2,8 @@
 
 ghost use Rattle.std.specs.Prelude.{◌≡◌, ◌<◌, ◌^◌, IfOk, Ok, Some, length};
 ghost use Rattle.json_parts.specs.Values.{json_text};
-ghost use Rattle.line_edits.specs.Edits.{line_edits};
-ghost use Rattle.line_edits.specs.PlacedEdits.{placed_edits};
+ghost use Rattle.text_places.specs.Edits.{line_edits};
+ghost use Rattle.text_places.specs.PlacedEdits.{placed_edits};
 ghost use Rattle.editor_messages.specs.Replies.{edits_json, reply_json};
 ghost use Rattle.json.specs.Tree.{HasNumbers};
 ghost use Rattle.editor_messages.specs.Views.{id_seen, request_seen, text_seen};
@@ -19,12 +19,11 @@ use editor_messages::{
     symbols_reply,
 };
 use editor_names::Wanted;
-use line_edits::edits_between;
 use open_files::Disk;
 use std::alloc::{AllocError, Global};
 use text_format::format_of;
 use text_outline::{folds_of, symbols_of};
-use text_places::Units;
+use text_places::{Units, edits_between};
 
 /// This version of the server.
 static VERSION: &str = "0.3.0";

@@ -24,8 +24,7 @@ use editor_modules::module_folder;
 use editor_names::{
     NameRanges, Query, Wanted, is_identifier, name_at, ranges_in_document, ranges_in_module,
 };
-use file_uris::path_of;
-use open_files::Disk;
+use open_files::{Disk, path_of};
 use std::alloc::{AllocError, Global};
 use text_places::Place;
 use tf_names::{Name, last_part, with_last_part};

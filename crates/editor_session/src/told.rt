@@ -1,7 +1,7 @@
 //! What an editor is told of documents.
 
 ghost use Rattle.std.specs.Prelude.{◌≡◌, ◌∷◌, [], IfOk, OnErr, Some, map, string_bytes};
-ghost use Rattle.file_uris.specs.Uris.{path_of as path_in};
+ghost use Rattle.open_files.specs.Uris.{path_of as path_in};
 ghost use Rattle.editor_modules.specs.Messages.{AreMessages, TellTexts};
 ghost use Rattle.editor_modules.specs.Shown.{other_uris};
 ghost use Rattle.editor_modules.specs.Told.{module_folder as folder_in, withdrawn};
@@ -11,8 +11,7 @@ ghost use Rattle.editor_session.specs.Views.{session_seen};
 
 use crate::session::Session;
 use editor_modules::{ToldMessage, module_folder, module_messages, text_messages, withdrawal};
-use file_uris::path_of;
-use open_files::Disk;
+use open_files::{Disk, path_of};
 use std::alloc::{AllocError, Global};
 
 /// The message that withdraws what was told of a document.

@@ -10,9 +10,9 @@ use Rattle.file_tree.specs.Files.{Name}
 use Rattle.lint_config.specs.Lines.{Options}
 use Rattle.lint_forms.specs.declared.kind.Form.{Form}
 use Rattle.lint_forms.specs.declared.kind.Form.TheVariants.{Json, Sarif, Checkstyle, Junit, Gitlab, Github}
-use Rattle.rule_lists.specs.Lists.{rules_in}
-use Rattle.rule_lists.specs.declared.fault.ListFault.{ListFault}
-use Rattle.rule_lists.specs.declared.fault.ListFault.TheVariants as list
+use Rattle.lint_config.specs.Lists.{rules_in}
+use Rattle.lint_config.specs.declared.list_fault.ListFault.{ListFault}
+use Rattle.lint_config.specs.declared.list_fault.ListFault.TheVariants as list
 use Rattle.rule_set.specs.Rules.{all_rules, rule_name}
 use Rattle.rule_set.specs.declared.rule.Rule.{Rule}
 use Rattle.rule_set.specs.declared.rule.Severity.{Severity}

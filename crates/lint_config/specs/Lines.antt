@@ -4,9 +4,9 @@ use Rattle.std.specs.List.{after_first, before_first, position_or_len}
 use Rattle.std.specs.Str.{bytes_eq, trim}
 use Rattle.rule_set.specs.declared.rule.Rule.{Rule}
 use Rattle.rule_set.specs.declared.rule.Severity.{Severity}
-use Rattle.rule_lists.specs.Lists.{rules_in}
-use Rattle.rule_lists.specs.declared.fault.ListFault.{ListFault}
-use Rattle.rule_lists.specs.declared.fault.ListFault.TheVariants as list
+use Rattle.lint_config.specs.Lists.{rules_in}
+use Rattle.lint_config.specs.declared.list_fault.ListFault.{ListFault}
+use Rattle.lint_config.specs.declared.list_fault.ListFault.TheVariants as list
 use Rattle.tf_rules.specs.declared.naming.Naming.{Naming}
 use Rattle.tfrules_command.specs.Line.{naming_of_text, severity_of_text}
 use Rattle.lint_config.specs.declared.fault.ConfigFault.{ConfigFault}

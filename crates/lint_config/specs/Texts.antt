@@ -2,7 +2,7 @@
 use Rattle.std.specs.Prelude.{ℕ, List, ◌++◌, codes}
 use Rattle.std.specs.Str.Lossy.{utf8_lossy}
 use Rattle.file_tree.specs.Quotes.{in_quotes}
-use Rattle.rule_lists.specs.Lists.{unknown_in}
+use Rattle.lint_config.specs.Lists.{unknown_in}
 use Rattle.lint_config.specs.Lines.{without_comment, parts}
 use Rattle.lint_config.specs.declared.fault.ConfigFault.{ConfigFault}
 use Rattle.lint_config.specs.declared.fault.ConfigFault.TheVariants.{UnknownOption, GivenTwice, UnknownRule, NoRuleLeft, UnknownNaming, UnknownSeverity}

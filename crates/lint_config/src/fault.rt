@@ -3,9 +3,9 @@
 ghost use Rattle.std.specs.Prelude.{◌≡◌, IfOk, string_bytes};
 ghost use Rattle.lint_config.specs.Texts.{fault_words, reason, wrong_word};
 
+use crate::list::unknown_in;
 use crate::parts::{parts, without_comment};
 use file_tree::quote::push_in_quotes;
-use rule_lists::unknown_in;
 use std::alloc::{AllocError, Global};
 
 /// What is wrong with a line.

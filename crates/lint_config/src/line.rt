@@ -7,9 +7,10 @@ ghost use Rattle.lint_config.specs.Options.{options_of};
 ghost use Rattle.lint_config.specs.Inner.Said.{said_by};
 
 use crate::fault::ConfigFault;
+use crate::list::rules_in;
+use crate::list_fault::ListFault;
 use crate::parts::{parts, without_comment};
 use crate::said::Said;
-use rule_lists::{ListFault, rules_in};
 use tfrules_command::options::{naming_of_text, severity_of_text};
 
 /// These options and a list of rules.

@@ -1,2 +1,4 @@
 pub mod Checks
+pub mod Faults
 pub mod Inner
+pub mod Marks

@@ -1,1 +1,3 @@
+pub mod EncodeLemmas
 pub mod OpenLemmas
+pub mod UriLemmas

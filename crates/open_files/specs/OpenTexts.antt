@@ -7,7 +7,7 @@ use Rattle.file_tree.specs.Names.{begins, ends}
 use Rattle.file_tree.specs.declared.kind.Identity.{Identity}
 use Rattle.file_tree.specs.declared.kind.Kind.{Kind}
 use Rattle.file_tree.specs.declared.kind.Kind.TheVariants.{File}
-use Rattle.file_uris.specs.Uris.{path_of, uri_of}
+use Rattle.open_files.specs.Uris.{path_of, uri_of}
 
 -- an open document
 pub record OpenText : Type 0 where

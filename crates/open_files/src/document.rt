@@ -5,7 +5,7 @@ ghost use Rattle.std.specs.Str.{bytes_eq};
 ghost use Rattle.open_files.specs.OpenTexts.{is_directly_in, is_path, name_in, open_names, open_text, text_of, text_open, uri_open, version_of, version_open};
 ghost use Rattle.open_files.specs.Views.{file_seen, open_seen, path_seen};
 
-use file_uris::path_of;
+use crate::uri::path_of;
 use std::alloc::{AllocError, Global};
 
 /// A document that is open.

@@ -7,7 +7,7 @@ ghost use Rattle.open_files.specs.Views.{open_seen};
 use crate::document::{
     OpenFile, add_names, open_file, text_of, text_open, uri_open, version_of, version_open,
 };
-use file_uris::uri_of;
+use crate::uri::uri_of;
 use std::alloc::{AllocError, Global};
 use std::marker::Model;
 

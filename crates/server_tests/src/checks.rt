@@ -1,9 +1,8 @@
 //! The comparisons of the tests, with one assertion each, so that it is proved once.
 
-use line_edits::Range;
 use std::alloc::Global;
 use std::process::Abort;
-use text_places::Place;
+use text_places::{Place, Range};
 
 /// A range by its first line and character, and its last.
 pub fn range_of(places: [usize; 4]) -> Range {

@@ -1,8 +1,7 @@
 //! The edits that make one text another.
 
 use crate::checks::{holds, range_of, with_copies};
-use line_edits::{Range, TextEdit, edits_between, place_edit};
-use text_places::{Units, Walk};
+use text_places::{Range, TextEdit, Units, Walk, edits_between, place_edit};
 
 /// An edit by its offsets and its text.
 type Edit = (usize, usize, &'static str);

@@ -2,9 +2,9 @@
 
 use crate::checks::{holds, range_of, with_copies};
 use hcl_source::MAX_SOURCE;
+use module_check::fault_of;
 use std::alloc::Global;
 use std::process::Abort;
-use text_faults::fault_of;
 use text_places::Units;
 
 /// A text, the message of its fault, and the range that is marked in bytes and in UTF-16: its first line and character,

@@ -11,7 +11,7 @@ use Rattle.hcl_tokens.specs.Lexemes.{Lexeme}
 use Rattle.hcl_tokens.specs.Scanned.{Scanned}
 use Rattle.text_places.specs.declared.place.Units.{Units}
 use Rattle.text_outline.specs.Folds.{fold_of}
-use Rattle.line_edits.specs.declared.ranges.Range.{Range}
+use Rattle.text_places.specs.declared.ranges.Range.{Range}
 use Rattle.text_outline.specs.Symbols.{range_between, symbol, symbol_of, symbols_in}
 use Rattle.text_outline.specs.declared.symbol.SymbolKind.{SymbolKind}
 

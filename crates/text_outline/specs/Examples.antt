@@ -4,7 +4,7 @@ use Rattle.hcl_tokens.specs.Lexemes.{Lexeme}
 use Rattle.hcl_tokens.specs.Scanned.{Scanned}
 use Rattle.hcl_tokens.specs.declared.token.Kind.{Kind}
 use Rattle.hcl_tokens.specs.declared.token.Kind.TheVariants as kind
-use Rattle.line_edits.specs.declared.ranges.Range.{Range}
+use Rattle.text_places.specs.declared.ranges.Range.{Range}
 use Rattle.text_places.specs.declared.place.Units.TheVariants.{Bytes}
 use Rattle.text_outline.specs.Folds.{folds_of}
 use Rattle.text_outline.specs.Symbols.{symbols_of}

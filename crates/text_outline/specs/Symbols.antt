@@ -9,7 +9,7 @@ use Rattle.hcl_grammar.specs.declared.item.Item.{Item}
 use Rattle.hcl_grammar.specs.declared.item.Item.TheVariants as item
 use Rattle.hcl_tokens.specs.Lexemes.{Lexeme}
 use Rattle.hcl_tokens.specs.Scanned.{Scanned}
-use Rattle.line_edits.specs.declared.ranges.Range.{Range}
+use Rattle.text_places.specs.declared.ranges.Range.{Range}
 use Rattle.text_places.specs.Places.{place_at}
 use Rattle.text_places.specs.declared.place.Units.{Units}
 use Rattle.text_outline.specs.Files.{IsFile, IsRefused}

@@ -11,9 +11,8 @@ use crate::name::block_name;
 use crate::token_range::{range_between, word_at};
 use hcl_scan::{LoadError, ScanError, Source, scan};
 use hcl_syntax::{Accepted, Item, Outline, accepts, outline};
-use line_edits::Range;
 use std::alloc::{AllocError, Global};
-use text_places::{PlaceIndex, Units};
+use text_places::{PlaceIndex, Range, Units};
 
 /// What a symbol is.
 #[derive(Clone, Copy, Debug, PartialEq, Eq)]

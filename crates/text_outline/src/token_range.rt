@@ -8,8 +8,7 @@ ghost use Rattle.text_outline.specs.Folds.{line_of_token};
 ghost use Rattle.text_outline.specs.Symbols.{range_between, stop_of};
 
 use hcl_syntax::Accepted;
-use line_edits::Range;
-use text_places::{PlaceIndex, Units};
+use text_places::{PlaceIndex, Range, Units};
 
 /// The text of a token.
 pub fn word_at<'s>(accepted: &Accepted<'_, 's>, number: usize) -> &'s str

@@ -1,3 +1,5 @@
+pub mod Edits
 pub mod Indexes
 pub mod Inner
+pub mod PlacedEdits
 pub mod Places

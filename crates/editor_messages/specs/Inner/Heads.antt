@@ -3,10 +3,10 @@ use Rattle.std.specs.Prelude.{ℕ, List, [], ◌∷◌, ◌++◌, Bool, Option, 
 use Rattle.json.specs.Json.{Json}
 use Rattle.json.specs.Token.{Token, begin_array, begin_object, boolean, end_object, key, number, string}
 use Rattle.json.specs.Tree.{json_tokens}
-use Rattle.line_edits.specs.PlacedEdits.{PlacedEdit}
+use Rattle.text_places.specs.PlacedEdits.{PlacedEdit}
 use Rattle.editor_messages.specs.Diagnostics.{Diagnostic, diagnostic_json}
 use Rattle.editor_messages.specs.Replies.{edit_json, range_json}
-use Rattle.line_edits.specs.declared.ranges.Range.{Range}
+use Rattle.text_places.specs.declared.ranges.Range.{Range}
 use Rattle.lint_forms.specs.Sarif.{page_of}
 use Rattle.rule_set.specs.Rules.{rule_name}
 use Rattle.rule_set.specs.declared.rule.Rule.{Rule}

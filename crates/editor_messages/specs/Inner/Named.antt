@@ -2,8 +2,8 @@
 use Rattle.std.specs.Prelude.{ℕ, List, ◌∷◌, flat_map, map}
 use Rattle.json.specs.Token.{Token, key}
 use Rattle.json.specs.Tree.{json_tokens}
-use Rattle.line_edits.specs.PlacedEdits.{in_range}
-use Rattle.line_edits.specs.declared.ranges.Range.{Range}
+use Rattle.text_places.specs.PlacedEdits.{in_range}
+use Rattle.text_places.specs.declared.ranges.Range.{Range}
 use Rattle.editor_messages.specs.Inner.Heads.{edits_tokens}
 use Rattle.editor_messages.specs.Names.{DocumentRanges, range_location, renaming_edits, versioned_edits}
 

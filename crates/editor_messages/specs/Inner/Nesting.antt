@@ -2,7 +2,7 @@
 use Rattle.std.specs.Prelude.{ℕ, List, [], ◌∷◌, ◌++◌, codes, decimal, flat_map, nat_lt, if◌then◌else◌}
 use Rattle.json.specs.Token.{Token, begin_array, begin_object, end_array, end_object, key, number, string}
 use Rattle.json.specs.Tree.{json_tokens}
-use Rattle.line_edits.specs.declared.ranges.Range.{Range}
+use Rattle.text_places.specs.declared.ranges.Range.{Range}
 use Rattle.text_outline.specs.Symbols.{Symbol}
 use Rattle.text_outline.specs.declared.fold.Fold.{Fold}
 use Rattle.editor_messages.specs.Outlines.{fold_json, symbol_number}

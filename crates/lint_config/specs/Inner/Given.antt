@@ -1,6 +1,6 @@
 -- The effect of one option.
 use Rattle.std.specs.Prelude.{ℕ, true, List, Some, Result, Ok, Err, ok_or, if◌then◌else◌}
-use Rattle.rule_lists.specs.Lists.{rules_in}
+use Rattle.lint_config.specs.Lists.{rules_in}
 use Rattle.tfrules_command.specs.Line.{naming_of_text, severity_of_text}
 use Rattle.lint_config.specs.Lines.{Options, rules_or_fault, with_value}
 use Rattle.lint_config.specs.declared.fault.ConfigFault.{ConfigFault}

@@ -1,7 +1,7 @@
 use Rattle.std.proofs.Common.{subst}
 use Rattle.json_parts.proofs.AddsLemmas.{Added, added_then}
 use Rattle.json.specs.Tree.{json_tokens}
-use Rattle.line_edits.specs.PlacedEdits.{in_range}
+use Rattle.text_places.specs.PlacedEdits.{in_range}
 use Rattle.editor_messages.specs.Replies.{edit_json}
 use Rattle.editor_messages.proofs.NamedLemmas.{one_more_seen}
 use Rattle.editor_messages.proofs.rename.write_renamings.Goals as goal

@@ -1,8 +1,8 @@
 use Rattle.std.proofs.Common.{◌∷◌, ap, map, sym}
 use Rattle.json.specs.Token.{begin_array}
 use Rattle.json_parts.proofs.AddsLemmas.{added_then, adds_as, adds_then}
-use Rattle.line_edits.specs.Edits.{edit_of}
-use Rattle.line_edits.specs.PlacedEdits.{placed_edits}
+use Rattle.text_places.specs.Edits.{edit_of}
+use Rattle.text_places.specs.PlacedEdits.{placed_edits}
 use Rattle.editor_messages.specs.Replies.{edit_json}
 use Rattle.editor_messages.proofs.EditTokenLemmas.{array_tokens}
 use Rattle.editor_messages.proofs.reply.write_array.Goals as goal

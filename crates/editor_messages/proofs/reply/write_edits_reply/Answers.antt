@@ -1,7 +1,7 @@
 use Rattle.std.specs.Prelude.{codes, map}
 use Rattle.json_parts.proofs.AddsLemmas.{added_then, adds_as, adds_then}
-use Rattle.line_edits.specs.Edits.{edit_of}
-use Rattle.line_edits.specs.PlacedEdits.{placed_edits}
+use Rattle.text_places.specs.Edits.{edit_of}
+use Rattle.text_places.specs.PlacedEdits.{placed_edits}
 use Rattle.editor_messages.specs.Replies.{edits_json}
 use Rattle.editor_messages.specs.Views.{id_seen}
 use Rattle.editor_messages.proofs.ReplyLemmas.{reply_tokens}

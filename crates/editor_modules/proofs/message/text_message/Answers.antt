@@ -2,7 +2,7 @@ use Rattle.std.proofs.Common.{◌∙◌, ap, refl, subst}
 use Rattle.std.proofs.lemmas.Result.{IfOk-weaker}
 use Rattle.std.specs.Prelude.{None, Some}
 use Rattle.hcl_source.specs.FaultTexts.{fault_text}
-use Rattle.text_faults.specs.Faults.{HasFault}
+use Rattle.module_check.specs.Faults.{HasFault}
 use Rattle.editor_modules.specs.FileDiagnostics.{refusal}
 use Rattle.editor_modules.specs.Messages.{message_of}
 use Rattle.editor_modules.specs.Told.{told_document, withdrawn}

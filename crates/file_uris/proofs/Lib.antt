@@ -1,2 +1,0 @@
-pub mod EncodeLemmas
-pub mod UriLemmas

@@ -1,5 +1,0 @@
-use Rattle.line_edits.proofs.MadeLemmas.{editors_make}
-use Rattle.line_edits.proofs.laws.editors_make_the_new_text.Goals as goal
-
-pub returns : goal.returns
-returns c = editors_make

@@ -1,3 +1,0 @@
-pub mod Edits
-pub mod Inner
-pub mod PlacedEdits

@@ -1,6 +1,0 @@
-use Rattle.std.proofs.Common.{◌∙◌}
-use Rattle.rule_lists.proofs.ListLemmas.{unnamed}
-use Rattle.rule_lists.proofs.part.rule_alone.Goals as goal
-
-pub returns-in-None : goal.returns-in-None
-returns-in-None c = λ rule. c.none-in-None.ensures rule ∙ unnamed c.args.name.now rule c.in-None.ensures

@@ -1,5 +1,0 @@
-use Rattle.text_faults.proofs.PlaceMarkLemmas.{marks_begin}
-use Rattle.text_faults.proofs.laws.marks_begin_at_their_offsets.Goals as goal
-
-pub returns : goal.returns
-returns c = marks_begin
