@@ -135,7 +135,7 @@ def not_proved(group, copy, calls, stand_in):
     group.check(
         'a crate that is not proved',
         (status, [line.split()[0] for line in out.decode().splitlines() if line.endswith(not_tried)], err),
-        (1, ['layout_laws', 'tffmt_command', 'tffmt'], b''),
+        (1, ['text_format', 'tffmt_command', 'tffmt'], b''),
     )
 
 

@@ -17,11 +17,11 @@ use Rattle.hcl_grammar.specs.Predictor.{refusal_of}
 use Rattle.hcl_grammar.specs.Classes.{lookaheads}
 use Rattle.hcl_grammar.specs.Verdict.{IsAccepted, fault_at, start_of, verdict_by}
 use Rattle.hcl_layout.specs.Print.{print}
-use Rattle.layout_laws.specs.Reprinted.{printed_tokens}
-use Rattle.layout_laws.proofs.ForgetPlaceLemmas.{seen_again}
-use Rattle.layout_laws.proofs.PrintLoadLemmas.{loads_again}
-use Rattle.layout_laws.proofs.RescanLemmas.{scans_again}
-use Rattle.layout_laws.proofs.SameLineLemmas.{lines_again, numbered_again}
+use Rattle.text_format.specs.Reprinted.{printed_tokens}
+use Rattle.text_format.proofs.ForgetPlaceLemmas.{seen_again}
+use Rattle.text_format.proofs.PrintLoadLemmas.{loads_again}
+use Rattle.text_format.proofs.RescanLemmas.{scans_again}
+use Rattle.text_format.proofs.SameLineLemmas.{lines_again, numbered_again}
 use Rattle.tf_rules.specs.Agreement.{SameTokens}
 use Rattle.tf_rules.specs.Agreement as rules
 use Rattle.tf_rules.specs.Issues.{File}

@@ -1,5 +1,5 @@
 //! A law of the definitions alone. No program calls this function: its contract is the law. The laws of a print that is
-//! scanned again are in `layout_laws`.
+//! scanned again are in `text_format`.
 
 ghost use Rattle.std.specs.Prelude.{◌≡◌, List, length};
 ghost use Rattle.hcl_tokens.specs.Lexemes.{Lexeme};

@@ -11,7 +11,7 @@ use Rattle.hcl_grammar.specs.Predictor.{refusal_of}
 use Rattle.hcl_grammar.specs.Verdict.{verdict, verdict_by}
 use Rattle.hcl_grammar.specs.declared.refusal.Refusal.{Refusal}
 use Rattle.hcl_layout.specs.Print.{print}
-use Rattle.layout_laws.proofs.PrintLoadLemmas.{loads_again}
+use Rattle.text_format.proofs.PrintLoadLemmas.{loads_again}
 use Rattle.text_format.specs.Format.{IsFault}
 
 abbrev ok_or : Scanned → Result Scanned Fault → Scanned

@@ -1,1 +1,11 @@
 pub mod FormatLemmas
+pub mod PrintGapLemmas
+pub mod FitLemmas
+pub mod RescanLemmas
+pub mod ForgetPlaceLemmas
+pub mod PrintLoadLemmas
+pub mod SameLineLemmas
+pub mod OlderScanLemmas
+pub mod OlderRunLemmas
+pub mod OlderPrintLemmas
+pub mod OlderPremiseLemmas

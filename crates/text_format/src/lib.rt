@@ -1,7 +1,8 @@
-//! The format of a text, in memory.
+//! The format of a text, in memory, and laws of a print that is scanned again, in the module [`laws`].
 #![tactic(auto)]
 
 mod format;
+pub mod laws;
 mod printed;
 
 pub use format::{format_of, print_of};

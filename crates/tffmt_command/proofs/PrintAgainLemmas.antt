@@ -13,10 +13,10 @@ use Rattle.hcl_grammar.specs.Predictor.{refusal_of}
 use Rattle.hcl_grammar.specs.Verdict.{verdict, verdict_by}
 use Rattle.hcl_grammar.specs.declared.refusal.Refusal.{Refusal}
 use Rattle.hcl_layout.specs.Print.{print}
-use Rattle.layout_laws.specs.Reprinted.{printed_tokens}
-use Rattle.layout_laws.proofs.RescanLemmas.{scans_again}
-use Rattle.layout_laws.proofs.ForgetPlaceLemmas.{print_again, seen_again}
-use Rattle.layout_laws.proofs.PrintLoadLemmas.{loads_again}
+use Rattle.text_format.specs.Reprinted.{printed_tokens}
+use Rattle.text_format.proofs.RescanLemmas.{scans_again}
+use Rattle.text_format.proofs.ForgetPlaceLemmas.{print_again, seen_again}
+use Rattle.text_format.proofs.PrintLoadLemmas.{loads_again}
 use Rattle.command_line.specs.Rows.{Row}
 use Rattle.tffmt_command.specs.Answer.{refusal_row, row_of_file, row_by, IsFileAnswer, IsAnswerBy, IsAnswer}
 use Rattle.tffmt_command.specs.Line.{options_of}

@@ -26,9 +26,9 @@ use Rattle.std.proofs.lemmas.List.Elements.{All-more, All-weaker}
 use Rattle.hcl_scan.proofs.SpellingLemmas.{one_kind}
 use Rattle.hcl_tokens.proofs.NonemptyLemmas.{nonempty}
 use Rattle.hcl_layout.specs.Print.{print}
-use Rattle.layout_laws.specs.Reprinted.{printed_tokens}
-use Rattle.layout_laws.proofs.ForgetPlaceLemmas.{print_again}
-use Rattle.layout_laws.proofs.RescanLemmas.{scans_again}
+use Rattle.text_format.specs.Reprinted.{printed_tokens}
+use Rattle.text_format.proofs.ForgetPlaceLemmas.{print_again}
+use Rattle.text_format.proofs.RescanLemmas.{scans_again}
 use Rattle.file_tree.specs.Asked.{Asked}
 use Rattle.file_tree.specs.Files.{Faults, Files, Name, fault_of_reader, with_fault, with_bytes}
 use Rattle.hcl_source.specs.Devices.{Tells}

@@ -22,10 +22,10 @@ use Rattle.hcl_tokens.specs.Scanned.{Scanned}
 use Rattle.hcl_grammar.proofs.VerdictLemmas.{accepted_as, source_of}
 use Rattle.hcl_grammar.specs.declared.refusal.Refusal.{Refusal}
 use Rattle.hcl_layout.specs.Print.{print}
-use Rattle.layout_laws.specs.Reprinted.{printed_tokens}
-use Rattle.layout_laws.proofs.PrintLoadLemmas.{loads_again}
-use Rattle.layout_laws.proofs.ForgetPlaceLemmas.{print_again, seen_again}
-use Rattle.layout_laws.proofs.RescanLemmas.{scans_again}
+use Rattle.text_format.specs.Reprinted.{printed_tokens}
+use Rattle.text_format.proofs.PrintLoadLemmas.{loads_again}
+use Rattle.text_format.proofs.ForgetPlaceLemmas.{print_again, seen_again}
+use Rattle.text_format.proofs.RescanLemmas.{scans_again}
 use Rattle.file_tree.specs.Files.{Files, Name, with_fault, with_bytes}
 use Rattle.tree_format.specs.States.{State}
 use Rattle.file_tree.specs.declared.fault.TreeFault.{TreeFault}

@@ -14,8 +14,8 @@ use Rattle.hcl_layout.specs.Cells.{is_assignment, is_trailing, is_multiline, is_
 use Rattle.hcl_layout.specs.Columns.{columns}
 use Rattle.hcl_layout.specs.Gaps.{blanks, clusters, gaps_after, indent, plain_gaps, width, widths, gap_to, set_gap, aligned_gaps_by, aligned_gaps, indented_gaps, line_gaps, gaps, zip_with}
 use Rattle.hcl_layout.specs.Print.{print, printed_text}
-use Rattle.layout_laws.specs.Reprinted.{with_gaps, printed_tokens}
-use Rattle.layout_laws.proofs.RescanLemmas.{tokens_are}
+use Rattle.text_format.specs.Reprinted.{with_gaps, printed_tokens}
+use Rattle.text_format.proofs.RescanLemmas.{tokens_are}
 
 -- a token without its place
 abbrev pub forget : Lexeme → Lexeme

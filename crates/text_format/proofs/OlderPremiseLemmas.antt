@@ -4,7 +4,7 @@ use Rattle.std.proofs.Common.{◌≢◌, ℕ, List, [], ◌∷◌, inl, inr}
 use Rattle.hcl_tokens.specs.Lexemes.{Lexeme}
 use Rattle.hcl_tokens.specs.Scans.{State, begin, Next, Run, Scans}
 use Rattle.hcl_tokens.specs.declared.token.Kind.TheVariants.{ColonColon}
-use Rattle.layout_laws.specs.Older.Tokens.{HasNoPath, WasNext, WasRun, WasScanned}
+use Rattle.text_format.specs.Older.Tokens.{HasNoPath, WasNext, WasRun, WasScanned}
 
 next_before : (s : State) (t : Lexeme) (next : State) → (t.kind ≢ ColonColon) → Next s t next → WasNext s t next
 next_before s t next pathless (inr closes) = inr closes

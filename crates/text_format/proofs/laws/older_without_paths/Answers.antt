@@ -1,6 +1,6 @@
-use Rattle.layout_laws.proofs.OlderPremiseLemmas.{scanned_before}
-use Rattle.layout_laws.proofs.OlderRunLemmas.{accepted_before}
-use Rattle.layout_laws.proofs.older_without_paths.Goals as goal
+use Rattle.text_format.proofs.OlderPremiseLemmas.{scanned_before}
+use Rattle.text_format.proofs.OlderRunLemmas.{accepted_before}
+use Rattle.text_format.proofs.laws.older_without_paths.Goals as goal
 
 pub returns-clause-scanned : goal.returns-clause-scanned
 returns-clause-scanned c = scanned_before

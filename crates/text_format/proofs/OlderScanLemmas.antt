@@ -21,7 +21,7 @@ use Rattle.hcl_scan.proofs.TemplateLemmas.{Way, lit, interp, control, quote}
 use Rattle.hcl_scan.proofs.WordLemmas.{begins_word, ident_word}
 use Rattle.hcl_scan.proofs.WayLemmas.{Ways, ways, newline, line_comment, inline_comment, blanks, ident, digits, number, heredoc, seq_close, brace_close, slash, mark, mark_passes}
 use Rattle.hcl_tokens.specs.Kinds.{is}
-use Rattle.layout_laws.specs.Older.Tokens.{WasSpelling, WasRead, WasRun, WasScanned}
+use Rattle.text_format.specs.Older.Tokens.{WasSpelling, WasRead, WasRun, WasScanned}
 
 abbrev pub starts_colon : List Lexeme → Bool
 starts_colon [] = false

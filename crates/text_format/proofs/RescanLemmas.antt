@@ -15,9 +15,9 @@ use Rattle.hcl_tokens.specs.Kinds.{is}
 use Rattle.hcl_layout.specs.Lines.{Line, lines, onto_line, ends_line}
 use Rattle.hcl_layout.specs.Gaps.{gaps, line_gaps}
 use Rattle.hcl_layout.specs.Print.{print, printed_text}
-use Rattle.layout_laws.specs.Reprinted.{with_gaps, printed_tokens}
-use Rattle.layout_laws.proofs.PrintGapLemmas.{Spread, AllSpread, spread_lines}
-use Rattle.layout_laws.proofs.FitLemmas.{Coherent, fits_here, coherent_on}
+use Rattle.text_format.specs.Reprinted.{with_gaps, printed_tokens}
+use Rattle.text_format.proofs.PrintGapLemmas.{Spread, AllSpread, spread_lines}
+use Rattle.text_format.proofs.FitLemmas.{Coherent, fits_here, coherent_on}
 
 -- ---- all gaps
 abbrev first_line : List Line → Line

@@ -14,9 +14,9 @@ use Rattle.hcl_tokens.proofs.NonemptyLemmas.{nonempty}
 use Rattle.hcl_grammar.specs.Numbered.{Numbered, number_tokens, numbered_from}
 use Rattle.hcl_grammar.specs.Verdict.{start_of}
 use Rattle.hcl_layout.specs.Print.{print}
-use Rattle.layout_laws.specs.Reprinted.{printed_tokens}
-use Rattle.layout_laws.proofs.ForgetPlaceLemmas.{forget, forgot, same_tokens}
-use Rattle.layout_laws.proofs.RescanLemmas.{scans_again}
+use Rattle.text_format.specs.Reprinted.{printed_tokens}
+use Rattle.text_format.proofs.ForgetPlaceLemmas.{forget, forgot, same_tokens}
+use Rattle.text_format.proofs.RescanLemmas.{scans_again}
 
 -- ---- tokens without their places
 numbered_forgot : (n : ℕ) (ts : List Lexeme) → numbered_from n (forgot ts) ≡ numbered_from n ts

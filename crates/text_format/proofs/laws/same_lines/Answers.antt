@@ -1,5 +1,5 @@
-use Rattle.layout_laws.proofs.SameLineLemmas.{lines_again, numbered_again}
-use Rattle.layout_laws.proofs.same_lines.Goals as goal
+use Rattle.text_format.proofs.SameLineLemmas.{lines_again, numbered_again}
+use Rattle.text_format.proofs.laws.same_lines.Goals as goal
 
 pub returns-clause-tokens : goal.returns-clause-tokens
 returns-clause-tokens c = numbered_again

@@ -18,7 +18,7 @@ use Rattle.hcl_layout.specs.Gaps.{blanks}
 use Rattle.hcl_spacing.proofs.SpacingLemmas as rows
 use Rattle.hcl_spacing.proofs.SpacingLemmas.{row_one}
 use Rattle.hcl_spacing.proofs.JoiningLemmas.{joined_separated}
-use Rattle.layout_laws.proofs.PrintGapLemmas.{is_cell, GapFor}
+use Rattle.text_format.proofs.PrintGapLemmas.{is_cell, GapFor}
 
 -- ---- one gap, the two tokens before it on the line, and the state of the scan there
 abbrev pub Coherent : Option Lexeme → Option Lexeme → Bool → Kind → Type 0

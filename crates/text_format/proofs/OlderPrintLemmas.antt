@@ -16,9 +16,9 @@ use Rattle.hcl_layout.specs.Gaps.{aligned_gaps, gaps_after, indent, line_gaps, p
 use Rattle.hcl_layout.specs.Print.{print, printed_text}
 use Rattle.hcl_tokens.specs.Kinds.{is}
 use Rattle.hcl_spacing.specs.Spacing.{begins_with_colon, closes_group, ends_operand, is_in, is_opening, opens_sequence, has_blank, would_join}
-use Rattle.layout_laws.specs.Older.Prints.{were_gaps_after, were_line_gaps, were_plain_gaps, was_print, had_blank, would_have_joined}
+use Rattle.text_format.specs.Older.Prints.{were_gaps_after, were_line_gaps, were_plain_gaps, was_print, had_blank, would_have_joined}
 use Rattle.hcl_spacing.proofs.SpacingLemmas.{row_one}
-use Rattle.layout_laws.proofs.OlderScanLemmas.{Apart, Older, colon_colon_is, coloned_is, is_coloned}
+use Rattle.text_format.proofs.OlderScanLemmas.{Apart, Older, colon_colon_is, coloned_is, is_coloned}
 
 -- ---- two neighbours
 record Meets (u t : Lexeme) : Type 0 where

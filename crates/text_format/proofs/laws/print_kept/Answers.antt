@@ -1,5 +1,5 @@
-use Rattle.layout_laws.proofs.ForgetPlaceLemmas.{print_again, seen_again}
-use Rattle.layout_laws.proofs.print_kept.Goals as goal
+use Rattle.text_format.proofs.ForgetPlaceLemmas.{print_again, seen_again}
+use Rattle.text_format.proofs.laws.print_kept.Goals as goal
 
 pub returns-clause-again : goal.returns-clause-again
 returns-clause-again c = print_again

@@ -2,16 +2,15 @@
 //! are read and printed as before. No program calls these functions: their contracts are the laws.
 //!
 //! They are separate from the layout, since they need the laws of a scan, and its code doesn't.
-#![tactic(auto)]
 
 ghost use Rattle.std.specs.Prelude.{◌≡◌, ◌≤◌, ℕ, List, length};
 ghost use Rattle.hcl_tokens.specs.Lexemes.{Lexeme};
 ghost use Rattle.hcl_tokens.specs.Scans.{Scans};
-ghost use Rattle.layout_laws.specs.Older.Prints.{was_print};
-ghost use Rattle.layout_laws.specs.Older.Rows.{WasAccepted};
-ghost use Rattle.layout_laws.specs.Older.Tokens.{HasNoPath, WasScanned};
+ghost use Rattle.text_format.specs.Older.Prints.{was_print};
+ghost use Rattle.text_format.specs.Older.Rows.{WasAccepted};
+ghost use Rattle.text_format.specs.Older.Tokens.{HasNoPath, WasScanned};
 ghost use Rattle.hcl_layout.specs.Print.{print};
-ghost use Rattle.layout_laws.specs.Reprinted.{printed_tokens};
+ghost use Rattle.text_format.specs.Reprinted.{printed_tokens};
 ghost use Rattle.hcl_grammar.specs.Classes.{lookaheads};
 ghost use Rattle.hcl_grammar.specs.Numbered.{number_tokens};
 ghost use Rattle.hcl_grammar.specs.Verdict.{IsAccepted, start_of};

@@ -1,8 +1,8 @@
 use Rattle.hcl_scan.proofs.SideBySideLemmas.{besides}
-use Rattle.layout_laws.proofs.OlderScanLemmas.{scanned_older, scanned_too}
-use Rattle.layout_laws.proofs.OlderRunLemmas.{accepted_disjoint, accepted_too}
-use Rattle.layout_laws.proofs.OlderPrintLemmas.{print_same}
-use Rattle.layout_laws.proofs.older_files.Goals as goal
+use Rattle.text_format.proofs.OlderScanLemmas.{scanned_older, scanned_too}
+use Rattle.text_format.proofs.OlderRunLemmas.{accepted_disjoint, accepted_too}
+use Rattle.text_format.proofs.OlderPrintLemmas.{print_same}
+use Rattle.text_format.proofs.laws.older_files.Goals as goal
 
 pub returns : goal.returns
 returns c = λ text ts was accepted.

@@ -26,8 +26,8 @@ use Rattle.hcl_grammar.specs.Relation.{Step, dropped, read, opened, closed, gone
 use Rattle.hcl_grammar.specs.Verdict.{IsAccepted}
 use Rattle.hcl_grammar.proofs.RelationLemmas.{answers}
 use Rattle.hcl_tokens.specs.Kinds.{is}
-use Rattle.layout_laws.specs.Older.Rows.{is_path_sign, was_turn, was_run, WasAccepted}
-use Rattle.layout_laws.proofs.OlderScanLemmas.{Apart, Older, starts_colon}
+use Rattle.text_format.specs.Older.Rows.{is_path_sign, was_turn, was_run, WasAccepted}
+use Rattle.text_format.proofs.OlderScanLemmas.{Apart, Older, starts_colon}
 
 -- ---- without the class, both tables are one
 abbrev OlderClasses : List Lookahead → Type 0

@@ -1,2 +1,0 @@
-pub mod Reprinted
-pub mod Older
