@@ -25,3 +25,9 @@ pub mod NameCostLemmas
 pub mod DeclaredTextLemmas
 pub mod ReferenceCostLemmas
 pub mod NameGrowthLemmas
+pub mod InnerLemmas
+pub mod TurnLemmas
+pub mod NamePlaceLemmas
+pub mod SegmentTurnLemmas
+pub mod ReadingLemmas
+pub mod PlainLabelLemmas

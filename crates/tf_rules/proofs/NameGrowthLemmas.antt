@@ -18,9 +18,9 @@ use Rattle.hcl_grammar.specs.Verdict.{IsAccepted}
 use Rattle.hcl_grammar.specs.declared.item.Item.{Item}
 use Rattle.hcl_grammar.specs.declared.item.Item.TheVariants as item
 use Rattle.hcl_grammar.specs.declared.item.Label.{Label}
-use Rattle.label_laws.proofs.NamePlaceLemmas.{IsDisjoint, disjoint, disjoint_on, begins_dot, follows_dot, first, is_disjoint}
-use Rattle.label_laws.proofs.SegmentTurnLemmas.{AllGood, Good}
-use Rattle.label_laws.proofs.PlainLabelLemmas.{file_good}
+use Rattle.tf_rules.proofs.NamePlaceLemmas.{IsDisjoint, disjoint, disjoint_on, begins_dot, follows_dot, first, is_disjoint}
+use Rattle.tf_rules.proofs.SegmentTurnLemmas.{AllGood, Good}
+use Rattle.tf_rules.proofs.PlainLabelLemmas.{file_good}
 use Rattle.tf_facts.specs.Declarations.{Declaration, SourceAt, declarations}
 use Rattle.tf_facts.specs.References.{variable_blocks, references}
 use Rattle.tf_rules.specs.Growth.{bytes, name_bytes, source_texts, declared_texts}

@@ -8,5 +8,6 @@ pub mod StoredIssues
 pub mod Growth
 pub mod Answers
 pub mod Agreement
+pub mod AsWritten
 pub mod Examples
 pub mod Inner

@@ -1,12 +1,18 @@
 //! Laws about the definitions alone. No program calls these functions: their contracts are the laws.
 
-ghost use Rattle.std.specs.Prelude.{◌≡◌, ◌++◌, ◌∷◌, ◌+◌, ◌≤◌, ◌<◌, [], ℕ, List, length};
+ghost use Rattle.std.specs.Prelude.{◌≡◌, ◌++◌, ◌∷◌, ◌+◌, ◌≤◌, ◌<◌, [], ℕ, List, Some, length, slice_get};
 ghost use Rattle.std.specs.List.{AllZip};
 ghost use Rattle.tf_rules.specs.Issues.{Asked, File, Issue, IsReport, issues};
 ghost use Rattle.tf_rules.specs.Agreement.{SameTokens, told_all};
 ghost use Rattle.hcl_tokens.specs.Lexemes.{Lexeme};
 ghost use Rattle.hcl_tokens.specs.Scans.{Scans};
 ghost use Rattle.hcl_grammar.specs.Verdict.{IsAccepted, start_of};
+ghost use Rattle.hcl_grammar.specs.Items.{outline};
+ghost use Rattle.hcl_grammar.specs.Labels.{label_text};
+ghost use Rattle.hcl_grammar.specs.Numbered.{number_tokens};
+ghost use Rattle.hcl_grammar.specs.declared.item.Item.TheVariants as item;
+ghost use Rattle.hcl_grammar.specs.declared.item.Label.{Label};
+ghost use Rattle.tf_rules.specs.AsWritten.{IsAsWritten, between_quotes};
 ghost use Rattle.tf_rules.specs.Growth.{entries, name_bytes};
 ghost use Rattle.tf_rules.specs.Stored.{Stored, stored_of, with_file};
 ghost use Rattle.tf_rules.specs.StoredIssues.{issues_of_stored};
@@ -62,4 +68,12 @@ pub fn reports_agree()
 pub fn starts_rise()
     ensures { (text : List ℕ) (tokens : List Lexeme) → Scans text tokens → (i j : ℕ) → i ≤ j
         → j < length tokens → start_of tokens i ≤ start_of tokens j }
+{}
+
+/// Between the quotes of a label of a file there is nothing, or one literal, which is its text as written.
+pub fn one_literal()
+    ensures { (text : List ℕ) (tokens : List Lexeme) → Scans text tokens → IsAccepted tokens
+        → (i : ℕ) (l : Label) → slice_get (outline tokens) i ≡ Some (item.Label l)
+        → l.first < l.last → IsAsWritten (between_quotes (number_tokens tokens) l)
+        (label_text (number_tokens tokens) l) }
 {}

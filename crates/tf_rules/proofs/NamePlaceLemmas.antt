@@ -17,8 +17,8 @@ use Rattle.hcl_grammar.specs.declared.expected.Terminal.{Terminal}
 use Rattle.hcl_grammar.specs.declared.expected.Terminal.TheVariants.{Name}
 use Rattle.hcl_grammar.specs.declared.expected.Section.TheVariants.{InIf, InElse, InFor}
 use Rattle.hcl_grammar.specs.declared.refusal.Refusal.TheVariants.{UnexpectedToken}
-use Rattle.label_laws.proofs.InnerLemmas.{landed, stopped}
-use Rattle.label_laws.proofs.TurnLemmas.{Place, line, labelled, started, named, turn}
+use Rattle.tf_rules.proofs.InnerLemmas.{landed, stopped}
+use Rattle.tf_rules.proofs.TurnLemmas.{Place, line, labelled, started, named, turn}
 
 abbrev pub begins_dot : List Numbered → Bool
 begins_dot [] = false

@@ -25,10 +25,10 @@ use Rattle.hcl_grammar.proofs.UnclosedLemmas.{HaveNumbers, Shift, unclosed_in_al
 use Rattle.hcl_grammar.proofs.RowLemmas.{unclosed_in_all-append}
 use Rattle.hcl_grammar.proofs.MoveLemmas.{EffectMoves, effect-moves}
 use Rattle.hcl_grammar.proofs.BalancedRowLemmas.{counted, groups, shifted}
-use Rattle.label_laws.proofs.InnerLemmas.{AreInner, Passes, inner_ends, inner_passes, landed, newline_passes, stopped}
-use Rattle.label_laws.proofs.NamePlaceLemmas.{Follows, IsDisjoint, disjoint, disjoint_on, follows_dot, is_name, name_disjoint, name_next, step_stays, steps}
-use Rattle.label_laws.proofs.TurnLemmas.{Place, line, labelled, quoted, written, started, named, single, value, ended, turn}
-use Rattle.label_laws.proofs.SegmentTurnLemmas.{Adjoins, Begins, Leads, Stands, Stops, Within, in_quotes}
+use Rattle.tf_rules.proofs.InnerLemmas.{AreInner, Passes, inner_ends, inner_passes, landed, newline_passes, stopped}
+use Rattle.tf_rules.proofs.NamePlaceLemmas.{Follows, IsDisjoint, disjoint, disjoint_on, follows_dot, is_name, name_disjoint, name_next, step_stays, steps}
+use Rattle.tf_rules.proofs.TurnLemmas.{Place, line, labelled, quoted, written, started, named, single, value, ended, turn}
+use Rattle.tf_rules.proofs.SegmentTurnLemmas.{Adjoins, Begins, Leads, Stands, Stops, Within, in_quotes}
 
 -- ---- the place, by the symbols
 

@@ -10,15 +10,15 @@ use Rattle.hcl_tokens.specs.declared.token.Kind.{Kind}
 use Rattle.hcl_tokens.specs.declared.token.Kind.TheVariants as kind
 use Rattle.hcl_grammar.specs.Items.{after_brace, block, block_end, body, closing_quote, deepen, is_closed, item_of, items, label_at, labels, onto, segments}
 use Rattle.hcl_grammar.specs.Labels.{first_literal, label_text, text_of}
-use Rattle.label_laws.specs.AsWritten.{IsAsWritten, between_quotes}
+use Rattle.tf_rules.specs.AsWritten.{IsAsWritten, between_quotes}
 use Rattle.hcl_grammar.specs.Numbered.{Numbered, end_of}
 use Rattle.hcl_grammar.specs.declared.item.Item.{Item}
 use Rattle.hcl_grammar.specs.declared.item.Item.TheVariants as item
 use Rattle.hcl_grammar.specs.declared.item.Label.{Label}
 use Rattle.hcl_grammar.proofs.ItemOrderLemmas.{AllRise, Rises, segments_rise, rises_wide}
-use Rattle.label_laws.proofs.TurnLemmas.{Place, line, labelled, started, named, single, value, ended, level, inside, depth, may_end, may_stop, is_line, turn, goes, Goes, IsLeft, Turns, breaks, moves, turns, from_line, from_labels, from_quote, from_literal, from_start, from_name}
-use Rattle.label_laws.proofs.NamePlaceLemmas.{IsDisjoint, is_name}
-use Rattle.label_laws.proofs.TurnLemmas as at
+use Rattle.tf_rules.proofs.TurnLemmas.{Place, line, labelled, started, named, single, value, ended, level, inside, depth, may_end, may_stop, is_line, turn, goes, Goes, IsLeft, Turns, breaks, moves, turns, from_line, from_labels, from_quote, from_literal, from_start, from_name}
+use Rattle.tf_rules.proofs.NamePlaceLemmas.{IsDisjoint, is_name}
+use Rattle.tf_rules.proofs.TurnLemmas as at
 
 abbrev pub in_quotes : Place → Bool
 in_quotes (at.quoted k) = true

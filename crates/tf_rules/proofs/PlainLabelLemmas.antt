@@ -6,16 +6,16 @@ use Rattle.hcl_tokens.specs.Lexemes.{Lexeme}
 use Rattle.hcl_tokens.specs.Scans.{Scans}
 use Rattle.hcl_grammar.specs.Items.{outline, segments}
 use Rattle.hcl_grammar.specs.Labels.{label_text}
-use Rattle.label_laws.specs.AsWritten.{IsAsWritten, between_quotes}
+use Rattle.tf_rules.specs.AsWritten.{IsAsWritten, between_quotes}
 use Rattle.hcl_grammar.specs.Numbered.{Numbered, is_comment, number_tokens, without_comments}
 use Rattle.hcl_grammar.specs.Verdict.{IsAccepted}
 use Rattle.hcl_grammar.specs.declared.item.Item.{Item}
 use Rattle.hcl_grammar.specs.declared.item.Item.TheVariants as item
 use Rattle.hcl_grammar.specs.declared.item.Label.{Label}
 use Rattle.hcl_grammar.proofs.ItemOrderLemmas.{Rises, rises_filter, rises_numbered}
-use Rattle.label_laws.proofs.TurnLemmas.{line, depth}
-use Rattle.label_laws.proofs.SegmentTurnLemmas.{AllGood, Good, Segments, cut, items_good}
-use Rattle.label_laws.proofs.ReadingLemmas.{whole_file}
+use Rattle.tf_rules.proofs.TurnLemmas.{line, depth}
+use Rattle.tf_rules.proofs.SegmentTurnLemmas.{AllGood, Good, Segments, cut, items_good}
+use Rattle.tf_rules.proofs.ReadingLemmas.{whole_file}
 
 good_at : (all : List Numbered) (is : List Item) (n : ℕ) (i : Item) → AllGood all is → slice_get is n ≡ Some i → Good all i
 good_at all [] n i h e = absurd (let f : None ≡ Some i = e in cc)
