@@ -3,9 +3,9 @@
 use crate::checks::{holds, push_copies, same_bytes, with_copies};
 use crate::devices::{sink, source};
 use hcl_source::{ByteSource, MemorySink, MemorySource, SINK_ROOM};
-use message_frames::{Inbox, Received, receive, write_frame};
 use std::alloc::Global;
 use std::process::Abort;
+use tfls_command::{Inbox, Received, receive, write_frame};
 
 /// Why no more is received.
 fn ending(received: &Received) -> &'static [u8] {

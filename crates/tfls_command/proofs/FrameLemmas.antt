@@ -2,7 +2,7 @@
 use Rattle.std.proofs.Common.{◌≡◌, ◌∙◌, ◌++◌, ◌+◌, ◌<◌, ℕ, List, ap, drop, get_or, length, map, sym}
 use Rattle.command_line.proofs.ListCutLemmas.{from_here}
 use Rattle.editor_modules.specs.declared.message.ToldMessage.{ToldMessage}
-use Rattle.message_frames.specs.Frames.{frame}
+use Rattle.tfls_command.specs.Frames.{frame}
 use Rattle.tfls_command.specs.Runs.{frames}
 
 -- the frames from a message on are its own and those after it

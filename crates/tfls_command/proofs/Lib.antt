@@ -2,3 +2,8 @@ pub mod AnswerLemmas
 pub mod FrameLemmas
 pub mod RunLemmas
 pub mod TurnLemmas
+pub mod HeadLemmas
+pub mod LawLemmas
+pub mod LengthLemmas
+pub mod OutgoingLemmas
+pub mod StreamLemmas

@@ -7,9 +7,9 @@ use Rattle.file_tree.specs.Files.{Files}
 use Rattle.command_line.specs.Rows.{TookBy, Writer}
 use Rattle.command_line.proofs.WriterLemmas.{all_taken, took_after, took_all}
 use Rattle.editor_session.specs.Sessions.{Session, new_session}
-use Rattle.message_frames.specs.Frames.{head_end}
-use Rattle.message_frames.specs.Streams.{Begins, Messages}
-use Rattle.message_frames.proofs.LawLemmas.{head_stays}
+use Rattle.tfls_command.specs.Frames.{head_end}
+use Rattle.tfls_command.specs.Streams.{Begins, Messages}
+use Rattle.tfls_command.proofs.LawLemmas.{head_stays}
 use Rattle.tfls_command.specs.Inner.Turns.{GoesOn, TakesTurn}
 use Rattle.tfls_command.specs.Runs.{HasEnded, HasServed, Runs}
 use Rattle.tfls_command.specs.declared.ending.Ending.{Ending}

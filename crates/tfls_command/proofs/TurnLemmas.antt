@@ -9,8 +9,8 @@ use Rattle.editor_session.specs.Sessions.{Session}
 use Rattle.editor_session.specs.Steps.{Steps}
 use Rattle.editor_session.specs.declared.turn.Turn.{Turn}
 use Rattle.editor_session.specs.declared.turn.Turn.TheVariants as turns
-use Rattle.message_frames.specs.Frames.{frame}
-use Rattle.message_frames.specs.Streams.{Begins, Messages}
+use Rattle.tfls_command.specs.Frames.{frame}
+use Rattle.tfls_command.specs.Streams.{Begins, Messages}
 use Rattle.tfls_command.specs.Inner.Turns.{EndsTurn, IsSent, TakenBy, TakesTurn, turn_text}
 use Rattle.tfls_command.specs.Runs.{HasEnded, IsUnasked, frames}
 use Rattle.tfls_command.specs.declared.ending.Ending.{Ending}

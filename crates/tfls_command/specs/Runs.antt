@@ -7,10 +7,10 @@ use Rattle.editor_session.specs.Sessions.{Session, new_session}
 use Rattle.editor_session.specs.Steps.{Steps}
 use Rattle.editor_session.specs.declared.turn.Turn.{Turn}
 use Rattle.editor_session.specs.declared.turn.Turn.TheVariants as turn
-use Rattle.message_frames.specs.Frames.{frame}
-use Rattle.message_frames.specs.Fronts.{front_of}
-use Rattle.message_frames.specs.Streams.{Messages}
-use Rattle.message_frames.specs.declared.front.Front.TheVariants.{Partial, Malformed}
+use Rattle.tfls_command.specs.Frames.{frame}
+use Rattle.tfls_command.specs.Fronts.{front_of}
+use Rattle.tfls_command.specs.Streams.{Messages}
+use Rattle.tfls_command.specs.declared.front.Front.TheVariants.{Partial, Malformed}
 use Rattle.tfls_command.specs.declared.ending.Ending.{Ending}
 use Rattle.tfls_command.specs.declared.ending.Ending.TheVariants as ending
 

@@ -8,10 +8,12 @@ ghost use Rattle.tfls_command.specs.Runs.{HasServed, frames};
 
 use crate::ending::Ending;
 use crate::host::Host;
+use crate::inbox::Inbox;
+use crate::incoming::{Received, receive};
+use crate::outgoing::write_frame;
 use editor_modules::ToldMessage;
 use editor_session::{Session, Turn};
 use hcl_source::{ByteSink, ByteSource, Failed};
-use message_frames::{Inbox, Received, receive, write_frame};
 use open_files::Disk;
 use std::alloc::Global;
 

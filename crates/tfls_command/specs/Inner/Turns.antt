@@ -6,8 +6,8 @@ use Rattle.command_line.specs.Rows.{Took, Writer}
 use Rattle.editor_session.specs.Sessions.{Session}
 use Rattle.editor_session.specs.declared.turn.Turn.{Turn}
 use Rattle.editor_session.specs.declared.turn.Turn.TheVariants as turn
-use Rattle.message_frames.specs.Frames.{frame}
-use Rattle.message_frames.specs.Streams.{Begins, Messages}
+use Rattle.tfls_command.specs.Frames.{frame}
+use Rattle.tfls_command.specs.Streams.{Begins, Messages}
 use Rattle.tfls_command.specs.Runs.{HasEnded, Runs, frames}
 use Rattle.tfls_command.specs.declared.ending.Ending.{Ending}
 use Rattle.tfls_command.specs.declared.ending.Ending.TheVariants as ending

@@ -1,5 +1,0 @@
-pub mod HeadLemmas
-pub mod LawLemmas
-pub mod LengthLemmas
-pub mod OutgoingLemmas
-pub mod StreamLemmas

@@ -1,5 +1,0 @@
-use Rattle.std.proofs.Common.{append-nil}
-use Rattle.message_frames.proofs.outgoing.write_message.Goals as goal
-
-pub returns-clause-took : goal.returns-clause-took
-returns-clause-took g c = simp (append-nil, c.as_bytes-length.ensures.value, c.format.ensures.text) at c.write_parts.ensures.took

@@ -1,4 +1,0 @@
-pub mod Frames
-pub mod Fronts
-pub mod Inner
-pub mod Streams
