@@ -5,7 +5,7 @@ use Rattle.std.specs.declared.vec.Vec.{Vec}
 use Rattle.std.specs.Io.KnownBytes.{Consumes}
 use Rattle.std.proofs.lemmas.Grind.{flat_map-append}
 use Rattle.std.proofs.lemmas.List.{get_or_default, map-append, take-append-drop}
-use Rattle.comment_faults.specs.CommentFaults.{fault_view, faults_in}
+use Rattle.tree_lint.specs.CommentFaults.{fault_view, faults_in}
 use Rattle.command_line.proofs.ListCutLemmas.{from_here}
 use Rattle.file_tree.specs.Files.{Faults, Files, Name, Tells, fault_of_reader, with_fault}
 use Rattle.file_tree.specs.declared.fault.TreeFault.{TreeFault}

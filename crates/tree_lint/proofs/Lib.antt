@@ -1,5 +1,7 @@
+pub mod CommentLemmas
 mod FileLemmas
 pub mod KeptLemmas
+pub mod NameLemmas
 mod PartedLemmas
 mod ShownLemmas
 mod TreeRunLemmas

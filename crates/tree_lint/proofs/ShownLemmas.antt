@@ -1,8 +1,8 @@
 -- The output and the messages for one module.
 use Rattle.std.proofs.Common.{◌≡◌, ◌∙◌, ◌<◌, ◌+◌, ◌++◌, ◌∷◌, [], ℕ, Bool, true, false, Global, List, Option, ap, append-nil, arith, drop, eqb-true, flat_map, get_or, inl, inr, length, map, refl, subst, sym}
 use Rattle.std.specs.Prelude.{◌==◌, ◌&&◌, None, Ok, Err, String, if◌then◌else◌, not, string_bytes}
-use Rattle.comment_faults.specs.CommentFaults.{fault_view}
-use Rattle.comment_faults.specs.declared.fault.CommentFault as code
+use Rattle.tree_lint.specs.CommentFaults.{fault_view}
+use Rattle.tree_lint.specs.declared.comment_fault.CommentFault as code
 use Rattle.command_line.specs.Rows.{TookBy, Writer}
 use Rattle.command_line.proofs.WriterLemmas.{appends_nothing}
 use Rattle.command_line.proofs.ListCutLemmas.{from_here}

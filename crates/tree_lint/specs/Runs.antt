@@ -2,7 +2,7 @@
 -- one another. Our own choice.
 use Rattle.std.specs.Prelude.{◌≡◌, ◌||◌, ◌&&◌, ◌==◌, ℕ, Bool, false, not, List, [], ◌∷◌, ◌++◌, Option, Some, None, Ok, Err, flat_map, fold, get_or, length, map, max, if◌then◌else◌}
 use Rattle.std.specs.List.{list_any}
-use Rattle.comment_faults.specs.CommentFaults.{CommentFault}
+use Rattle.tree_lint.specs.CommentFaults.{CommentFault}
 use Rattle.command_line.specs.Rows.{End, Took}
 use Rattle.file_tree.specs.Files.{Faults, Files, Name}
 use Rattle.file_tree.specs.Quotes.{shown_name}

@@ -2,7 +2,7 @@
 -- they are checked; or it is refused, for a reason. The choice of the reason that is reported is our own.
 use Rattle.std.specs.Prelude.{◌≡◌, ◌⊎◌, ◌||◌, ◌≤◌, ◌<◌, ◌+◌, ℕ, Bool, true, false, List, [], ◌∷◌, ◌++◌, Option, Some, Result, Ok, Err, codes, if◌then◌else◌, length, map, string_bytes}
 use Rattle.hcl_grammar.specs.Verdict.{IsTextVerdict}
-use Rattle.comment_faults.specs.CommentFaults.{CommentFault, comment_faults}
+use Rattle.tree_lint.specs.CommentFaults.{CommentFault, comment_faults}
 use Rattle.file_tree.specs.FaultTexts.{tree_fault_text}
 use Rattle.file_tree.specs.Files.{Faults, Files, Name, Tells, with_fault}
 use Rattle.file_tree.specs.Paths.{place}

@@ -1,7 +1,7 @@
 //! The files of a module, read one after another.
 
 ghost use Rattle.std.specs.Prelude.{◌≡◌, ◌≤◌, ◌++◌, [], OnOk, false, length, map, string_bytes};
-ghost use Rattle.comment_faults.specs.CommentFaults.{fault_view};
+ghost use Rattle.tree_lint.specs.CommentFaults.{fault_view};
 ghost use Rattle.tfrules_command.specs.Files.{max_module};
 ghost use Rattle.tfrules_command.specs.Line.{max_files};
 ghost use Rattle.tree_lint.specs.Readers.{Leaves, has_reader_out};
@@ -9,11 +9,12 @@ ghost use Rattle.tree_lint.specs.Verdicts.{shows_lines, bytes_of_name};
 ghost use Rattle.tree_lint.specs.Inner.Gathering.{AddsComments, AddsFile, AddsRead, Gathers, IsEmpty, KeepsFile, KeepsScanned, StopsWith, texts_kept};
 ghost use Rattle.tree_lint.specs.Inner.Showing.{linted_view};
 
+use crate::comment_fault::CommentFault;
+use crate::comments::add_comment_faults;
 use crate::linted::Linted;
 use crate::module_tree::ModuleTree;
 use crate::stop::{Stop, Stopped};
 use crate::written::Terminals;
-use comment_faults::{CommentFault, add_comment_faults};
 use file_tree::fault::TreeFault;
 use file_tree::tree::Tree;
 use hcl_scan::{Source, Tokens};

@@ -1,14 +1,14 @@
 //! The issues and the comments of a module, as remarks.
 
 ghost use Rattle.std.specs.Prelude.{◌≡◌, ◌++◌, [], IfOk, OnOk, Some, get_or, map, string_bytes};
-ghost use Rattle.comment_faults.specs.CommentFaults.{fault_view};
+ghost use Rattle.tree_lint.specs.CommentFaults.{fault_view};
 ghost use Rattle.lint_forms.specs.Remarks.{said_by};
 ghost use Rattle.tree_lint.specs.Inner.Showing.{linted_view};
 ghost use Rattle.tree_lint.specs.Runs.{comment_remark, issue_remark, remarks_by};
 ghost use Rattle.lint_forms.specs.Forms.{module_text};
 
+use crate::comment_fault::CommentFault;
 use crate::linted::Linted;
-use comment_faults::CommentFault;
 use lint_forms::form::module_text;
 use lint_forms::{Form, Remark, Subject};
 use std::alloc::{AllocError, Global};

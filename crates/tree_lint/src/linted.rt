@@ -6,8 +6,8 @@ ghost use Rattle.tree_lint.specs.Inner.Showing.{is_nothing, linted_view};
 ghost use Rattle.tfrules_command.specs.Report.{status};
 ghost use Rattle.tree_lint.specs.Runs.{failing_under};
 
+use crate::comment_fault::CommentFault;
 use crate::policy::Policy;
-use comment_faults::CommentFault;
 use hcl_scan::Source;
 use lint_forms::Form;
 use tf_rules::IssueList;

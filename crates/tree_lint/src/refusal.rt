@@ -7,8 +7,8 @@ ghost use Rattle.tree_lint.specs.Refusals.{named_words, refusal_line, refusal_of
 ghost use Rattle.tree_lint.specs.Faults.{fault_lines, refusal_by};
 ghost use Rattle.tree_lint.specs.Inner.Showing.{comment_refusal};
 
+use crate::comment_fault::CommentFault;
 use command_line::write_parts;
-use comment_faults::CommentFault;
 use file_tree::fault::TreeFault;
 use file_tree::quote::write_quoted;
 use file_tree::walk::Found;

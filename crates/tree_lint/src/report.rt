@@ -2,7 +2,7 @@
 
 ghost use Rattle.std.specs.Prelude.{◌≡◌, ◌∷◌, [], None, OnErr, OnOk, true, false, flat_map, is_err, map, string_bytes};
 ghost use Rattle.command_line.specs.Rows.{Took, writer};
-ghost use Rattle.comment_faults.specs.CommentFaults.{fault_view};
+ghost use Rattle.tree_lint.specs.CommentFaults.{fault_view};
 ghost use Rattle.lint_forms.specs.Forms.{module_text};
 ghost use Rattle.tree_lint.specs.Parted.{after_empty_line};
 ghost use Rattle.tree_lint.specs.Refusals.{refusal_line, refusal_view};

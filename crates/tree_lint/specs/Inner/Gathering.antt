@@ -1,7 +1,7 @@
 -- The progress of a run over the files of a module.
 use Rattle.std.specs.Prelude.{◌≡◌, ◌≤◌, ◌+◌, ◌++◌, ◌∷◌, [], ℕ, Bool, false, List, Option, Result, Ok, Err, if◌then◌else◌, length, map}
 use Rattle.hcl_grammar.specs.Verdict.{IsTextVerdict}
-use Rattle.comment_faults.specs.CommentFaults.{fault_view}
+use Rattle.tree_lint.specs.CommentFaults.{fault_view}
 use Rattle.file_tree.specs.Files.{Faults, Name, Tells}
 use Rattle.file_tree.specs.declared.fault.TreeFault.TheVariants.{OutOfMemory, ReadFailed}
 use Rattle.hcl_source.specs.Load.{IsLoadFault, IsText}

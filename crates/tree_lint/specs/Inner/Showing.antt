@@ -1,7 +1,7 @@
 -- The output and the messages for one module.
 use Rattle.std.specs.Prelude.{◌≡◌, ◌⊎◌, ◌==◌, ◌&&◌, ℕ, Bool, false, List, [], ◌∷◌, Some, Ok, Err, length, map}
-use Rattle.comment_faults.specs.CommentFaults.{fault_view}
-use Rattle.comment_faults.specs.declared.fault.CommentFault as found
+use Rattle.tree_lint.specs.CommentFaults.{fault_view}
+use Rattle.tree_lint.specs.declared.comment_fault.CommentFault as found
 use Rattle.command_line.specs.Rows.{Took, Writer}
 use Rattle.file_tree.specs.Files.{Name}
 use Rattle.module_find.specs.declared.module.Module.{Module}

@@ -1,6 +1,6 @@
 use Rattle.std.proofs.Common.{◌≡◌, ◌++◌, map, take}
 use Rattle.std.specs.Prelude.{string_bytes}
-use Rattle.comment_faults.specs.CommentFaults.{fault_view}
+use Rattle.tree_lint.specs.CommentFaults.{fault_view}
 use Rattle.lint_forms.specs.Remarks.{said_by}
 use Rattle.tree_lint.specs.Runs.{comment_remark}
 use Rattle.tree_lint.proofs.issue_remarks.add_comments.Given as goal

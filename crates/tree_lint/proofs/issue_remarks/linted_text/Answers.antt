@@ -1,6 +1,6 @@
 use Rattle.std.proofs.Common.{◌≡◌, ◌∙◌, ◌++◌, ap, map, subst}
 use Rattle.std.specs.Prelude.{IfOk, string_bytes}
-use Rattle.comment_faults.specs.CommentFaults.{fault_view}
+use Rattle.tree_lint.specs.CommentFaults.{fault_view}
 use Rattle.lint_forms.specs.Forms.{module_text}
 use Rattle.lint_forms.specs.Remarks.{said_by}
 use Rattle.tree_lint.specs.Runs.{comment_remark, issue_remark}

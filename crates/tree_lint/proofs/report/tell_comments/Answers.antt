@@ -1,8 +1,8 @@
 use Rattle.std.proofs.Common.{List, ℕ, ◌∙◌, ◌≤◌, ap, arith, length, map}
 use Rattle.std.specs.Prelude.{[], flat_map, get_or, string_bytes}
 use Rattle.std.proofs.lemmas.List.{drop_all}
-use Rattle.comment_faults.specs.CommentFaults.{fault_view}
-use Rattle.comment_faults.specs.declared.fault.CommentFault.{CommentFault}
+use Rattle.tree_lint.specs.CommentFaults.{fault_view}
+use Rattle.tree_lint.specs.declared.comment_fault.CommentFault.{CommentFault}
 use Rattle.command_line.proofs.WriterLemmas.{all_taken, goes_all, goes_on, goes_wrong}
 use Rattle.source_snippet.specs.Snippets.{snippet_if}
 use Rattle.tfrules_command.proofs.ReportPartLemmas.{retold}

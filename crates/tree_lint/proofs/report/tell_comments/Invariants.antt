@@ -1,6 +1,6 @@
 use Rattle.std.proofs.Common.{◌≡◌, false, drop, map}
 use Rattle.std.specs.Prelude.{flat_map, string_bytes}
-use Rattle.comment_faults.specs.CommentFaults.{fault_view}
+use Rattle.tree_lint.specs.CommentFaults.{fault_view}
 use Rattle.command_line.proofs.WriterLemmas.{Goes}
 use Rattle.tree_lint.specs.Runs.{comment_line}
 use Rattle.tree_lint.proofs.report.tell_comments.Given as goal

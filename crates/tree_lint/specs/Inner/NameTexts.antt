@@ -1,7 +1,7 @@
 -- The growth of a text about names.
 use Rattle.std.specs.Prelude.{ℕ, List, [], ◌∷◌, ◌++◌, codes, if◌then◌else◌}
 use Rattle.file_tree.specs.Quotes.{in_quotes}
-use Rattle.comment_faults.specs.CommentTexts.{is_known}
+use Rattle.tree_lint.specs.CommentTexts.{is_known}
 
 abbrev pub before_name : List ℕ → List ℕ
 before_name [] = codes "no rule is called "

@@ -14,10 +14,10 @@ use Rattle.hcl_tokens.specs.declared.token.Kind.TheVariants.{LineComment}
 use Rattle.tf_rules.specs.Issues.{File, place_in}
 use Rattle.tf_rules.specs.Walked.{Walked}
 use Rattle.tf_rules.proofs.StartLemmas.{starts_rise}
-use Rattle.comment_faults.specs.CommentFaults.{CommentFault, fault_of, fault_view, is_some_text}
-use Rattle.comment_faults.specs.CommentTexts.{fault_text}
-use Rattle.comment_faults.specs.Inner.Looking.{Adds, IsBefore, number_of}
-use Rattle.comment_faults.specs.declared.fault.CommentFault as code
+use Rattle.tree_lint.specs.CommentFaults.{CommentFault, fault_of, fault_view, is_some_text}
+use Rattle.tree_lint.specs.CommentTexts.{fault_text}
+use Rattle.tree_lint.specs.Inner.Looking.{Adds, IsBefore, number_of}
+use Rattle.tree_lint.specs.declared.comment_fault.CommentFault as code
 
 -- ---- one token
 

@@ -7,8 +7,8 @@ use Rattle.hcl_source.specs.declared.fault.Position.{Position}
 use Rattle.hcl_tokens.specs.Kinds.{is}
 use Rattle.hcl_tokens.specs.declared.token.Kind.TheVariants.{LineComment}
 use Rattle.tf_rules.specs.Issues.{File, place_in, tokens_of}
-use Rattle.comment_faults.specs.CommentTexts.{fault_text}
-use Rattle.comment_faults.specs.declared.fault.CommentFault as code
+use Rattle.tree_lint.specs.CommentTexts.{fault_text}
+use Rattle.tree_lint.specs.declared.comment_fault.CommentFault as code
 
 -- the number of the comment's file, its place, and its message
 pub record CommentFault : Type 0 where

@@ -3,10 +3,10 @@ use Rattle.std.specs.Prelude.{string_bytes}
 use Rattle.std.specs.Str.Lossy.{utf8_lossy}
 use Rattle.std.proofs.lemmas.List.{map-append}
 use Rattle.hcl_tokens.specs.Scanned.{lexeme}
-use Rattle.comment_faults.specs.CommentFaults.{fault_view}
-use Rattle.comment_faults.specs.CommentTexts.{fault_text}
-use Rattle.comment_faults.proofs.CommentLemmas.{said_here}
-use Rattle.comment_faults.proofs.comments.add_of_comment.Goals as goal
+use Rattle.tree_lint.specs.CommentFaults.{fault_view}
+use Rattle.tree_lint.specs.CommentTexts.{fault_text}
+use Rattle.tree_lint.proofs.CommentLemmas.{said_here}
+use Rattle.tree_lint.proofs.comments.add_of_comment.Goals as goal
 
 pub returns-clause-adds : goal.returns-clause-adds
 returns-clause-adds c =

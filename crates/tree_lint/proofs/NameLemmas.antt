@@ -11,8 +11,8 @@ use Rattle.rule_set.specs.declared.rule.Rule.{Rule}
 use Rattle.rule_set.specs.declared.rule.Rule.TheVariants.{CommentSyntax, DeprecatedIndex, DeprecatedInterpolation, DocumentedOutputs, DocumentedVariables, ModulePinnedSource, ModuleVersion, NamingConvention, TypedVariables, UnusedDeclarations}
 use Rattle.tf_facts.specs.Silencing.{names}
 use Rattle.tf_facts.proofs.NamedRuleLemmas.{names_none, names_one}
-use Rattle.comment_faults.specs.CommentTexts.{is_known, or_name, unknown_text}
-use Rattle.comment_faults.specs.Inner.Growth.{with_name, with_unknown}
+use Rattle.tree_lint.specs.CommentTexts.{is_known, or_name, unknown_text}
+use Rattle.tree_lint.specs.Inner.NameTexts.{with_name, with_unknown}
 
 -- ---- names of rules
 

@@ -4,11 +4,11 @@ ghost use Rattle.std.specs.Prelude.{◌≡◌, ◌<◌, ◌++◌, OnOk, Some, le
 ghost use Rattle.hcl_tokens.specs.Kinds.{is};
 ghost use Rattle.hcl_tokens.specs.Lexemes.{Lexeme};
 ghost use Rattle.hcl_tokens.specs.declared.token.Kind.TheVariants.{LineComment};
-ghost use Rattle.comment_faults.specs.CommentFaults.{fault_view, faults_in};
-ghost use Rattle.comment_faults.specs.Inner.Looking.{Adds, IsBefore};
+ghost use Rattle.tree_lint.specs.CommentFaults.{fault_view, faults_in};
+ghost use Rattle.tree_lint.specs.Inner.Looking.{Adds, IsBefore};
 
-use crate::fault::CommentFault;
-use crate::text::fault_text;
+use crate::comment_fault::CommentFault;
+use crate::comment_text::fault_text;
 use hcl_tokens::{Kind, Tokens};
 use std::alloc::{AllocError, Global};
 use tf_rules::PositionCursor;

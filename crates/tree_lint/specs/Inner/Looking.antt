@@ -6,8 +6,8 @@ use Rattle.hcl_tokens.specs.Lexemes.{Lexeme}
 use Rattle.hcl_tokens.specs.Scanned.{Scanned}
 use Rattle.tf_rules.specs.Issues.{File}
 use Rattle.tf_rules.specs.Walked.{Walked}
-use Rattle.comment_faults.specs.CommentFaults.{fault_of, fault_view}
-use Rattle.comment_faults.specs.declared.fault.CommentFault as code
+use Rattle.tree_lint.specs.CommentFaults.{fault_of, fault_view}
+use Rattle.tree_lint.specs.declared.comment_fault.CommentFault as code
 
 -- a token under a number
 abbrev pub number_of : ℕ → Lexeme → Numbered

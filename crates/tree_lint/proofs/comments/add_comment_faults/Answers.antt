@@ -1,6 +1,6 @@
 use Rattle.tf_facts.proofs.PatternLemmas.{there_is}
-use Rattle.comment_faults.proofs.CommentLemmas.{one_looked_at}
-use Rattle.comment_faults.proofs.comments.add_comment_faults.Goals as goal
+use Rattle.tree_lint.proofs.CommentLemmas.{one_looked_at}
+use Rattle.tree_lint.proofs.comments.add_comment_faults.Goals as goal
 use Rattle.std.proofs.Common.{◌<◌, arith, length}
 
 pub loop-number-preserved : goal.loop-number-preserved

@@ -3,8 +3,8 @@
 ghost use Rattle.std.specs.Prelude.{◌≡◌, ◌==◌, IfOk, OnOk, filter, map, not};
 ghost use Rattle.std.specs.List.{slice_split};
 ghost use Rattle.tf_facts.specs.Silencing.{trim_blanks};
-ghost use Rattle.comment_faults.specs.CommentTexts.{fault_text, has_file_keyword, is_known, unknown_names, unknown_text};
-ghost use Rattle.comment_faults.specs.Inner.Growth.{before_name, with_name, with_unknown};
+ghost use Rattle.tree_lint.specs.CommentTexts.{fault_text, has_file_keyword, is_known, unknown_names, unknown_text};
+ghost use Rattle.tree_lint.specs.Inner.NameTexts.{before_name, with_name, with_unknown};
 
 use file_tree::quote::push_in_quotes;
 use rule_set::{ALL_RULES, rule_named};

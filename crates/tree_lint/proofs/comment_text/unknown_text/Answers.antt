@@ -5,10 +5,10 @@ use Rattle.std.proofs.lemmas.List.{length_push, map-append, take_all, take_more}
 use Rattle.std.proofs.lemmas.Iterator.Consumers.{YieldsList-at, YieldsList-end, YieldsList-turn}
 use Rattle.std.proofs.lemmas.Iterator.Splits.{YieldsList-from_slice_split}
 use Rattle.tf_facts.specs.Silencing.{trim_blanks}
-use Rattle.comment_faults.specs.CommentTexts.{is_known, unknown_text}
-use Rattle.comment_faults.specs.Inner.Growth.{with_unknown}
-use Rattle.comment_faults.proofs.NameLemmas.{unknown_more}
-use Rattle.comment_faults.proofs.text.unknown_text.Goals as goal
+use Rattle.tree_lint.specs.CommentTexts.{is_known, unknown_text}
+use Rattle.tree_lint.specs.Inner.NameTexts.{with_unknown}
+use Rattle.tree_lint.proofs.NameLemmas.{unknown_more}
+use Rattle.tree_lint.proofs.comment_text.unknown_text.Goals as goal
 
 pub loop-part-preserved : goal.loop-part-preserved
 loop-part-preserved c =

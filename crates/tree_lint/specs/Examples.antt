@@ -1,6 +1,6 @@
 -- Comments, by computation.
 use Rattle.std.specs.Prelude.{◌≡◌, refl, [], codes}
-use Rattle.comment_faults.specs.CommentTexts.{fault_text}
+use Rattle.tree_lint.specs.CommentTexts.{fault_text}
 
 good : fault_text (codes "# tflint-ignore: terraform_typed_variables, all # read by a script") ≡ []
 good = refl

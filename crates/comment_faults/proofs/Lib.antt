@@ -1,2 +1,0 @@
-pub mod NameLemmas
-pub mod CommentLemmas

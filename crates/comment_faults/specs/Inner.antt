@@ -1,3 +1,0 @@
--- Definitions for the code's own parts, which its inner contracts use. Nobody has to believe them.
-pub mod Growth
-pub mod Looking

@@ -1,4 +1,0 @@
-pub mod CommentTexts
-pub mod CommentFaults
-pub mod Examples
-pub mod Inner
