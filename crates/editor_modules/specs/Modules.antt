@@ -2,7 +2,7 @@
 use Rattle.std.specs.Prelude.{◌≡◌, true, List, [], ◌∷◌, Option, Some, None}
 use Rattle.std.specs.List.{Contains}
 use Rattle.file_tree.specs.Files.{Faults, Files, Name}
-use Rattle.lint_config.specs.Lines.{no_options}
+use Rattle.module_config.specs.Lines.{no_options}
 use Rattle.module_config.specs.Configs.{Configures}
 use Rattle.module_config.specs.declared.configure.Configured.{Configured}
 use Rattle.module_find.specs.Modules.{AreAlone}

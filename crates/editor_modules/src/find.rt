@@ -9,7 +9,7 @@ ghost use Rattle.open_files.specs.Views.{path_seen};
 
 use file_tree::names::is_passed_over;
 use file_tree::tree::Tree;
-use lint_config::NOTHING;
+use module_config::NOTHING;
 use module_config::configure::configure;
 use module_find::modules::modules_in;
 use module_find::names::{folder_of, is_module_file};

@@ -20,7 +20,7 @@ use Rattle.tree_lint.specs.declared.policy.Governed.{Governed}
 use Rattle.tree_lint.specs.declared.run.RunEnd.{RunEnd}
 use Rattle.tree_lint.specs.declared.written.Manner.{Manner}
 use Rattle.tree_lint.specs.declared.written.Terminals.{Terminals}
-use Rattle.lint_config.specs.Options.{options_of}
+use Rattle.module_config.specs.Options.{options_of}
 use Rattle.module_config.specs.Configs.{Configures}
 use Rattle.module_config.specs.Refusals.{configured_refusals}
 use Rattle.module_config.specs.Words.{configured_words}

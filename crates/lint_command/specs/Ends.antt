@@ -16,7 +16,7 @@ use Rattle.module_config.specs.Refusals.{configured_refusals}
 use Rattle.module_config.specs.Words.{configured_words, unlinted_line}
 use Rattle.module_config.specs.declared.configure.Configured.{Configured}
 use Rattle.module_find.specs.declared.module.Module.{Module}
-use Rattle.lint_config.specs.Lists.{unknown_in}
+use Rattle.module_config.specs.Lists.{unknown_in}
 use Rattle.tree_words.specs.Ends.{EndsBy}
 use Rattle.tree_words.specs.Shards.{picked_of}
 use Rattle.tree_words.specs.Line.{texts_in}

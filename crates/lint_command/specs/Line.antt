@@ -7,12 +7,12 @@ use Rattle.std.specs.Str.{bytes_eq}
 use Rattle.clap.specs.Words.{App, Row, Text, fault_of, first_of, matches_of, new_app, with_rule}
 use Rattle.command_line.specs.Arguments.{option_rule, unless_fault, usage_by}
 use Rattle.file_tree.specs.Files.{Name}
-use Rattle.lint_config.specs.Lines.{Options}
+use Rattle.module_config.specs.Lines.{Options}
 use Rattle.lint_forms.specs.declared.kind.Form.{Form}
 use Rattle.lint_forms.specs.declared.kind.Form.TheVariants.{Json, Sarif, Checkstyle, Junit, Gitlab, Github}
-use Rattle.lint_config.specs.Lists.{rules_in}
-use Rattle.lint_config.specs.declared.list_fault.ListFault.{ListFault}
-use Rattle.lint_config.specs.declared.list_fault.ListFault.TheVariants as list
+use Rattle.module_config.specs.Lists.{rules_in}
+use Rattle.module_config.specs.declared.list_fault.ListFault.{ListFault}
+use Rattle.module_config.specs.declared.list_fault.ListFault.TheVariants as list
 use Rattle.rule_set.specs.Rules.{all_rules, rule_name}
 use Rattle.rule_set.specs.declared.rule.Rule.{Rule}
 use Rattle.rule_set.specs.declared.rule.Severity.{Severity}

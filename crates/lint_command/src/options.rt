@@ -2,7 +2,7 @@
 
 ghost use Rattle.std.specs.Prelude.{◌≡◌, ◌⊎◌, Err, IfOk, codes, length, map, option_map};
 ghost use Rattle.clap.specs.Words.{app_of, first_of, found_of, rows_of};
-ghost use Rattle.lint_config.specs.Lists.{rules_in};
+ghost use Rattle.module_config.specs.Lists.{rules_in};
 ghost use Rattle.tfrules_command.specs.Line.{naming_of_text, severity_of_text};
 ghost use Rattle.lint_command.specs.Inner.Asked.{result_request, given_in, rules_view};
 ghost use Rattle.lint_command.specs.Line.{request_by, request_of_rows, request_of_texts, request_with, explain_request, form_of_text, form_given, given_of_rows, given_by, rules_taken, value_or_usage, text_requested, tfrules_all};
@@ -12,8 +12,8 @@ ghost use Rattle.lint_command.specs.declared.usage.Usage.TheVariants.{BadNaming,
 use crate::usage::Usage;
 use clap::{ArgMatches, Command};
 use command_line::usage_for;
-use lint_config::{ListFault, Said, rules_in};
 use lint_forms::Form;
+use module_config::{ListFault, Said, rules_in};
 use rule_set::{ALL_RULES, rule_named};
 use std::alloc::{AllocError, Global};
 use tf_rules::{Naming, RuleSet, Severity};

@@ -6,7 +6,7 @@ ghost use Rattle.command_line.specs.Rows.{end_of_streams, error_line, out_of_mem
 ghost use Rattle.file_tree.specs.Quotes.{in_quotes};
 ghost use Rattle.lint_command.specs.Ends.{value_in, wrong_value};
 ghost use Rattle.lint_command.specs.Inner.Runs.{SaysOnly};
-ghost use Rattle.lint_config.specs.Lists.{unknown_in};
+ghost use Rattle.module_config.specs.Lists.{unknown_in};
 ghost use Rattle.tree_lint.specs.Refusals.{tree_linter};
 
 use crate::options::command;
@@ -15,7 +15,7 @@ use clap::ArgMatches;
 use command_line::Streams;
 use file_tree::quote::push_in_quotes;
 use hcl_scan::ByteSink;
-use lint_config::unknown_in;
+use module_config::unknown_in;
 use std::alloc::{AllocError, Global};
 
 /// The value of an option in the matches of a line.

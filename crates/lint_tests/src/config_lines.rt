@@ -1,7 +1,7 @@
 //! The contents of the lines of a `.tfrules`.
 
 use crate::checks::holds;
-use lint_config::{BadLine, Config, Said, config_in};
+use module_config::{BadLine, Config, Said, config_in};
 use rule_set::{Rule, RuleSet, Severity};
 use std::alloc::Global;
 use std::process::Abort;

@@ -1,7 +1,7 @@
 //! Lists of rules, as users write them.
 
 use crate::checks::holds;
-use lint_config::{ListFault, rules_in};
+use module_config::{ListFault, rules_in};
 use rule_set::{Rule, RuleSet};
 
 /// A list and its rules.

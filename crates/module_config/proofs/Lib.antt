@@ -1,3 +1,4 @@
+mod ListLemmas
 mod LookLemmas
 mod ReadLemmas
 mod SettledLemmas

@@ -6,9 +6,9 @@ use Rattle.file_tree.specs.Ordered.{Orders}
 use Rattle.file_tree.specs.declared.fault.TreeFault.{TreeFault}
 use Rattle.file_tree.specs.declared.walk.Found.{Found}
 use Rattle.hcl_source.specs.Load.{IsLoadFault, IsText}
-use Rattle.lint_config.specs.Configs.{read_of}
-use Rattle.lint_config.specs.Lines.{Options}
-use Rattle.lint_config.specs.Reads.{read_text}
+use Rattle.module_config.specs.Readings.{read_of}
+use Rattle.module_config.specs.Lines.{Options}
+use Rattle.module_config.specs.Reads.{read_text}
 use Rattle.module_find.specs.declared.module.Module.{Module}
 use Rattle.tree_lint.specs.Verdicts.{bytes_of_name}
 use Rattle.module_config.specs.Governors.{ArePlaced, IsStart, wants}

@@ -3,6 +3,13 @@ pub mod Examples
 pub mod Governors
 pub mod Governs
 pub mod Inner
+pub mod LineExamples
+pub mod Lines
+pub mod Lists
+pub mod Options
+pub mod Readings
+pub mod Reads
 pub mod Refusals
 pub mod Settled
+pub mod Texts
 pub mod Words

@@ -5,7 +5,7 @@ use Rattle.file_tree.specs.Files.{Name}
 use Rattle.file_tree.specs.declared.fault.TreeFault.{TreeFault}
 use Rattle.file_tree.specs.declared.walk.Found.{Found}
 use Rattle.hcl_source.specs.FaultTexts.{fault_text}
-use Rattle.lint_config.specs.declared.text.BadLine.{BadLine}
+use Rattle.module_config.specs.declared.config_lines.BadLine.{BadLine}
 use Rattle.tree_lint.specs.Refusals.{Refusal, refusal_of}
 use Rattle.module_config.specs.Governors.{shown_from}
 use Rattle.module_config.specs.declared.config_file.ConfigFile.{ConfigFile}

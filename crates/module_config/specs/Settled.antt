@@ -3,8 +3,8 @@
 use Rattle.std.specs.Prelude.{◌==◌, ◌||◌, Bool, List, [], ◌∷◌, Option, Some, None, filter, find, length, option_map, unwrap_or, if◌then◌else◌}
 use Rattle.std.specs.Str.{bytes_eq}
 use Rattle.file_tree.specs.Files.{Name}
-use Rattle.lint_config.specs.Lines.{Options, no_options}
-use Rattle.lint_config.specs.Options.{options_of}
+use Rattle.module_config.specs.Lines.{Options, no_options}
+use Rattle.module_config.specs.Options.{options_of}
 use Rattle.module_find.specs.declared.module.Module.{Module}
 use Rattle.rule_set.specs.Rules.{all_rules, is_recommended}
 use Rattle.rule_set.specs.declared.rule.Rule.{Rule}

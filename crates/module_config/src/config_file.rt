@@ -5,11 +5,11 @@ ghost use Rattle.file_tree.specs.Unchanged.{Unchanged};
 ghost use Rattle.module_config.specs.Configs.{AreRead, IsRead};
 ghost use Rattle.module_config.specs.Inner.Reading.{AddsFile, IsTextOf};
 
+use crate::config_lines::{Config, config_in};
 use file_tree::fault::TreeFault;
 use file_tree::tree::Tree;
 use file_tree::walk::Found;
 use hcl_source::{Fault, LoadError, Source};
-use lint_config::{Config, config_in};
 use std::alloc::{AllocError, Global};
 
 /// The contents of a file, or why it has none.

@@ -5,11 +5,11 @@ ghost use Rattle.module_config.specs.Refusals.{config_refusals, configured_refus
 ghost use Rattle.tree_lint.specs.KeptRefusals.{KeepsAll};
 
 use crate::config_file::{ConfigFile, ConfigText};
+use crate::config_lines::BadLine;
 use crate::configure::Configured;
 use crate::start::Start;
 use file_tree::walk::Found;
 use hcl_source::Position;
-use lint_config::BadLine;
 use std::alloc::Global;
 use tree_lint::kept::KeptRefusals;
 use tree_lint::refusal::Refusal;

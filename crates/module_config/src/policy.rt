@@ -3,13 +3,13 @@
 ghost use Rattle.std.specs.Prelude.{◌≡◌, ◌++◌, IfOk, OnOk, find, flat_map, map, option_map, unwrap_or};
 ghost use Rattle.std.specs.Str.{bytes_eq};
 ghost use Rattle.rule_set.specs.RuleSets.{rules_of};
-ghost use Rattle.lint_config.specs.Lines.{no_options};
-ghost use Rattle.lint_config.specs.Options.{options_of};
+ghost use Rattle.module_config.specs.Lines.{no_options};
+ghost use Rattle.module_config.specs.Options.{options_of};
 ghost use Rattle.module_config.specs.Settled.{default_rules, first_said, good_text, governed_in, pair_of, said_in, policy_of, wanted_by, wanted_of};
 
 use crate::config_file::{ConfigFile, ConfigText};
 use crate::governor::{Governor, Placed};
-use lint_config::{NOTHING, Said};
+use crate::said::{NOTHING, Said};
 use rule_set::{RuleSet, Severity};
 use std::alloc::{AllocError, Global};
 use tf_rules::{Naming, Settings};

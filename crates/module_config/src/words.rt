@@ -6,6 +6,7 @@ ghost use Rattle.file_tree.specs.Quotes.{shown_name};
 ghost use Rattle.module_config.specs.Words.{bad_line, config_lines, configured_words, failure_lines, line_words, unlinted_line};
 
 use crate::config_file::{ConfigFile, ConfigText};
+use crate::config_lines::BadLine;
 use crate::configure::Configured;
 use crate::start::Start;
 use command_line::write_parts;
@@ -13,7 +14,6 @@ use file_tree::quote::write_quoted;
 use file_tree::walk::Found;
 use hcl_source::{ByteSink, Failed};
 use itoa::Buffer;
-use lint_config::BadLine;
 use tree_lint::refusal::{Refusal, tell_refusal};
 
 /// Writes the text after the name of a file with a bad line.

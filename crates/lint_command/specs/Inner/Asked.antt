@@ -1,6 +1,6 @@
 -- The request in the code's options, as the definitions have it.
 use Rattle.std.specs.Prelude.{◌==◌, ◌||◌, not, ℕ, Bool, List, Option, Result, Ok, Err, map, option_map}
-use Rattle.lint_config.specs.Options.{options_of}
+use Rattle.module_config.specs.Options.{options_of}
 use Rattle.rule_set.specs.RuleSets.{rules_of}
 use Rattle.rule_set.specs.declared.rule.Rule.{Rule}
 use Rattle.rule_set.specs.declared.rule_set.RuleSet.{RuleSet}

@@ -4,8 +4,8 @@ use Rattle.file_tree.specs.Files.{Faults, Files, Name}
 use Rattle.file_tree.specs.declared.fault.TreeFault.TheVariants.{ReadFailed}
 use Rattle.hcl_source.specs.declared.fault.LoadError.{LoadError}
 use Rattle.hcl_source.specs.declared.fault.LoadError.TheVariants as error
-use Rattle.lint_config.specs.Configs.{read_of}
-use Rattle.lint_config.specs.Reads.{read_text}
+use Rattle.module_config.specs.Readings.{read_of}
+use Rattle.module_config.specs.Reads.{read_text}
 use Rattle.module_config.specs.Configs.{IsRead}
 use Rattle.module_config.specs.Governors.{IsPlaced, wants}
 use Rattle.module_config.specs.declared.config_file.ConfigFile.{ConfigFile}

@@ -1,6 +1,6 @@
 use Rattle.std.proofs.Common.{subst, true}
 use Rattle.file_tree.specs.Files.{Files}
-use Rattle.lint_config.specs.Lines.{no_options}
+use Rattle.module_config.specs.Lines.{no_options}
 use Rattle.module_config.specs.Configs.{Configures}
 use Rattle.editor_modules.proofs.ModuleLemmas.{is_governed}
 use Rattle.editor_modules.proofs.find.module_in.Goals as goal

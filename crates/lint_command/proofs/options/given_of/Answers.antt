@@ -2,7 +2,7 @@ use Rattle.std.proofs.Common.{◌∙◌, ap, codes}
 use Rattle.std.specs.Prelude.{not, option_map}
 use Rattle.clap.proofs.WalkLemmas.{first_value-rows}
 use Rattle.clap.specs.Words.{found_of}
-use Rattle.lint_config.specs.Lists.{rules_in}
+use Rattle.module_config.specs.Lists.{rules_in}
 use Rattle.tfrules_command.specs.Line.{naming_of_text, severity_of_text}
 use Rattle.lint_command.specs.Line.{rules_taken, value_or_usage}
 use Rattle.lint_command.specs.declared.usage.Usage.TheVariants.{BadNaming, BadSeverity}

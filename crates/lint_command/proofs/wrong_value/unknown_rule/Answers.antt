@@ -1,5 +1,5 @@
 use Rattle.std.proofs.Common.{◌∙◌, ap, codes, inl}
-use Rattle.lint_config.specs.Lists.{unknown_in}
+use Rattle.module_config.specs.Lists.{unknown_in}
 use Rattle.lint_command.proofs.UsageLemmas.{memory_said, value_said}
 use Rattle.lint_command.proofs.wrong_value.unknown_rule.Goals as goal
 

@@ -1,5 +1,5 @@
 use Rattle.std.proofs.Common.{◌≡◌, flat_map, map}
-use Rattle.lint_config.specs.Options.{options_of}
+use Rattle.module_config.specs.Options.{options_of}
 use Rattle.module_config.specs.Settled.{governed_in, pair_of}
 use Rattle.module_config.proofs.policy.governed_of.Given as goal
 

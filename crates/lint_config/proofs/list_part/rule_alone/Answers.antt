@@ -1,6 +1,0 @@
-use Rattle.std.proofs.Common.{◌∙◌}
-use Rattle.lint_config.proofs.ListLemmas.{unnamed}
-use Rattle.lint_config.proofs.list_part.rule_alone.Goals as goal
-
-pub returns-in-None : goal.returns-in-None
-returns-in-None c = λ rule. c.none-in-None.ensures rule ∙ unnamed c.args.name.now rule c.in-None.ensures
