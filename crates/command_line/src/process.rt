@@ -6,7 +6,7 @@ use std::alloc::{AllocError, Global};
 use std::{env, io};
 
 /// Why there are no words.
-#[derive(Clone, Copy, Debug, PartialEq, Eq)]
+#[derive(Clone, Copy)]
 pub enum NoWords {
     /// An argument isn't UTF-8.
     NotUtf8,

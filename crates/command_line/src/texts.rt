@@ -7,7 +7,7 @@ use std::marker::Model;
 
 /// A program, for its messages: its name, its status if a device failed or memory ran out, and the two lines for these
 /// cases, which exist beforehand.
-#[derive(Debug, Drop)]
+#[derive(Drop)]
 pub struct Program {
     name: &'static str,
     failure: u8,

@@ -26,7 +26,7 @@ impl<'a> ByteSource for MemoryReader<'a> {
 }
 
 /// The failing call of the files, if one fails.
-#[derive(Clone, Copy, Debug, PartialEq, Eq)]
+#[derive(Clone, Copy, PartialEq, Eq)]
 pub enum FileFailure {
     None,
     /// The open of this number, from 0 on.

@@ -5,7 +5,7 @@ ghost use Rattle.json.specs.Print.{IsNumber};
 ghost use Rattle.editor_messages.specs.Errors.{error_code, error_text};
 
 /// Why a message is answered with an error.
-#[derive(Clone, Copy, Debug, PartialEq, Eq)]
+#[derive(Clone, Copy)]
 pub enum ReplyError {
     /// The body is no JSON.
     NotJson,

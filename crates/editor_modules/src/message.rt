@@ -14,7 +14,7 @@ use std::alloc::{AllocError, Global};
 use text_places::Units;
 
 /// A message that tells the diagnostics of a document.
-#[derive(Debug, Drop)]
+#[derive(Drop)]
 pub struct ToldMessage {
     /// Of the document.
     pub uri: String,

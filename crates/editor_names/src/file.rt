@@ -20,7 +20,7 @@ use text_places::{PlaceIndex, Range};
 use tf_names::{Occurrence, occurrences_of};
 
 /// How a file of the language spells a name.
-#[derive(Debug, Drop)]
+#[derive(Drop)]
 pub struct Spelling {
     /// In which the occurrences stand that are asked for.
     pub ranges: Vec<Range>,
@@ -29,7 +29,7 @@ pub struct Spelling {
 }
 
 /// Where a file of a module spells a name.
-#[derive(Debug, Drop)]
+#[derive(Drop)]
 pub enum FileRanges {
     /// It is a file of the language.
     Spelled(Spelling),

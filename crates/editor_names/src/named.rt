@@ -16,7 +16,7 @@ use text_places::{Place, PlaceIndex, Range, Units, offset_at};
 use tf_names::{Occurrence, occurrences_of};
 
 /// The name at a place of a text.
-#[derive(Debug, Drop)]
+#[derive(Drop)]
 pub struct NameAt {
     pub name: OwnedName,
     /// In which its last part is spelled there.

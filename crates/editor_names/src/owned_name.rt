@@ -8,7 +8,7 @@ use std::alloc::{AllocError, Global};
 use tf_names::Name;
 
 /// A name that a file of a module declares or refers to.
-#[derive(Debug, Drop)]
+#[derive(Drop)]
 pub enum OwnedName {
     Variable(String),
     Local(String),

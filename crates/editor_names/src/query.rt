@@ -9,7 +9,7 @@ use text_places::{PlaceIndex, Range, Units};
 use tf_names::{Name, Occurrence, OccurrenceKind, is_same};
 
 /// Which occurrences of a name are asked for.
-#[derive(Clone, Copy, Debug, PartialEq, Eq)]
+#[derive(Clone, Copy)]
 pub enum Wanted {
     Declarations,
     References,
@@ -17,7 +17,7 @@ pub enum Wanted {
 }
 
 /// A name, and which of its occurrences are asked for.
-#[derive(Clone, Copy, Debug)]
+#[derive(Clone, Copy)]
 pub struct Query<'s> {
     pub name: Name<'s>,
     pub wanted: Wanted,

@@ -1,7 +1,7 @@
 //! How far a session has come.
 
 /// How far a session has come.
-#[derive(Clone, Copy, Debug, PartialEq, Eq)]
+#[derive(Clone, Copy)]
 pub enum Phase {
     /// The editor has not begun.
     Fresh,

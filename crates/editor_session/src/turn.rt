@@ -3,7 +3,7 @@
 use editor_modules::ToldMessage;
 
 /// What a step leads to.
-#[derive(Debug, Drop)]
+#[derive(Drop)]
 pub enum Turn {
     /// Nothing is said.
     Quiet,

@@ -12,7 +12,7 @@ use crate::path::{is_step, top};
 use std::alloc::{AllocError, Global};
 
 /// Which files are taken, and which are passed over.
-#[derive(Clone, Copy, Debug)]
+#[derive(Clone, Copy)]
 pub struct Choice<'a> {
     /// A named file is taken whatever its name.
     pub any_name: bool,

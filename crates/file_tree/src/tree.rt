@@ -11,7 +11,7 @@ use crate::kind::Kind;
 use hcl_source::ByteSource;
 
 /// How files are replaced.
-#[derive(Clone, Copy, Debug, PartialEq, Eq)]
+#[derive(Clone, Copy)]
 pub struct Writing {
     /// A file is overwritten if no new one can be made beside it, and may end half written.
     pub in_place: bool,
@@ -20,7 +20,7 @@ pub struct Writing {
 }
 
 /// The effect of a replacement on the rights to the file.
-#[derive(Clone, Copy, Debug, PartialEq, Eq)]
+#[derive(Clone, Copy)]
 pub enum Replaced {
     /// Everybody has the rights that he had.
     Kept,

@@ -6,7 +6,7 @@ ghost use Rattle.hcl_grammar.specs.Inner.Entries.{item_in};
 use crate::item::{Item, Label};
 
 /// An item whose numbers take four bytes each, half as many as in an `Item`.
-#[derive(Clone, Copy, Debug)]
+#[derive(Clone, Copy)]
 pub enum ItemEntry {
     Attribute {
         level: u32,

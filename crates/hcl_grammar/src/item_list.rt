@@ -11,7 +11,7 @@ use std::marker::Model;
 
 /// The items of a file in order: each block is followed by its labels, and then by the items of its body, one level
 /// deeper.
-#[derive(Debug, Drop)]
+#[derive(Drop)]
 pub struct Outline {
     entries: Vec<ItemEntry>,
 }

@@ -38,7 +38,7 @@ pub trait ByteSource {
 }
 
 /// How often a sink was flushed, as precisely as a run needs it.
-#[derive(Clone, Copy, Debug, PartialEq, Eq)]
+#[derive(Clone, Copy)]
 pub enum Flushes {
     Never,
     Once,
@@ -96,7 +96,7 @@ pub trait ByteSink {
 }
 
 /// A reader of std as a device. Any error of the reader is a failed call.
-#[derive(Debug, Drop)]
+#[derive(Drop)]
 pub struct FromRead<R: Drop> {
     reader: R,
     has_failed: bool,
@@ -136,7 +136,7 @@ impl<R: Read + Drop> ByteSource for FromRead<R> {
 
 /// A writer of std as a device. Any error of the writer is a failed call, and so is a write that takes none of some
 /// bytes.
-#[derive(Debug, Drop)]
+#[derive(Drop)]
 pub struct ToWrite<W: Drop> {
     writer: W,
     has_failed: bool,

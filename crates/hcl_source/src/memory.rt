@@ -32,7 +32,7 @@ fn one_less(good: Option<usize>) -> Option<usize>
 
 /// A source that gives at most a set number of bytes per call, and can be set to fail at one call. A failed call moves
 /// nothing.
-#[derive(Debug, Drop)]
+#[derive(Drop)]
 pub struct MemorySource<'a> {
     rest: &'a [u8],
     most: usize,
@@ -139,7 +139,7 @@ impl<'a> ByteSource for MemorySource<'a> {
 /// A sink with room for `SINK_ROOM` bytes, which doesn't grow. It takes at most a set number of bytes per call. It
 /// fails if it can take none of some bytes, and it can be set to fail at one write and at the first flush. A failed
 /// call moves nothing.
-#[derive(Debug, Drop)]
+#[derive(Drop)]
 pub struct MemorySink {
     buffer: [u8; SINK_ROOM],
     len: usize,

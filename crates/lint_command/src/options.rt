@@ -24,7 +24,7 @@ use tree_words::options::{is_given, names_in};
 use tree_words::shard::{Shard, shard_of};
 
 /// The options by which modules are linted.
-#[derive(Clone, Copy, Debug, PartialEq, Eq)]
+#[derive(Clone, Copy)]
 pub struct Given {
     /// The options of the line.
     pub said: Said,
@@ -33,7 +33,7 @@ pub struct Given {
 }
 
 /// What the run is to do.
-#[derive(Clone, Copy, Debug, PartialEq, Eq)]
+#[derive(Clone, Copy)]
 pub struct Job {
     /// The options by which modules are linted.
     pub given: Given,
@@ -46,7 +46,7 @@ pub struct Job {
 }
 
 /// The request in the words.
-#[derive(Debug, Drop)]
+#[derive(Drop)]
 pub struct LintOptions<'a> {
     pub job: Job,
     /// The names are read from standard input.

@@ -1,7 +1,7 @@
 //! The forms.
 
 /// A form for forges or editors.
-#[derive(Clone, Copy, Debug, PartialEq, Eq)]
+#[derive(Clone, Copy)]
 pub enum Form {
     /// TFLint's own JSON.
     Json,

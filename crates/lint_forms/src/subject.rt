@@ -3,7 +3,7 @@
 use rule_set::Rule;
 
 /// The subject of a remark.
-#[derive(Clone, Copy, Debug, PartialEq, Eq)]
+#[derive(Clone, Copy)]
 pub enum Subject {
     /// An issue, by the rule that reports it.
     Rule(Rule),

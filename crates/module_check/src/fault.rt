@@ -11,7 +11,7 @@ use std::alloc::{AllocError, Global};
 use text_places::{Range, Units, Walk};
 
 /// A fault of a text, and the range that is marked for it.
-#[derive(Clone, Copy, Debug, PartialEq, Eq)]
+#[derive(Clone, Copy)]
 pub struct MarkedFault {
     pub range: Range,
     pub kind: FaultKind,

@@ -19,7 +19,7 @@ use tfrules_command::gather::scan_file;
 use tfrules_command::stop::Stop;
 
 /// The verdict on a text.
-#[derive(Clone, Copy, Debug, PartialEq, Eq)]
+#[derive(Clone, Copy)]
 enum Judgement {
     Accepted,
     Refused(Fault),

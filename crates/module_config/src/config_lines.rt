@@ -20,7 +20,7 @@ pub struct BadLine {
 }
 
 /// The contents of a text: the options of its good lines, and the wrong lines.
-#[derive(Debug, Drop)]
+#[derive(Drop)]
 pub struct Config {
     /// The options of the good lines.
     pub said: Said,

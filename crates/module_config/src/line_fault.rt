@@ -9,7 +9,7 @@ use file_tree::quote::push_in_quotes;
 use std::alloc::{AllocError, Global};
 
 /// What is wrong with a line.
-#[derive(Clone, Copy, Debug, PartialEq, Eq)]
+#[derive(Clone, Copy)]
 pub enum ConfigFault {
     /// It begins with no option of a project, or gives one a value that takes none.
     UnknownOption,

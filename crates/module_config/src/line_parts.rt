@@ -15,7 +15,7 @@ pub(crate) fn without_comment(line: &str) -> &str
 }
 
 /// An option's name and its value, which is empty if it has none.
-#[derive(Clone, Copy, Debug, PartialEq, Eq)]
+#[derive(Clone, Copy)]
 pub(crate) struct OptionParts<'a> {
     pub name: &'a str,
     pub value: &'a str,

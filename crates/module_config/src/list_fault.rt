@@ -1,7 +1,7 @@
 //! Why a text is no list of rules.
 
 /// Why a text is no list of rules.
-#[derive(Clone, Copy, Debug, PartialEq, Eq)]
+#[derive(Clone, Copy, PartialEq, Eq)]
 pub enum ListFault {
     /// A part of it names no rule.
     UnknownRule,

@@ -3,7 +3,7 @@
 use tf_rules::{Naming, RuleSet, Severity};
 
 /// The options given by the lines of a file.
-#[derive(Clone, Copy, Debug, PartialEq, Eq)]
+#[derive(Clone, Copy)]
 pub struct Said {
     /// The rules to check.
     pub rules: Option<RuleSet>,

@@ -8,7 +8,7 @@ ghost use Rattle.rule_set.specs.RuleSets.{holds};
 use crate::rule::{Rule, rank};
 
 /// A set of rules.
-#[derive(Clone, Copy, Debug, PartialEq, Eq)]
+#[derive(Clone, Copy, PartialEq, Eq)]
 pub struct RuleSet {
     held: [bool; 10],
 }

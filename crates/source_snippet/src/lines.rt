@@ -12,7 +12,7 @@ use std::alloc::{AllocError, Global};
 use std::marker::Model;
 
 /// A text, and how far its lines were passed: snippets in line order take one walk over the text.
-#[derive(Debug, Drop)]
+#[derive(Drop)]
 pub struct Lines<'t> {
     text: &'t str,
     rest: &'t str,

@@ -45,7 +45,7 @@ struct Contents<'a> {
 }
 
 /// The rights that a new file has from the old one.
-#[derive(Clone, Copy, PartialEq, Eq)]
+#[derive(Clone, Copy)]
 struct Kept {
     owner: bool,
     group: bool,

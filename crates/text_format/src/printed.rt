@@ -6,7 +6,7 @@ use hcl_scan::{ByteSink, Failed, Flushes};
 use std::alloc::Global;
 
 /// A sink that stores the bytes that it takes. It fails if memory runs out.
-#[derive(Debug, Drop)]
+#[derive(Drop)]
 pub struct Printed {
     bytes: Vec<u8>,
     has_failed: bool,

@@ -14,7 +14,7 @@ use text_places::{PlaceIndex, Units};
 
 /// Lines of a text that can be folded, from 0: the first stays in sight (Language Server Protocol 3.17, "Folding Range
 /// Request").
-#[derive(Clone, Copy, Debug, PartialEq, Eq)]
+#[derive(Clone, Copy)]
 pub struct Fold {
     pub first: usize,
     pub last: usize,

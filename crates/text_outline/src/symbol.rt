@@ -15,14 +15,14 @@ use std::alloc::{AllocError, Global};
 use text_places::{PlaceIndex, Range, Units};
 
 /// What a symbol is.
-#[derive(Clone, Copy, Debug, PartialEq, Eq)]
+#[derive(Clone, Copy)]
 pub enum SymbolKind {
     Block,
     Attribute,
 }
 
 /// A block or an attribute of a file (Language Server Protocol 3.17, "Document Symbols Request").
-#[derive(Debug, Drop)]
+#[derive(Drop)]
 pub struct Symbol {
     /// The name of the attribute, or the kind of the block and its labels in quotes.
     pub name: String,

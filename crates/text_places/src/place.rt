@@ -4,14 +4,14 @@ ghost use Rattle.std.specs.Prelude.{◌≡◌, ◌≤◌, ◌<◌, ◌+◌, ◌^
 ghost use Rattle.text_places.specs.Places.{place_after, units_of, walk_start, walk_step, walk_to};
 
 /// How characters are counted: in bytes of UTF-8, or in code units of UTF-16.
-#[derive(Clone, Copy, Debug, PartialEq, Eq)]
+#[derive(Clone, Copy)]
 pub enum Units {
     Bytes,
     Utf16,
 }
 
 /// A line and a character of it, from 0 on.
-#[derive(Clone, Copy, Debug, PartialEq, Eq)]
+#[derive(Clone, Copy, PartialEq, Eq)]
 pub struct Place {
     pub line: usize,
     pub character: usize,

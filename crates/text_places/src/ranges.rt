@@ -9,7 +9,7 @@ use crate::edits::TextEdit;
 use crate::place::{Place, Units, Walk};
 
 /// The places at which an edit begins and ends.
-#[derive(Clone, Copy, Debug, PartialEq, Eq)]
+#[derive(Clone, Copy, PartialEq, Eq)]
 pub struct Range {
     pub start: Place,
     pub end: Place,

@@ -1,7 +1,7 @@
 //! The values of attributes, and the body of a block.
 
 /// The tokens of a value, by the number of the first and the one after the last.
-#[derive(Clone, Copy, Debug, PartialEq, Eq)]
+#[derive(Clone, Copy)]
 pub struct Value {
     pub first: usize,
     pub end: usize,

@@ -6,7 +6,7 @@ ghost use Rattle.tf_names.specs.Names.{is_same, last_part, with_last_part};
 ghost use Rattle.tf_names.specs.Views.{name_seen};
 
 /// A name that a file of a module declares or refers to.
-#[derive(Clone, Copy, Debug)]
+#[derive(Clone, Copy)]
 pub enum Name<'s> {
     Variable(&'s str),
     Local(&'s str),

@@ -9,14 +9,14 @@ use crate::name::Name;
 use crate::stretch::Stretch;
 
 /// Whether an occurrence declares its name or refers to it.
-#[derive(Clone, Copy, Debug, PartialEq, Eq)]
+#[derive(Clone, Copy)]
 pub enum OccurrenceKind {
     Declaration,
     Reference,
 }
 
 /// An occurrence of a name in a file, by offsets.
-#[derive(Clone, Copy, Debug)]
+#[derive(Clone, Copy)]
 pub struct Occurrence<'s> {
     pub name: Name<'s>,
     pub kind: OccurrenceKind,

@@ -5,7 +5,7 @@ ghost use Rattle.std.specs.List.{list_all, slice_split};
 ghost use Rattle.tf_rules.specs.Naming.{begins_with_letter, matches_naming, is_letter, is_word, is_word_byte, naming_text};
 
 /// How names are to be written.
-#[derive(Clone, Copy, Debug, PartialEq, Eq)]
+#[derive(Clone, Copy, PartialEq, Eq)]
 pub enum Naming {
     SnakeCase,
     MixedSnakeCase,

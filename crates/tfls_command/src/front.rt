@@ -8,7 +8,7 @@ ghost use Rattle.tfls_command.specs.declared.front.Front.TheVariants.{Partial};
 use crate::head::{MAX_HEAD, head_length, told_length};
 
 /// What a stream begins with, as far as it has come.
-#[derive(Clone, Copy, Debug, PartialEq, Eq)]
+#[derive(Clone, Copy)]
 pub enum Front {
     /// A message, whose body stands from the one offset to the other.
     Message { from: usize, to: usize },

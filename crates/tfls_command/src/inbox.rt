@@ -13,7 +13,7 @@ use std::marker::Model;
 const ROOM: usize = 16_384;
 
 /// The bytes that were read and not yet taken, in their order. To take some of them moves none of the others.
-#[derive(Debug, Drop)]
+#[derive(Drop)]
 pub struct Inbox {
     bytes: Vec<u8>,
     start: usize,

@@ -11,7 +11,7 @@ use hcl_source::ByteSource;
 use std::alloc::Global;
 
 /// What was received.
-#[derive(Debug, Drop)]
+#[derive(Drop)]
 pub enum Received {
     /// The body of a message.
     Message(Vec<u8>),

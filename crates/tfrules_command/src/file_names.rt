@@ -13,7 +13,7 @@ use std::marker::Model;
 pub const MAX_FILES: usize = 256;
 
 /// One to `MAX_FILES` names of files, none twice.
-#[derive(Debug, Drop)]
+#[derive(Drop)]
 pub struct FileNames<'a> {
     names: Vec<&'a str>,
 }

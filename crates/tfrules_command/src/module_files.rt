@@ -6,7 +6,7 @@ use hcl_scan::ByteSource;
 use tf_rules::Hashing;
 
 /// A file can't be opened.
-#[derive(Clone, Copy, Debug, PartialEq, Eq)]
+#[derive(Clone, Copy)]
 pub struct OpenFault;
 
 /// Files by name.

@@ -17,7 +17,7 @@ use std::alloc::{AllocError, Global};
 use tf_rules::{Naming, Rule, RuleSet, Settings, Severity};
 
 /// The request in the words.
-#[derive(Debug, Drop)]
+#[derive(Drop)]
 pub struct LintOptions<'a> {
     /// The rules to check, and the naming.
     pub settings: Settings,

@@ -3,7 +3,7 @@
 use hcl_scan::Fault;
 
 /// Why a file isn't kept.
-#[derive(Clone, Copy, Debug, PartialEq, Eq)]
+#[derive(Clone, Copy)]
 pub enum Stop {
     /// It can't be opened.
     NotOpened,

@@ -20,7 +20,7 @@ use tree_words::options::{is_given, names_in, names_of};
 use tree_words::shard::{Shard, shard_of};
 
 /// The parts of the words that are never wrong by themselves.
-#[derive(Debug, Drop)]
+#[derive(Drop)]
 pub struct Given<'a> {
     /// The names are read from standard input.
     pub null: bool,
@@ -35,7 +35,7 @@ pub struct Given<'a> {
 }
 
 /// The request in the words.
-#[derive(Debug, Drop)]
+#[derive(Drop)]
 pub struct TreeOptions<'a> {
     /// What to do with the files.
     pub mode: Mode,

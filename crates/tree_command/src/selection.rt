@@ -9,7 +9,7 @@ use file_tree::choice::Choice;
 use tree_words::shard::Shard;
 
 /// The files that are taken, among those that names stand for.
-#[derive(Clone, Copy, Debug)]
+#[derive(Clone, Copy)]
 pub struct Selection<'a> {
     /// The part that is taken, if several runs share the files.
     pub shard: Option<Shard>,

@@ -5,7 +5,7 @@ use file_tree::tree::{Replaced, Writing};
 use std::alloc::Global;
 
 /// The steps of a call.
-#[derive(Clone, Copy, Debug, PartialEq, Eq)]
+#[derive(Clone, Copy)]
 pub enum Step {
     Kind,
     EntryKind,
@@ -52,7 +52,7 @@ impl Step {
 }
 
 /// Which calls fail.
-#[derive(Clone, Copy, Debug, PartialEq, Eq)]
+#[derive(Clone, Copy, Debug)]
 pub struct Failures {
     /// The call of this number, from 0 on.
     pub call: Option<usize>,

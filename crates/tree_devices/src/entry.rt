@@ -3,7 +3,7 @@
 use file_tree::kind::{Identity, Kind};
 
 /// The entry under a name.
-#[derive(Clone, Copy, Debug, PartialEq, Eq)]
+#[derive(Clone, Copy, PartialEq, Eq)]
 pub enum Stands<'a> {
     Folder,
     /// A file of these bytes.
@@ -34,7 +34,7 @@ impl<'a> Stands<'a> {
 }
 
 /// A name with its entry. A folder has no slash at its end, and the current one no name.
-#[derive(Clone, Copy, Debug)]
+#[derive(Clone, Copy)]
 pub struct MemoryEntry<'a> {
     pub name: &'a [u8],
     pub stands: Stands<'a>,

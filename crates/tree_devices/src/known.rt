@@ -3,7 +3,7 @@
 use file_tree::kind::Kind;
 
 /// A name as it may be looked up, and the answers.
-#[derive(Debug, Drop)]
+#[derive(Drop)]
 pub struct Known {
     pub name: Vec<u8>,
     /// Links followed, unless the link leads nowhere.

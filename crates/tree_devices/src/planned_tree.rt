@@ -11,7 +11,7 @@ use hcl_scan::{ByteSource, Failed};
 use std::alloc::Global;
 
 /// A name and its entry.
-#[derive(Clone, Copy, Debug)]
+#[derive(Clone, Copy)]
 pub struct PlannedName<'a> {
     pub name: &'a [u8],
     /// Links followed.
@@ -21,7 +21,7 @@ pub struct PlannedName<'a> {
 }
 
 /// A reader of nothing, which doesn't fail.
-#[derive(Debug, Drop)]
+#[derive(Drop)]
 pub struct EmptyReader;
 
 impl ByteSource for EmptyReader {

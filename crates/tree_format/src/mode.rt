@@ -3,7 +3,7 @@
 use file_tree::tree::Writing;
 
 /// How printed names end.
-#[derive(Clone, Copy, Debug, PartialEq, Eq)]
+#[derive(Clone, Copy)]
 pub enum Ending {
     /// Quoted as in messages, each on a line of its own.
     Line,
@@ -12,7 +12,7 @@ pub enum Ending {
 }
 
 /// What to do with files that aren't formatted.
-#[derive(Clone, Copy, Debug, PartialEq, Eq)]
+#[derive(Clone, Copy)]
 pub enum Mode {
     /// They get their format.
     Write(Writing),

@@ -5,7 +5,7 @@ use file_tree::tree::Replaced;
 use hcl_scan::Fault;
 
 /// The outcome for a file.
-#[derive(Debug, Drop)]
+#[derive(Drop)]
 pub enum Outcome {
     /// It is formatted.
     Formatted,

@@ -45,7 +45,7 @@ fn look_at<T: WritableTree>(
 }
 
 /// The end of a run over files.
-#[derive(Clone, Copy, Debug, PartialEq, Eq)]
+#[derive(Clone, Copy)]
 pub struct Ran {
     /// The worst status of a file, or that of a failed report.
     pub status: u8,

@@ -12,7 +12,7 @@ use hcl_scan::{ByteSink, Failed};
 use itoa::Buffer;
 
 /// How many files a run looked at.
-#[derive(Clone, Copy, Debug, PartialEq, Eq)]
+#[derive(Clone, Copy)]
 pub struct Tally {
     /// Files that weren't formatted: they are by now, if files were to be written.
     pub changed: u64,

@@ -10,7 +10,7 @@ use hcl_scan::{ByteSink, Failed};
 use itoa::Buffer;
 
 /// The end of a run over a module.
-#[derive(Clone, Copy, Debug, PartialEq, Eq)]
+#[derive(Clone, Copy)]
 pub(crate) struct Ended {
     /// 0 or 2, as from `tfrules` over the module alone, or 1 if it is refused.
     pub status: u8,

@@ -4,7 +4,7 @@ use module_find::Module;
 use tf_rules::{Settings, Severity};
 
 /// The policy of a module.
-#[derive(Clone, Copy, Debug, PartialEq, Eq)]
+#[derive(Clone, Copy)]
 pub struct Policy {
     /// The rules that are checked, and how names are to be written.
     pub settings: Settings,

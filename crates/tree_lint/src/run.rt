@@ -25,7 +25,7 @@ use tf_rules::Facts;
 use tfrules_command::file_names::MAX_FILES;
 
 /// How to lint and to show a module.
-#[derive(Clone, Copy, Debug, PartialEq, Eq)]
+#[derive(Clone, Copy)]
 pub(crate) struct ModuleTask {
     /// The policy by which it is linted.
     pub policy: Policy,

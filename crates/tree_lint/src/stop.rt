@@ -9,7 +9,7 @@ use file_tree::fault::TreeFault;
 use hcl_scan::Fault;
 
 /// Why a file isn't kept.
-#[derive(Debug, Drop)]
+#[derive(Drop)]
 pub enum Stop {
     /// It is no file of the language. The text is the line of the fault, or empty.
     Refused(Fault, Vec<u8>),

@@ -6,7 +6,7 @@ ghost use Rattle.tree_lint.specs.Verdicts.{shows_lines};
 use lint_forms::Form;
 
 /// The outputs that are read on a terminal: lines of files are shown there.
-#[derive(Clone, Copy, Debug, PartialEq, Eq)]
+#[derive(Clone, Copy)]
 pub struct Terminals {
     pub out: bool,
     pub err: bool,
@@ -22,7 +22,7 @@ impl Terminals {
 }
 
 /// How to write the results for modules.
-#[derive(Clone, Copy, Debug, PartialEq, Eq)]
+#[derive(Clone, Copy)]
 pub struct Manner {
     /// The form; none for the reports of `tfrules`.
     pub form: Option<Form>,

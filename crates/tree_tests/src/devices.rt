@@ -39,7 +39,7 @@ pub fn steady_devices(most: usize) -> Devices {
 }
 
 /// Counts the events of a run, and shows lines of faults or doesn't.
-#[derive(Clone, Copy, Debug, Drop)]
+#[derive(Clone, Copy, Drop)]
 pub struct Watcher {
     pub shows: bool,
     pub looked: u64,

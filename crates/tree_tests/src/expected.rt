@@ -8,7 +8,7 @@ use std::process::Abort;
 use tree_devices::calls::Step;
 
 /// The outcome for a name.
-#[derive(Clone, Copy, Debug)]
+#[derive(Clone, Copy)]
 pub enum Said {
     Formatted,
     /// The file of this name then has these bytes.
@@ -49,7 +49,7 @@ fn count_of(lines: &[Line], status: u8) -> usize {
 pub type Lines = &'static [(&'static [u8], Said)];
 
 /// A name and its outcome.
-#[derive(Debug, Drop)]
+#[derive(Drop)]
 pub struct Line {
     pub name: Vec<u8>,
     pub said: Said,
@@ -114,7 +114,7 @@ pub fn lines_after(
 }
 
 /// A writer that takes at most this many bytes per call, and fails after this many good calls.
-#[derive(Debug, Drop)]
+#[derive(Drop)]
 struct Writer {
     taken: Vec<u8>,
     most: usize,
@@ -158,7 +158,7 @@ impl Writer {
 }
 
 /// Both streams of a run.
-#[derive(Debug, Drop)]
+#[derive(Drop)]
 struct Streams {
     out: Writer,
     err: Writer,
@@ -299,7 +299,7 @@ fn worse_status(one: u8, other: u8) -> u8 {
 }
 
 /// The output of a run, the number of lines that it has looked at, and the number that it wrote.
-#[derive(Debug, Drop)]
+#[derive(Drop)]
 pub struct Shown {
     pub out: Vec<u8>,
     pub err: Vec<u8>,

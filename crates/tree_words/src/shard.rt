@@ -8,7 +8,7 @@ use crate::number::number_in;
 use clap::ArgMatches;
 
 /// The K-th of N parts of the files.
-#[derive(Clone, Copy, Debug, PartialEq, Eq)]
+#[derive(Clone, Copy)]
 pub struct Shard {
     pub number: u32,
     pub count: u32,

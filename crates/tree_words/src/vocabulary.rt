@@ -1,7 +1,7 @@
 //! The texts with which a program finds and explains a wrong word of its line.
 
 /// An option of another program, and what to write here instead.
-#[derive(Clone, Copy, Debug)]
+#[derive(Clone, Copy)]
 pub struct Foreign {
     /// The option with its dashes, and with its value if only that value is meant.
     pub option: &'static str,
@@ -10,7 +10,7 @@ pub struct Foreign {
 }
 
 /// What a program needs to find a wrong word, and to explain it.
-#[derive(Clone, Copy, Debug)]
+#[derive(Clone, Copy)]
 pub struct Vocabulary {
     /// The options' names.
     pub names: &'static [&'static str],

@@ -16,7 +16,7 @@ pub struct Words<'a> {
 }
 
 /// The words of a line, as slices.
-#[derive(Clone, Copy, Debug)]
+#[derive(Clone, Copy)]
 pub struct CommandLine<'w> {
     /// The words that are texts, the program's name first.
     pub texts: &'w [&'w str],
