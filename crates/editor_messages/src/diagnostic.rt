@@ -86,12 +86,9 @@ fn write_rule(writer: &mut Writer, rule: Option<Rule>) -> Result<(), AllocError>
     write_parts(
         writer,
         &[
-            JsonPart::Key("code"),
-            JsonPart::Text(name),
-            JsonPart::Key("codeDescription"),
-            JsonPart::Object,
-            JsonPart::Key("href"),
-            JsonPart::Text(page),
+            JsonPart::TextAt("code", name),
+            JsonPart::ObjectAt("codeDescription"),
+            JsonPart::TextAt("href", page),
             JsonPart::EndObject,
         ],
     )
@@ -103,10 +100,7 @@ fn write_front(writer: &mut Writer, range: Range, severity: u64) -> Result<(), A
 {
     write_parts(writer, &[JsonPart::Object, JsonPart::Key("range")])?;
     write_range(writer, range)?;
-    write_parts(
-        writer,
-        &[JsonPart::Key("severity"), JsonPart::Number(severity)],
-    )
+    write_parts(writer, &[JsonPart::NumberAt("severity", severity)])
 }
 
 fn write_diagnostic(writer: &mut Writer, diagnostic: Diagnostic<'_>) -> Result<(), AllocError>
@@ -119,10 +113,8 @@ fn write_diagnostic(writer: &mut Writer, diagnostic: Diagnostic<'_>) -> Result<(
     write_parts(
         writer,
         &[
-            JsonPart::Key("source"),
-            JsonPart::Text("tfls"),
-            JsonPart::Key("message"),
-            JsonPart::Text(diagnostic.text),
+            JsonPart::TextAt("source", "tfls"),
+            JsonPart::TextAt("message", diagnostic.text),
             JsonPart::EndObject,
         ],
     )
@@ -146,16 +138,11 @@ fn write_head(writer: &mut Writer, uri: &str) -> Result<(), AllocError>
         writer,
         &[
             JsonPart::Object,
-            JsonPart::Key("jsonrpc"),
-            JsonPart::Text("2.0"),
-            JsonPart::Key("method"),
-            JsonPart::Text("textDocument/publishDiagnostics"),
-            JsonPart::Key("params"),
-            JsonPart::Object,
-            JsonPart::Key("uri"),
-            JsonPart::Text(uri),
-            JsonPart::Key("diagnostics"),
-            JsonPart::Array,
+            JsonPart::TextAt("jsonrpc", "2.0"),
+            JsonPart::TextAt("method", "textDocument/publishDiagnostics"),
+            JsonPart::ObjectAt("params"),
+            JsonPart::TextAt("uri", uri),
+            JsonPart::ArrayAt("diagnostics"),
         ],
     )
 }

@@ -23,10 +23,8 @@ fn write_fold(writer: &mut Writer, fold: Fold) -> Result<(), AllocError>
         writer,
         &[
             JsonPart::Object,
-            JsonPart::Key("startLine"),
-            JsonPart::Number(fold.first as u64),
-            JsonPart::Key("endLine"),
-            JsonPart::Number(fold.last as u64),
+            JsonPart::NumberAt("startLine", fold.first as u64),
+            JsonPart::NumberAt("endLine", fold.last as u64),
             JsonPart::EndObject,
         ],
     )

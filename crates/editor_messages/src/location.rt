@@ -26,8 +26,7 @@ fn write_location(writer: &mut Writer, uri: &str, range: Range) -> Result<(), Al
         writer,
         &[
             JsonPart::Object,
-            JsonPart::Key("uri"),
-            JsonPart::Text(uri),
+            JsonPart::TextAt("uri", uri),
             JsonPart::Key("range"),
         ],
     )?;

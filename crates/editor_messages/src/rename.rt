@@ -60,10 +60,8 @@ fn write_versioned(
         writer,
         &[
             JsonPart::Object,
-            JsonPart::Key("textDocument"),
-            JsonPart::Object,
-            JsonPart::Key("uri"),
-            JsonPart::Text(uri),
+            JsonPart::ObjectAt("textDocument"),
+            JsonPart::TextAt("uri", uri),
             JsonPart::Key("version"),
         ],
     )?;
@@ -126,11 +124,7 @@ fn write_with_versions(
 {
     write_parts(
         writer,
-        &[
-            JsonPart::Object,
-            JsonPart::Key("documentChanges"),
-            JsonPart::Array,
-        ],
+        &[JsonPart::Object, JsonPart::ArrayAt("documentChanges")],
     )?;
     write_versioned_documents(writer, name, documents)?;
     write_parts(writer, &[JsonPart::EndArray, JsonPart::EndObject])
@@ -145,10 +139,7 @@ fn write_without_versions(
     ensures { AddsTokens result writer.old writer.new
         (json_tokens (rename_json false name.now (map document_ranges_seen documents.now))) }
 {
-    write_parts(
-        writer,
-        &[JsonPart::Object, JsonPart::Key("changes"), JsonPart::Object],
-    )?;
+    write_parts(writer, &[JsonPart::Object, JsonPart::ObjectAt("changes")])?;
     write_changes(writer, name, documents)?;
     write_parts(writer, &[JsonPart::EndObject, JsonPart::EndObject])
 }
@@ -217,8 +208,7 @@ fn write_prepared(writer: &mut Writer, range: Range, placeholder: &str) -> Resul
     write_parts(
         writer,
         &[
-            JsonPart::Key("placeholder"),
-            JsonPart::Text(placeholder),
+            JsonPart::TextAt("placeholder", placeholder),
             JsonPart::EndObject,
         ],
     )

@@ -42,8 +42,7 @@ pub(crate) fn write_head(writer: &mut Writer, id: Id<'_>, name: &str) -> Result<
         writer,
         &[
             JsonPart::Object,
-            JsonPart::Key("jsonrpc"),
-            JsonPart::Text("2.0"),
+            JsonPart::TextAt("jsonrpc", "2.0"),
             JsonPart::Key("id"),
         ],
     )?;
@@ -73,11 +72,7 @@ fn write_error_value(writer: &mut Writer, error: ReplyError) -> Result<(), Alloc
     let text = error.text();
     write_parts(
         writer,
-        &[
-            JsonPart::Key("message"),
-            JsonPart::Text(text),
-            JsonPart::EndObject,
-        ],
+        &[JsonPart::TextAt("message", text), JsonPart::EndObject],
     )
 }
 
@@ -139,13 +134,12 @@ fn write_rename_ability(writer: &mut Writer, prepares: bool) -> Result<(), Alloc
             writer,
             &[
                 JsonPart::Object,
-                JsonPart::Key("prepareProvider"),
-                JsonPart::Flag(true),
+                JsonPart::FlagAt("prepareProvider", true),
                 JsonPart::EndObject,
             ],
         );
     }
-    write_parts(writer, &[JsonPart::Flag(true)])
+    writer.boolean(true)
 }
 
 /// Writes what the server can do, up to how it can change names.
@@ -156,27 +150,17 @@ fn write_capabilities_head(writer: &mut Writer, encoding: &str) -> Result<(), Al
         writer,
         &[
             JsonPart::Object,
-            JsonPart::Key("capabilities"),
-            JsonPart::Object,
-            JsonPart::Key("positionEncoding"),
-            JsonPart::Text(encoding),
-            JsonPart::Key("textDocumentSync"),
-            JsonPart::Object,
-            JsonPart::Key("openClose"),
-            JsonPart::Flag(true),
-            JsonPart::Key("change"),
-            JsonPart::Number(1),
+            JsonPart::ObjectAt("capabilities"),
+            JsonPart::TextAt("positionEncoding", encoding),
+            JsonPart::ObjectAt("textDocumentSync"),
+            JsonPart::FlagAt("openClose", true),
+            JsonPart::NumberAt("change", 1),
             JsonPart::EndObject,
-            JsonPart::Key("documentFormattingProvider"),
-            JsonPart::Flag(true),
-            JsonPart::Key("documentSymbolProvider"),
-            JsonPart::Flag(true),
-            JsonPart::Key("foldingRangeProvider"),
-            JsonPart::Flag(true),
-            JsonPart::Key("definitionProvider"),
-            JsonPart::Flag(true),
-            JsonPart::Key("referencesProvider"),
-            JsonPart::Flag(true),
+            JsonPart::FlagAt("documentFormattingProvider", true),
+            JsonPart::FlagAt("documentSymbolProvider", true),
+            JsonPart::FlagAt("foldingRangeProvider", true),
+            JsonPart::FlagAt("definitionProvider", true),
+            JsonPart::FlagAt("referencesProvider", true),
             JsonPart::Key("renameProvider"),
         ],
     )
@@ -190,12 +174,9 @@ fn write_capabilities_tail(writer: &mut Writer, version: &str) -> Result<(), All
         writer,
         &[
             JsonPart::EndObject,
-            JsonPart::Key("serverInfo"),
-            JsonPart::Object,
-            JsonPart::Key("name"),
-            JsonPart::Text("tfls"),
-            JsonPart::Key("version"),
-            JsonPart::Text(version),
+            JsonPart::ObjectAt("serverInfo"),
+            JsonPart::TextAt("name", "tfls"),
+            JsonPart::TextAt("version", version),
             JsonPart::EndObject,
             JsonPart::EndObject,
         ],
@@ -260,11 +241,7 @@ pub(crate) fn write_edit<'a>(
     write_range(writer, range)?;
     write_parts(
         writer,
-        &[
-            JsonPart::Key("newText"),
-            JsonPart::Text(text),
-            JsonPart::EndObject,
-        ],
+        &[JsonPart::TextAt("newText", text), JsonPart::EndObject],
     )
 }
 

@@ -36,10 +36,8 @@ fn write_name(writer: &mut Writer, name: &str, number: u64) -> Result<(), AllocE
         writer,
         &[
             JsonPart::Object,
-            JsonPart::Key("name"),
-            JsonPart::Text(name),
-            JsonPart::Key("kind"),
-            JsonPart::Number(number),
+            JsonPart::TextAt("name", name),
+            JsonPart::NumberAt("kind", number),
             JsonPart::Key("range"),
         ],
     )
@@ -55,7 +53,7 @@ fn write_front(writer: &mut Writer, symbol: &Symbol) -> Result<(), AllocError>
     write_range(writer, symbol.range)?;
     write_parts(writer, &[JsonPart::Key("selectionRange")])?;
     write_range(writer, symbol.selection)?;
-    write_parts(writer, &[JsonPart::Key("children"), JsonPart::Array])
+    write_parts(writer, &[JsonPart::ArrayAt("children")])
 }
 
 /// Ends the open symbols to which one of this level is no child. Their levels are stored, the innermost last.

@@ -1,6 +1,6 @@
 //! A part of JSON.
 
-/// A part of JSON.
+/// A bracket, a key, or a key with its value or with the bracket that opens its value.
 #[derive(Clone, Copy)]
 pub enum JsonPart<'a> {
     Object,
@@ -8,7 +8,9 @@ pub enum JsonPart<'a> {
     Array,
     EndArray,
     Key(&'a str),
-    Text(&'a str),
-    Number(u64),
-    Flag(bool),
+    ObjectAt(&'a str),
+    ArrayAt(&'a str),
+    TextAt(&'a str, &'a str),
+    NumberAt(&'a str, u64),
+    FlagAt(&'a str, bool),
 }

@@ -16,7 +16,7 @@ pub(crate) fn head(alloc: Global) -> Result<Vec<u8>, AllocError>
 {
     with_parts(
         Vec::new(alloc),
-        &[JsonPart::Object, JsonPart::Key("issues"), JsonPart::Array],
+        &[JsonPart::Object, JsonPart::ArrayAt("issues")],
     )
 }
 
@@ -26,7 +26,7 @@ pub(crate) fn foot(alloc: Global, remarks: &[Remark<'_>]) -> Result<Vec<u8>, All
 {
     let start = with_parts(
         Vec::new(alloc),
-        &[JsonPart::EndArray, JsonPart::Key("errors"), JsonPart::Array],
+        &[JsonPart::EndArray, JsonPart::ArrayAt("errors")],
     )?;
     let longer = with_remarks(alloc, Shape::TflintError, false, start, remarks)?;
     with_parts(longer, &[JsonPart::EndArray, JsonPart::EndObject])
