@@ -7,7 +7,7 @@ use Rattle.json.specs.Token.{end_array, end_object, key, string}
 use Rattle.text_places.specs.declared.ranges.Range.{Range}
 use Rattle.rule_set.specs.declared.rule.Rule.{Rule}
 use Rattle.json.specs.Tree.{items_tokens, json_tokens}
-use Rattle.json_parts.specs.Values.{json_items}
+use Rattle.lint_forms.specs.JsonValues.{json_items}
 use Rattle.editor_messages.specs.Diagnostics.{Diagnostic as SpecDiagnostic, diagnostic_json, diagnostics_json, severity_by}
 use Rattle.editor_messages.specs.Inner.Heads.{diagnostics_head, diagnostics_tokens, front_tokens, rule_tokens}
 use Rattle.editor_messages.specs.Views.{diagnostic_seen}

@@ -6,8 +6,8 @@ use Rattle.json.specs.Json.{Json}
 use Rattle.json.specs.Token.{end_array}
 use Rattle.json.specs.Tree.{items_tokens, json_tokens}
 use Rattle.json.specs.Written.{Written}
-use Rattle.json_parts.proofs.AddsLemmas.{Added, added_then}
-use Rattle.json_parts.specs.Values.{json_items}
+use Rattle.lint_forms.proofs.AddsLemmas.{Added, added_then}
+use Rattle.lint_forms.specs.JsonValues.{json_items}
 use Rattle.text_places.specs.Edits.{Edit, EditsAscend, edit_of}
 use Rattle.text_places.specs.PlacedEdits.{PlacedEdit, placed_edits, placed_edit}
 use Rattle.text_places.specs.declared.edits.TextEdit.{TextEdit}

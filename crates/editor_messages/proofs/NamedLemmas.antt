@@ -6,7 +6,7 @@ use Rattle.std.specs.Prelude.{Option, Some, None, codes}
 use Rattle.json.specs.Json.{Json}
 use Rattle.json.specs.Token.{Token, begin_array, begin_object, end_array, end_object, key, string}
 use Rattle.json.specs.Tree.{items_tokens, json_tokens, members_tokens}
-use Rattle.json_parts.specs.Values.{json_items}
+use Rattle.lint_forms.specs.JsonValues.{json_items}
 use Rattle.text_places.specs.PlacedEdits.{in_range}
 use Rattle.text_places.specs.declared.ranges.Range.{Range}
 use Rattle.editor_messages.specs.Inner.Heads.{capabilities_head, capabilities_tail}

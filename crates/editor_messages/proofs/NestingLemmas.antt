@@ -8,7 +8,7 @@ use Rattle.json.specs.Json.{Items}
 use Rattle.json.specs.Token.{Token, end_array, end_object}
 use Rattle.json.specs.Tree.{items_tokens, json_tokens}
 use Rattle.json.specs.Written.{Written}
-use Rattle.json_parts.proofs.AddsLemmas.{Added, added_then}
+use Rattle.lint_forms.proofs.AddsLemmas.{Added, added_then}
 use Rattle.text_outline.specs.Symbols.{Symbol}
 use Rattle.text_outline.specs.Views.{symbol_seen}
 use Rattle.text_outline.specs.declared.symbol.Symbol.{Symbol as SymbolOf}

@@ -2,7 +2,7 @@
 -- what it was told before counts no more.
 use Rattle.std.specs.Prelude.{ℕ, List, Option, Some, None, codes, decimal, map}
 use Rattle.json.specs.Json.{Json, Members, array, member, no_members, number, object, string}
-use Rattle.json_parts.specs.Values.{json_items}
+use Rattle.lint_forms.specs.JsonValues.{json_items}
 use Rattle.text_places.specs.declared.ranges.Range.{Range}
 use Rattle.lint_forms.specs.Sarif.{page_of}
 use Rattle.rule_set.specs.Rules.{rule_name, severity}

@@ -3,7 +3,7 @@ use Rattle.std.specs.Prelude.{◌≡◌, ℕ, refl, false, true, List, [], ◌�
 use Rattle.std.specs.Fmt.{digits}
 use Rattle.json.specs.Json.{array, item, no_items}
 use Rattle.json.specs.Print.{escape_byte, print_from}
-use Rattle.json_parts.specs.Values.{json_text}
+use Rattle.lint_forms.specs.JsonValues.{json_text}
 use Rattle.text_places.specs.declared.ranges.Range.{Range}
 use Rattle.text_outline.specs.Symbols.{Symbol}
 use Rattle.text_outline.specs.declared.symbol.SymbolKind.TheVariants.{Block}

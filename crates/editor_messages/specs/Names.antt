@@ -2,7 +2,7 @@
 -- Request", "Prepare Rename Request" and "Rename Request").
 use Rattle.std.specs.Prelude.{ℕ, Bool, false, true, List, [], ◌∷◌, ◌++◌, Option, Some, None, codes, decimal, map}
 use Rattle.json.specs.Json.{Json, Members, array, member, no_members, null, number, object, string}
-use Rattle.json_parts.specs.Values.{json_items}
+use Rattle.lint_forms.specs.JsonValues.{json_items}
 use Rattle.text_places.specs.PlacedEdits.{in_range}
 use Rattle.text_places.specs.declared.ranges.Range.{Range}
 use Rattle.editor_messages.specs.Replies.{edits_json, range_json}

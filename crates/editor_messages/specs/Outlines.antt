@@ -2,7 +2,7 @@
 -- and "Folding Range Request").
 use Rattle.std.specs.Prelude.{ℕ, zero, suc, List, [], ◌∷◌, codes, decimal, length, map, nat_lt, if◌then◌else◌}
 use Rattle.json.specs.Json.{Items, Json, array, item, member, no_items, no_members, number, object, string}
-use Rattle.json_parts.specs.Values.{json_items}
+use Rattle.lint_forms.specs.JsonValues.{json_items}
 use Rattle.text_outline.specs.Symbols.{Symbol}
 use Rattle.text_outline.specs.declared.fold.Fold.{Fold}
 use Rattle.text_outline.specs.declared.symbol.SymbolKind.{SymbolKind}

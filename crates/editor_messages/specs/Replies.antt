@@ -1,7 +1,7 @@
 -- THE REPLIES to an editor (JSON-RPC 2.0, section 5; Language Server Protocol 3.17).
 use Rattle.std.specs.Prelude.{ℕ, Bool, false, true, List, Result, Ok, Err, codes, decimal, map}
 use Rattle.json.specs.Json.{Json, array, boolean, member, no_members, number, object, string}
-use Rattle.json_parts.specs.Values.{json_items}
+use Rattle.lint_forms.specs.JsonValues.{json_items}
 use Rattle.text_places.specs.PlacedEdits.{PlacedEdit}
 use Rattle.text_places.specs.declared.place.Place.{Place}
 use Rattle.text_places.specs.declared.place.Units.{Units}

@@ -2,8 +2,8 @@
 
 ghost use Rattle.std.specs.Prelude.{◌≡◌, IfOk, map};
 ghost use Rattle.json.specs.Tree.{json_tokens};
-ghost use Rattle.json_parts.specs.AddsTokens.{AddsTokens};
-ghost use Rattle.json_parts.specs.Values.{json_text};
+ghost use Rattle.lint_forms.specs.AddsTokens.{AddsTokens};
+ghost use Rattle.lint_forms.specs.JsonValues.{json_text};
 ghost use Rattle.rule_set.specs.Rules.{rule_name};
 ghost use Rattle.lint_forms.specs.Sarif.{page_of};
 ghost use Rattle.editor_messages.specs.Diagnostics.{diagnostic_json, diagnostics_json, severity_by, severity_number};
@@ -12,7 +12,7 @@ ghost use Rattle.editor_messages.specs.Views.{diagnostic_seen};
 
 use crate::range::write_range;
 use json::Writer;
-use json_parts::{JsonPart, write_parts};
+use lint_forms::{JsonPart, write_parts};
 use rule_set::{Rule, Severity};
 use std::alloc::{AllocError, Global};
 use text_places::Range;

@@ -2,8 +2,8 @@
 
 ghost use Rattle.std.specs.Prelude.{◌≡◌, IfOk};
 ghost use Rattle.json.specs.Tree.{HasNumbers, json_tokens};
-ghost use Rattle.json_parts.specs.AddsTokens.{AddsTokens};
-ghost use Rattle.json_parts.specs.Values.{json_text};
+ghost use Rattle.lint_forms.specs.AddsTokens.{AddsTokens};
+ghost use Rattle.lint_forms.specs.JsonValues.{json_text};
 ghost use Rattle.editor_messages.specs.Inner.Nesting.{folds_tokens};
 ghost use Rattle.editor_messages.specs.Outlines.{fold_json, folds_json};
 ghost use Rattle.editor_messages.specs.Replies.{result_json};
@@ -12,7 +12,7 @@ ghost use Rattle.editor_messages.specs.Views.{id_seen};
 use crate::message::Id;
 use crate::reply::{write_end, write_head};
 use json::Writer;
-use json_parts::{JsonPart, write_parts};
+use lint_forms::{JsonPart, write_parts};
 use std::alloc::{AllocError, Global};
 use text_outline::Fold;
 

@@ -2,8 +2,8 @@
 
 ghost use Rattle.std.specs.Prelude.{◌≡◌, IfOk, map};
 ghost use Rattle.json.specs.Tree.{HasNumbers, json_tokens};
-ghost use Rattle.json_parts.specs.AddsTokens.{AddsTokens};
-ghost use Rattle.json_parts.specs.Values.{json_text};
+ghost use Rattle.lint_forms.specs.AddsTokens.{AddsTokens};
+ghost use Rattle.lint_forms.specs.JsonValues.{json_text};
 ghost use Rattle.editor_messages.specs.Inner.Named.{locations_tokens, ranges_tokens};
 ghost use Rattle.editor_messages.specs.Names.{locations_json, range_location};
 ghost use Rattle.editor_messages.specs.Replies.{result_json};
@@ -13,7 +13,7 @@ use crate::message::Id;
 use crate::range::{DocumentRanges, write_range};
 use crate::reply::{write_end, write_head};
 use json::Writer;
-use json_parts::{JsonPart, write_parts};
+use lint_forms::{JsonPart, write_parts};
 use std::alloc::{AllocError, Global};
 use text_places::Range;
 

@@ -1,11 +1,11 @@
 //! Ranges of a document.
 
 ghost use Rattle.json.specs.Tree.{json_tokens};
-ghost use Rattle.json_parts.specs.AddsTokens.{AddsTokens};
+ghost use Rattle.lint_forms.specs.AddsTokens.{AddsTokens};
 ghost use Rattle.editor_messages.specs.Replies.{range_json};
 
 use json::Writer;
-use json_parts::{JsonPart, write_parts};
+use lint_forms::{JsonPart, write_parts};
 use std::alloc::AllocError;
 use text_places::Range;
 

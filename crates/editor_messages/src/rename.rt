@@ -2,8 +2,8 @@
 
 ghost use Rattle.std.specs.Prelude.{◌≡◌, IfOk, false, map, true};
 ghost use Rattle.json.specs.Tree.{HasNumbers, json_tokens};
-ghost use Rattle.json_parts.specs.AddsTokens.{AddsTokens};
-ghost use Rattle.json_parts.specs.Values.{json_text};
+ghost use Rattle.lint_forms.specs.AddsTokens.{AddsTokens};
+ghost use Rattle.lint_forms.specs.JsonValues.{json_text};
 ghost use Rattle.editor_messages.specs.Inner.Named.{change_tokens, changes_tokens, renaming_tokens, versioned_tokens};
 ghost use Rattle.editor_messages.specs.Names.{prepared_json, rename_json, renaming_edits, version_json, versioned_edits};
 ghost use Rattle.editor_messages.specs.Replies.{result_json};
@@ -13,7 +13,7 @@ use crate::message::Id;
 use crate::range::{DocumentRanges, write_range};
 use crate::reply::{write_edit, write_end, write_head};
 use json::Writer;
-use json_parts::{JsonPart, write_parts};
+use lint_forms::{JsonPart, write_parts};
 use std::alloc::{AllocError, Global};
 use text_places::Range;
 

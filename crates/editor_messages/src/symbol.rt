@@ -2,8 +2,8 @@
 
 ghost use Rattle.std.specs.Prelude.{◌≡◌, IfOk, OnOk, length, map, reverse};
 ghost use Rattle.json.specs.Tree.{HasNumbers, items_tokens, json_tokens};
-ghost use Rattle.json_parts.specs.AddsTokens.{AddsTokens};
-ghost use Rattle.json_parts.specs.Values.{json_text};
+ghost use Rattle.lint_forms.specs.AddsTokens.{AddsTokens};
+ghost use Rattle.lint_forms.specs.JsonValues.{json_text};
 ghost use Rattle.text_outline.specs.Views.{symbol_seen};
 ghost use Rattle.editor_messages.specs.Inner.Nesting.{ends, levels_left, name_tokens, symbol_front};
 ghost use Rattle.editor_messages.specs.Outlines.{nested_items, symbol_number, symbols_json};
@@ -14,7 +14,7 @@ use crate::message::Id;
 use crate::range::write_range;
 use crate::reply::{write_end, write_head};
 use json::Writer;
-use json_parts::{JsonPart, write_parts};
+use lint_forms::{JsonPart, write_parts};
 use std::alloc::{AllocError, Global};
 use text_outline::{Symbol, SymbolKind};
 

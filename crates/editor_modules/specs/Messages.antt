@@ -1,7 +1,7 @@
 -- The messages that tell the diagnostics of documents.
 use Rattle.std.specs.Prelude.{◌≡◌, ◌==◌, not, ℕ, Bool, List, Option, Some, None, Vec, length, map, string_bytes}
 use Rattle.file_tree.specs.Files.{Files, Name}
-use Rattle.json_parts.specs.Values.{json_text}
+use Rattle.lint_forms.specs.JsonValues.{json_text}
 use Rattle.open_files.specs.OpenTexts.{OpenText}
 use Rattle.text_places.specs.declared.place.Units.{Units}
 use Rattle.editor_messages.specs.Diagnostics.{diagnostics_json}

@@ -3,7 +3,7 @@ use Rattle.std.proofs.Common.{◌≡◌, ◌∙◌, ℕ, List, ap, ap₂, map, r
 use Rattle.std.proofs.lemmas.Result.{IfOk-weaker}
 use Rattle.std.specs.Prelude.{IfOk, Result, Ok, Err, Vec}
 use Rattle.json.specs.Json.{Json}
-use Rattle.json_parts.specs.Values.{json_text}
+use Rattle.lint_forms.specs.JsonValues.{json_text}
 use Rattle.text_places.specs.Edits.{edit_of, line_edits}
 use Rattle.text_places.specs.PlacedEdits.{placed_edits}
 use Rattle.text_places.specs.declared.edits.TextEdit.{TextEdit}

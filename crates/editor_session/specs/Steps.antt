@@ -3,7 +3,7 @@ use Rattle.std.specs.Prelude.{◌≡◌, ◌⊎◌, ℕ, List, Option, Some, Non
 use Rattle.std.specs.Str.{IsUtf8}
 use Rattle.file_tree.specs.Files.{Files}
 use Rattle.json.specs.Json.{Json, document, null}
-use Rattle.json_parts.specs.Values.{json_text}
+use Rattle.lint_forms.specs.JsonValues.{json_text}
 use Rattle.editor_messages.specs.Messages.{Message, Notification, Invalid, Response, Asks, Tells, Text, Close, Exit, Other, message_of}
 use Rattle.editor_messages.specs.Replies.{error_json, reply_json}
 use Rattle.editor_messages.specs.declared.error.ReplyError.{ReplyError}

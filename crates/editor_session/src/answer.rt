@@ -1,7 +1,7 @@
 //! The answer to a request.
 
 ghost use Rattle.std.specs.Prelude.{◌≡◌, ◌<◌, ◌^◌, IfOk, Ok, Some, length};
-ghost use Rattle.json_parts.specs.Values.{json_text};
+ghost use Rattle.lint_forms.specs.JsonValues.{json_text};
 ghost use Rattle.text_places.specs.Edits.{line_edits};
 ghost use Rattle.text_places.specs.PlacedEdits.{placed_edits};
 ghost use Rattle.editor_messages.specs.Replies.{edits_json, reply_json};

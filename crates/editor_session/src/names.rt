@@ -2,7 +2,7 @@
 
 ghost use Rattle.std.specs.Prelude.{◌≡◌, IfOk};
 ghost use Rattle.json.specs.Tree.{HasNumbers};
-ghost use Rattle.json_parts.specs.Values.{json_text};
+ghost use Rattle.lint_forms.specs.JsonValues.{json_text};
 ghost use Rattle.editor_messages.specs.Replies.{reply_json};
 ghost use Rattle.editor_names.specs.Modules.{IsDocumentRanges};
 ghost use Rattle.open_files.specs.OpenTexts.{version_of};

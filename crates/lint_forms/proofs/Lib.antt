@@ -1,3 +1,4 @@
+pub mod AddsLemmas
 pub mod NumberLemmas
 pub mod NumberingLemmas
 pub mod SarifLemmas

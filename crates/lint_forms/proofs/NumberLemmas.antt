@@ -19,7 +19,7 @@ use Rattle.lint_forms.specs.Sarif.{comment_json, location_json, refusal_json, re
 use Rattle.lint_forms.specs.Documents.{sarif_json}
 use Rattle.lint_forms.specs.Tflint.{error_json, issue_json, place_json, range_json}
 use Rattle.lint_forms.specs.Documents.{tflint_json}
-use Rattle.json_parts.specs.Values.{json_items}
+use Rattle.lint_forms.specs.JsonValues.{json_items}
 use Rattle.lint_forms.specs.declared.subject.Subject.{Subject}
 use Rattle.lint_forms.specs.declared.subject.Subject.TheVariants as subject
 

@@ -7,7 +7,7 @@ use Rattle.rule_set.specs.declared.rule.Rule.{Rule}
 use Rattle.lint_forms.specs.Inner.SarifParts.{results_head, rules_tokens, sarif_start}
 use Rattle.lint_forms.specs.RuleTexts.{reason, reports}
 use Rattle.lint_forms.specs.Sarif.{comment_json, described_rule, full_text, page_of, refusal_json, rule_json, sarif_head}
-use Rattle.json_parts.specs.Values.{json_items}
+use Rattle.lint_forms.specs.JsonValues.{json_items}
 use Rattle.lint_forms.specs.Words.{level_word}
 use Rattle.lint_forms.specs.declared.subject.Subject.TheVariants as subject
 

@@ -8,7 +8,7 @@ use Rattle.json.specs.Print.{ends, print, print_from}
 use Rattle.json.specs.Token.{Token, end_array}
 use Rattle.json.specs.Tree.{items_tokens, json_tokens, members_tokens}
 use Rattle.json.proofs.Printed.Tokens.{print_from-append}
-use Rattle.json_parts.specs.Values.{json_items}
+use Rattle.lint_forms.specs.JsonValues.{json_items}
 use Rattle.lint_forms.specs.Values.{comma, array_text}
 
 abbrev pub has_values : List Json → Bool

@@ -22,7 +22,7 @@ use Rattle.lint_forms.specs.Sarif.{invocation_json, result_json, sarif_foot, sar
 use Rattle.lint_forms.specs.Documents.{sarif_json}
 use Rattle.lint_forms.specs.Tflint.{error_json, issue_json}
 use Rattle.lint_forms.specs.Documents.{tflint_json}
-use Rattle.json_parts.specs.Values.{json_items}
+use Rattle.lint_forms.specs.JsonValues.{json_items}
 use Rattle.lint_forms.specs.Values.{array_text}
 use Rattle.lint_forms.specs.declared.kind.Form.{Form}
 use Rattle.lint_forms.specs.declared.kind.Form.TheVariants.{Gitlab, Json as TflintForm, Sarif}

@@ -8,7 +8,7 @@ use Rattle.lint_forms.specs.Marks.{MarkedRemark}
 use Rattle.lint_forms.specs.Remarks.{Remark}
 use Rattle.lint_forms.specs.Sarif.{invocation_json, result_json, tool_json}
 use Rattle.lint_forms.specs.Tflint.{error_json, issue_json}
-use Rattle.json_parts.specs.Values.{json_items}
+use Rattle.lint_forms.specs.JsonValues.{json_items}
 use Rattle.lint_forms.specs.declared.kind.Form.{Form}
 
 abbrev pub is_some : List Remark → Bool

@@ -1,7 +1,10 @@
+pub mod AddsTokens
 pub mod Documents
 pub mod Forms
 pub mod Gitlab
 pub mod Inner
+pub mod JsonParts
+pub mod JsonValues
 pub mod Laws
 pub mod Lines
 pub mod Marks

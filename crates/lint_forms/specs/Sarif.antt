@@ -11,7 +11,7 @@ use Rattle.lint_forms.specs.Marks.{MarkedRemark}
 use Rattle.lint_forms.specs.Places.{uri}
 use Rattle.lint_forms.specs.Remarks.{Remark}
 use Rattle.lint_forms.specs.RuleTexts.{reason, reports}
-use Rattle.json_parts.specs.Values.{json_items}
+use Rattle.lint_forms.specs.JsonValues.{json_items}
 use Rattle.lint_forms.specs.Words.{level_word, rule_id}
 use Rattle.lint_forms.specs.declared.subject.Subject.{Subject}
 use Rattle.lint_forms.specs.declared.subject.Subject.TheVariants as subject

@@ -1,7 +1,7 @@
 -- Values in a JSON array, as they are written in turn.
 use Rattle.std.specs.Prelude.{ℕ, Bool, true, false, List, [], ◌∷◌, ◌++◌}
 use Rattle.json.specs.Json.{Json}
-use Rattle.json_parts.specs.Values.{json_text}
+use Rattle.lint_forms.specs.JsonValues.{json_text}
 
 abbrev pub comma : Bool → List ℕ
 comma false = []

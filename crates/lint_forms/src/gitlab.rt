@@ -5,11 +5,12 @@ ghost use Rattle.json.specs.Print.{print};
 ghost use Rattle.json.specs.Token.{begin_array, end_array};
 ghost use Rattle.lint_forms.specs.Gitlab.{quality_json};
 ghost use Rattle.lint_forms.specs.Inner.Shapes.{entry_by};
-ghost use Rattle.json_parts.specs.Values.{json_text};
+ghost use Rattle.lint_forms.specs.JsonValues.{json_text};
 
 use crate::entry::MarkedRemark;
+use crate::json_part::JsonPart;
+use crate::json_parts::with_parts;
 use crate::words::{quality_word, rule_id};
-use json_parts::{JsonPart, with_parts};
 use std::alloc::{AllocError, Global};
 
 /// A text with an entry appended.

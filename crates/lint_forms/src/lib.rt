@@ -1,5 +1,5 @@
 //! The forms in which forges and editors read the remarks on modules: their issues, comments that are meant to silence
-//! a rule and don't, and why files are refused.
+//! a rule and don't, and why files are refused. And JSON, written part by part.
 //!
 //! The module [`laws`] has laws of the definitions alone.
 #![tactic(auto)]
@@ -7,6 +7,8 @@
 mod entry;
 pub mod form;
 mod gitlab;
+mod json_part;
+mod json_parts;
 mod kind;
 pub mod laws;
 mod lines;
@@ -22,6 +24,8 @@ mod values;
 mod words;
 mod xml;
 
+pub use json_part::JsonPart;
+pub use json_parts::write_parts;
 pub use kind::Form;
 pub use remark::Remark;
 pub use subject::Subject;

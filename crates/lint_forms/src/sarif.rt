@@ -4,22 +4,23 @@ ghost use Rattle.std.specs.Prelude.{◌≡◌, ◌++◌, IfOk};
 ghost use Rattle.std.specs.String.{string_bytes};
 ghost use Rattle.json.specs.Print.{print};
 ghost use Rattle.json.specs.Tree.{json_tokens};
-ghost use Rattle.json_parts.specs.AddsTokens.{AddsTokens};
+ghost use Rattle.lint_forms.specs.AddsTokens.{AddsTokens};
 ghost use Rattle.lint_forms.specs.Inner.Shapes.{entry_by};
 ghost use Rattle.lint_forms.specs.Inner.SarifParts.{results_head, rules_tokens, sarif_start};
 ghost use Rattle.lint_forms.specs.Remarks.{said_by};
 ghost use Rattle.lint_forms.specs.Sarif.{brief_rule, described_rule, full_text, page_of, result_by, result_json, rule_index, rule_json, sarif_foot, sarif_head};
-ghost use Rattle.json_parts.specs.Values.{json_text};
+ghost use Rattle.lint_forms.specs.JsonValues.{json_text};
 ghost use Rattle.lint_forms.specs.Words.{level_word, rule_id};
 
 use crate::entry::MarkedRemark;
+use crate::json_part::JsonPart;
+use crate::json_parts::{with_parts, write_parts};
 use crate::places::uri_of;
 use crate::remark::Remark;
 use crate::rule_texts::{reason, reports};
 use crate::subject::Subject;
 use crate::words::{level_word, rule_id};
 use json::Writer;
-use json_parts::{JsonPart, with_parts, write_parts};
 use rule_set::{ALL_RULES, Rule, rank};
 use std::alloc::{AllocError, Global};
 

@@ -3,11 +3,12 @@
 ghost use Rattle.std.specs.Prelude.{◌≡◌, ◌++◌, IfOk};
 ghost use Rattle.lint_forms.specs.Remarks.{said_by};
 ghost use Rattle.lint_forms.specs.Tflint.{error_json, issue_json};
-ghost use Rattle.json_parts.specs.Values.{json_text};
+ghost use Rattle.lint_forms.specs.JsonValues.{json_text};
 
+use crate::json_part::JsonPart;
+use crate::json_parts::with_parts;
 use crate::remark::Remark;
 use crate::words::{rule_id, severity_word};
-use json_parts::{JsonPart, with_parts};
 use std::alloc::AllocError;
 
 /// A text with an issue appended.

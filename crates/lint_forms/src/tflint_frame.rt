@@ -4,10 +4,11 @@ ghost use Rattle.std.specs.Prelude.{◌≡◌, IfOk, map};
 ghost use Rattle.lint_forms.specs.Remarks.{said_by};
 ghost use Rattle.lint_forms.specs.Forms.{tflint_foot, tflint_head};
 
+use crate::json_part::JsonPart;
+use crate::json_parts::with_parts;
 use crate::remark::Remark;
 use crate::shape::Shape;
 use crate::values::with_remarks;
-use json_parts::{JsonPart, with_parts};
 use std::alloc::{AllocError, Global};
 
 /// The text before the issues.

@@ -2,7 +2,7 @@
 use Rattle.std.specs.Prelude.{◌≡◌, ℕ, List, Result, Ok, Err, Vec}
 use Rattle.std.specs.Borrow.{Bor}
 use Rattle.json.specs.Json.{Json}
-use Rattle.json_parts.specs.Values.{json_text}
+use Rattle.lint_forms.specs.JsonValues.{json_text}
 use Rattle.editor_messages.specs.Replies.{reply_json}
 use Rattle.editor_messages.specs.declared.error.ReplyError.{ReplyError}
 

@@ -6,7 +6,7 @@ use Rattle.lint_forms.specs.Marks.{MarkedRemark}
 use Rattle.lint_forms.specs.Remarks.{said_by}
 use Rattle.lint_forms.specs.Sarif.{result_json}
 use Rattle.lint_forms.specs.Tflint.{error_json, issue_json}
-use Rattle.json_parts.specs.Values.{json_text}
+use Rattle.lint_forms.specs.JsonValues.{json_text}
 use Rattle.lint_forms.specs.Values.{array_text}
 use Rattle.lint_forms.specs.declared.entry.MarkedRemark as code
 use Rattle.lint_forms.specs.declared.shape.Shape.{Shape}

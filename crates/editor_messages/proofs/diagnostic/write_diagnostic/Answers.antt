@@ -1,4 +1,4 @@
-use Rattle.json_parts.proofs.AddsLemmas.{added_then, adds_as, adds_then}
+use Rattle.lint_forms.proofs.AddsLemmas.{added_then, adds_as, adds_then}
 use Rattle.editor_messages.proofs.DiagnosticLemmas.{one_diagnostic}
 use Rattle.editor_messages.proofs.diagnostic.write_diagnostic.Goals as goal
 

@@ -1,5 +1,5 @@
 use Rattle.std.proofs.Common.{subst}
-use Rattle.json_parts.proofs.AddsLemmas.{Added, added_then}
+use Rattle.lint_forms.proofs.AddsLemmas.{Added, added_then}
 use Rattle.editor_messages.proofs.DiagnosticLemmas.{one_more_diagnostic}
 use Rattle.editor_messages.proofs.diagnostic.write_diagnostics.Goals as goal
 

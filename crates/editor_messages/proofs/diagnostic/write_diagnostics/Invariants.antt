@@ -1,5 +1,5 @@
 use Rattle.std.proofs.Common.{map, take}
-use Rattle.json_parts.proofs.AddsLemmas.{Added}
+use Rattle.lint_forms.proofs.AddsLemmas.{Added}
 use Rattle.editor_messages.specs.Inner.Heads.{diagnostics_tokens}
 use Rattle.editor_messages.specs.Views.{diagnostic_seen}
 use Rattle.editor_messages.proofs.diagnostic.write_diagnostics.Given as goal

@@ -1,5 +1,5 @@
 use Rattle.std.proofs.Common.{map}
-use Rattle.json_parts.proofs.AddsLemmas.{added_then, adds_as, adds_then}
+use Rattle.lint_forms.proofs.AddsLemmas.{added_then, adds_as, adds_then}
 use Rattle.editor_messages.specs.Views.{diagnostic_seen}
 use Rattle.editor_messages.proofs.DiagnosticLemmas.{message_tokens}
 use Rattle.editor_messages.proofs.diagnostic.write_message.Goals as goal

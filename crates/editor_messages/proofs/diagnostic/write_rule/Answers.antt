@@ -1,7 +1,7 @@
 use Rattle.std.proofs.Common.{◌∙◌, ◌∷◌, [], ap, ap₂, sym}
 use Rattle.std.specs.Prelude.{codes}
 use Rattle.json.specs.Token.{begin_object, end_object, key, string}
-use Rattle.json_parts.proofs.AddsLemmas.{adds_as}
+use Rattle.lint_forms.proofs.AddsLemmas.{adds_as}
 use Rattle.editor_messages.specs.Inner.Heads.{rule_tokens}
 use Rattle.editor_messages.proofs.diagnostic.write_rule.Goals as goal
 

@@ -1,6 +1,6 @@
 use Rattle.std.proofs.Common.{◌∷◌, ap, sym}
 use Rattle.json.specs.Token.{begin_array}
-use Rattle.json_parts.proofs.AddsLemmas.{added_then, adds_as, adds_then}
+use Rattle.lint_forms.proofs.AddsLemmas.{added_then, adds_as, adds_then}
 use Rattle.editor_messages.specs.Outlines.{fold_json}
 use Rattle.editor_messages.proofs.EditTokenLemmas.{array_tokens}
 use Rattle.editor_messages.proofs.fold.write_array.Goals as goal

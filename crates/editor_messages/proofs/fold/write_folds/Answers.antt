@@ -2,7 +2,7 @@ use Rattle.std.proofs.Common.{◌∙◌, ◌++◌, [], ◌∷◌, ap, append-nil
 use Rattle.std.proofs.lemmas.List.{take_more}
 use Rattle.std.proofs.lemmas.List.Concat.{flat_map-append}
 use Rattle.json.specs.Tree.{json_tokens}
-use Rattle.json_parts.proofs.AddsLemmas.{Added, added_then}
+use Rattle.lint_forms.proofs.AddsLemmas.{Added, added_then}
 use Rattle.editor_messages.specs.Inner.Nesting.{folds_tokens}
 use Rattle.editor_messages.specs.Outlines.{fold_json}
 use Rattle.editor_messages.proofs.fold.write_folds.Goals as goal

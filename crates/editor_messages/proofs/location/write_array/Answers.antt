@@ -2,7 +2,7 @@ use Rattle.std.proofs.Common.{◌∷◌, ap, map}
 use Rattle.json.specs.Token.{begin_array}
 use Rattle.editor_messages.specs.Views.{document_ranges_seen}
 use Rattle.editor_messages.proofs.NamedLemmas.{all_locations}
-use Rattle.json_parts.proofs.AddsLemmas.{added_then, adds_as, adds_then}
+use Rattle.lint_forms.proofs.AddsLemmas.{added_then, adds_as, adds_then}
 use Rattle.editor_messages.proofs.location.write_array.Goals as goal
 
 pub returns : goal.returns

@@ -1,5 +1,5 @@
 use Rattle.std.proofs.Common.{ap₂}
-use Rattle.json_parts.proofs.AddsLemmas.{adds_as}
+use Rattle.lint_forms.proofs.AddsLemmas.{adds_as}
 use Rattle.editor_messages.specs.Inner.Named.{ranges_tokens}
 use Rattle.editor_messages.proofs.location.write_document.Goals as goal
 

@@ -1,5 +1,5 @@
 use Rattle.std.proofs.Common.{subst}
-use Rattle.json_parts.proofs.AddsLemmas.{Added, added_then}
+use Rattle.lint_forms.proofs.AddsLemmas.{Added, added_then}
 use Rattle.editor_messages.specs.Inner.Named.{ranges_tokens}
 use Rattle.editor_messages.specs.Views.{document_ranges_seen}
 use Rattle.editor_messages.proofs.NamedLemmas.{one_more_item}

@@ -1,5 +1,5 @@
 use Rattle.std.proofs.Common.{map, take}
-use Rattle.json_parts.proofs.AddsLemmas.{Added}
+use Rattle.lint_forms.proofs.AddsLemmas.{Added}
 use Rattle.editor_messages.specs.Inner.Named.{locations_tokens}
 use Rattle.editor_messages.specs.Views.{document_ranges_seen}
 use Rattle.editor_messages.proofs.location.write_documents.Given as goal

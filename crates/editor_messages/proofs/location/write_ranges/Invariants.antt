@@ -1,5 +1,5 @@
 use Rattle.std.proofs.Common.{take}
-use Rattle.json_parts.proofs.AddsLemmas.{Added}
+use Rattle.lint_forms.proofs.AddsLemmas.{Added}
 use Rattle.editor_messages.specs.Inner.Named.{ranges_tokens}
 use Rattle.editor_messages.proofs.location.write_ranges.Given as goal
 

@@ -1,5 +1,5 @@
 use Rattle.std.proofs.Common.{ap₂}
-use Rattle.json_parts.proofs.AddsLemmas.{adds_as, adds_then}
+use Rattle.lint_forms.proofs.AddsLemmas.{adds_as, adds_then}
 use Rattle.editor_messages.specs.Inner.Named.{change_tokens}
 use Rattle.editor_messages.proofs.rename.write_change.Goals as goal
 

@@ -1,5 +1,5 @@
 use Rattle.editor_messages.proofs.NamedLemmas.{all_renamings}
-use Rattle.json_parts.proofs.AddsLemmas.{added_then, adds_as, adds_then}
+use Rattle.lint_forms.proofs.AddsLemmas.{added_then, adds_as, adds_then}
 use Rattle.editor_messages.proofs.rename.write_edits.Goals as goal
 
 pub returns : goal.returns

@@ -1,4 +1,4 @@
-use Rattle.json_parts.proofs.AddsLemmas.{added_then, adds_then}
+use Rattle.lint_forms.proofs.AddsLemmas.{added_then, adds_then}
 use Rattle.editor_messages.proofs.rename.write_prepared.Goals as goal
 
 pub returns : goal.returns

@@ -1,6 +1,6 @@
 use Rattle.editor_messages.specs.Names.{prepared_json}
 use Rattle.std.specs.Prelude.{codes}
-use Rattle.json_parts.proofs.AddsLemmas.{added_then, adds_as, adds_then}
+use Rattle.lint_forms.proofs.AddsLemmas.{added_then, adds_as, adds_then}
 use Rattle.editor_messages.specs.Views.{id_seen}
 use Rattle.editor_messages.proofs.ReplyLemmas.{reply_tokens}
 use Rattle.editor_messages.proofs.rename.write_prepared_reply.Goals as goal

@@ -2,7 +2,7 @@ use Rattle.std.proofs.Common.{map}
 use Rattle.editor_messages.specs.Names.{rename_json}
 use Rattle.editor_messages.specs.Views.{document_ranges_seen}
 use Rattle.std.specs.Prelude.{codes}
-use Rattle.json_parts.proofs.AddsLemmas.{added_then, adds_as, adds_then}
+use Rattle.lint_forms.proofs.AddsLemmas.{added_then, adds_as, adds_then}
 use Rattle.editor_messages.specs.Views.{id_seen}
 use Rattle.editor_messages.proofs.ReplyLemmas.{reply_tokens}
 use Rattle.editor_messages.proofs.rename.write_rename_reply.Goals as goal

@@ -1,5 +1,5 @@
 use Rattle.std.proofs.Common.{subst}
-use Rattle.json_parts.proofs.AddsLemmas.{Added, added_then}
+use Rattle.lint_forms.proofs.AddsLemmas.{Added, added_then}
 use Rattle.json.specs.Tree.{json_tokens}
 use Rattle.text_places.specs.PlacedEdits.{in_range}
 use Rattle.editor_messages.specs.Replies.{edit_json}

@@ -1,5 +1,5 @@
 use Rattle.std.proofs.Common.{take}
-use Rattle.json_parts.proofs.AddsLemmas.{Added}
+use Rattle.lint_forms.proofs.AddsLemmas.{Added}
 use Rattle.editor_messages.specs.Inner.Named.{renaming_tokens}
 use Rattle.editor_messages.proofs.rename.write_renamings.Given as goal
 

@@ -1,6 +1,6 @@
 use Rattle.std.proofs.Common.{◌∙◌, ap₂}
 use Rattle.json.specs.Tree.{json_tokens}
-use Rattle.json_parts.proofs.AddsLemmas.{added_then, adds_as, adds_then}
+use Rattle.lint_forms.proofs.AddsLemmas.{added_then, adds_as, adds_then}
 use Rattle.editor_messages.specs.Names.{versioned_edits}
 use Rattle.editor_messages.proofs.NamedLemmas.{one_versioned}
 use Rattle.editor_messages.proofs.rename.write_versioned.Goals as goal

@@ -1,7 +1,7 @@
 use Rattle.std.proofs.Common.{map}
 use Rattle.editor_messages.specs.Views.{document_ranges_seen}
 use Rattle.editor_messages.proofs.NamedLemmas.{all_versioned}
-use Rattle.json_parts.proofs.AddsLemmas.{added_then, adds_as, adds_then}
+use Rattle.lint_forms.proofs.AddsLemmas.{added_then, adds_as, adds_then}
 use Rattle.editor_messages.proofs.rename.write_with_versions.Goals as goal
 
 pub returns : goal.returns

@@ -1,6 +1,6 @@
 use Rattle.std.proofs.Common.{◌∷◌, ap, map, sym}
 use Rattle.json.specs.Token.{begin_array}
-use Rattle.json_parts.proofs.AddsLemmas.{added_then, adds_as, adds_then}
+use Rattle.lint_forms.proofs.AddsLemmas.{added_then, adds_as, adds_then}
 use Rattle.text_places.specs.Edits.{edit_of}
 use Rattle.text_places.specs.PlacedEdits.{placed_edits}
 use Rattle.editor_messages.specs.Replies.{edit_json}

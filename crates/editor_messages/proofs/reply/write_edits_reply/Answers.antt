@@ -1,5 +1,5 @@
 use Rattle.std.specs.Prelude.{codes, map}
-use Rattle.json_parts.proofs.AddsLemmas.{added_then, adds_as, adds_then}
+use Rattle.lint_forms.proofs.AddsLemmas.{added_then, adds_as, adds_then}
 use Rattle.text_places.specs.Edits.{edit_of}
 use Rattle.text_places.specs.PlacedEdits.{placed_edits}
 use Rattle.editor_messages.specs.Replies.{edits_json}

@@ -1,5 +1,5 @@
 use Rattle.std.specs.Prelude.{codes}
-use Rattle.json_parts.proofs.AddsLemmas.{added_then, adds_as, adds_then}
+use Rattle.lint_forms.proofs.AddsLemmas.{added_then, adds_as, adds_then}
 use Rattle.editor_messages.specs.Replies.{error_value}
 use Rattle.editor_messages.specs.Views.{id_seen}
 use Rattle.editor_messages.proofs.ReplyLemmas.{reply_tokens}

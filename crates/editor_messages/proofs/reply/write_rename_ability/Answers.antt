@@ -1,6 +1,6 @@
 use Rattle.std.proofs.Common.{ap, sym}
 use Rattle.json.specs.Tree.{json_tokens}
-use Rattle.json_parts.proofs.AddsLemmas.{adds_as}
+use Rattle.lint_forms.proofs.AddsLemmas.{adds_as}
 use Rattle.editor_messages.specs.Replies.{rename_ability}
 use Rattle.editor_messages.proofs.reply.write_rename_ability.Goals as goal
 

@@ -1,5 +1,5 @@
 use Rattle.std.proofs.Common.{ap₂}
-use Rattle.json_parts.proofs.AddsLemmas.{added_then, adds_as, adds_then}
+use Rattle.lint_forms.proofs.AddsLemmas.{added_then, adds_as, adds_then}
 use Rattle.editor_messages.specs.Inner.Nesting.{front_of}
 use Rattle.editor_messages.proofs.symbol.write_front.Goals as goal
 

@@ -1,6 +1,6 @@
 use Rattle.std.proofs.Common.{◌∷◌, []}
 use Rattle.json.specs.Token.{end_array}
-use Rattle.json_parts.proofs.AddsLemmas.{adds_as, adds_then}
+use Rattle.lint_forms.proofs.AddsLemmas.{adds_as, adds_then}
 use Rattle.editor_messages.proofs.NestingLemmas.{nesting_ends, one_more_nested}
 use Rattle.editor_messages.proofs.symbol.write_symbols.Goals as goal
 

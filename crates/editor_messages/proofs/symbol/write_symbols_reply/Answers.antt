@@ -1,6 +1,6 @@
 use Rattle.std.proofs.Common.{map}
 use Rattle.std.specs.Prelude.{codes}
-use Rattle.json_parts.proofs.AddsLemmas.{added_then, adds_as, adds_then}
+use Rattle.lint_forms.proofs.AddsLemmas.{added_then, adds_as, adds_then}
 use Rattle.text_outline.specs.Views.{symbol_seen}
 use Rattle.editor_messages.specs.Outlines.{symbols_json}
 use Rattle.editor_messages.specs.Views.{id_seen}

@@ -1,7 +1,7 @@
 use Rattle.std.proofs.Common.{◌∙◌, [], ap, refl, subst}
 use Rattle.std.proofs.lemmas.Result.{IfOk-weaker}
 use Rattle.std.specs.Prelude.{None, Ok, Some, option_map, string_bytes}
-use Rattle.json_parts.specs.Values.{json_text}
+use Rattle.lint_forms.specs.JsonValues.{json_text}
 use Rattle.text_places.specs.Edits.{line_edits}
 use Rattle.text_places.specs.PlacedEdits.{placed_edits}
 use Rattle.editor_messages.specs.Replies.{edits_json, reply_json}

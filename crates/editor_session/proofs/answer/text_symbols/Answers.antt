@@ -1,7 +1,7 @@
 use Rattle.std.proofs.Common.{◌∙◌, ap, map, refl}
 use Rattle.std.proofs.lemmas.Result.{IfOk-weaker}
 use Rattle.std.specs.Prelude.{Ok}
-use Rattle.json_parts.specs.Values.{json_text}
+use Rattle.lint_forms.specs.JsonValues.{json_text}
 use Rattle.editor_messages.specs.Outlines.{symbols_json}
 use Rattle.editor_messages.specs.Replies.{result_json}
 use Rattle.editor_messages.specs.Views.{id_seen}

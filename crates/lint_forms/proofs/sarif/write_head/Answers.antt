@@ -1,4 +1,4 @@
-use Rattle.json_parts.proofs.AddsLemmas.{added_then, adds_as, adds_then}
+use Rattle.lint_forms.proofs.AddsLemmas.{added_then, adds_as, adds_then}
 use Rattle.lint_forms.proofs.SarifLemmas.{head_tokens}
 use Rattle.lint_forms.proofs.sarif.write_head.Goals as goal
 

@@ -1,5 +1,5 @@
 use Rattle.std.proofs.Common.{◌∙◌}
-use Rattle.json_parts.proofs.AddsLemmas.{adds_as}
+use Rattle.lint_forms.proofs.AddsLemmas.{adds_as}
 use Rattle.lint_forms.proofs.SarifLemmas.{rule_by}
 use Rattle.lint_forms.proofs.sarif.write_rule.Goals as goal
 

@@ -1,6 +1,6 @@
 use Rattle.std.proofs.Common.{take}
 use Rattle.lint_forms.specs.Inner.SarifParts.{rules_tokens}
-use Rattle.json_parts.proofs.AddsLemmas.{Added}
+use Rattle.lint_forms.proofs.AddsLemmas.{Added}
 use Rattle.lint_forms.proofs.sarif.write_rules.Given as goal
 
 abbrev pub invariant-loop-rule : goal.invariant-loop-rule

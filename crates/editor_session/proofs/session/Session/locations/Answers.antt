@@ -1,7 +1,7 @@
 use Rattle.std.proofs.Common.{◌≡◌, ◌∙◌, [], ap, map, refl, subst}
 use Rattle.std.proofs.lemmas.Result.{IfOk-weaker}
 use Rattle.std.specs.Prelude.{None, Ok, Some}
-use Rattle.json_parts.specs.Values.{json_text}
+use Rattle.lint_forms.specs.JsonValues.{json_text}
 use Rattle.editor_messages.specs.Names.{locations_json}
 use Rattle.editor_messages.specs.Replies.{result_json}
 use Rattle.editor_messages.specs.Views.{document_ranges_seen, id_seen}

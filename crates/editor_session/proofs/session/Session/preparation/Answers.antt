@@ -2,7 +2,7 @@ use Rattle.std.proofs.Common.{◌∙◌, ap, refl, subst}
 use Rattle.std.proofs.lemmas.Result.{IfOk-weaker}
 use Rattle.std.specs.Prelude.{None, Ok, Some}
 use Rattle.json.specs.Json.{null}
-use Rattle.json_parts.specs.Values.{json_text}
+use Rattle.lint_forms.specs.JsonValues.{json_text}
 use Rattle.tf_names.specs.Names.{last_part}
 use Rattle.editor_messages.specs.Names.{prepared_json}
 use Rattle.editor_messages.specs.Replies.{result_json}

@@ -3,7 +3,7 @@ use Rattle.std.proofs.Common.{◌≡◌, ◌∙◌, ◌++◌, List, ap, append_a
 use Rattle.std.specs.Prelude.{Result, Ok, Err}
 use Rattle.json.specs.Token.{Token}
 use Rattle.json.specs.Written.{Written}
-use Rattle.json_parts.specs.AddsTokens.{AddsTokens}
+use Rattle.lint_forms.specs.AddsTokens.{AddsTokens}
 
 abbrev pub Added : Written → Written → List Token → Type 0
 Added old new ts = (new.before ≡ old.before) × (new.tokens ≡ old.tokens ++ ts)

@@ -1,8 +1,8 @@
 -- The tokens of parts.
 use Rattle.std.specs.Prelude.{[], ◌∷◌, List, decimal}
 use Rattle.json.specs.Token.{Token, begin_array, begin_object, boolean, end_array, end_object, key, number, string}
-use Rattle.json_parts.specs.declared.part.JsonPart.{JsonPart}
-use Rattle.json_parts.specs.declared.part.JsonPart.TheVariants as part
+use Rattle.lint_forms.specs.declared.json_part.JsonPart.{JsonPart}
+use Rattle.lint_forms.specs.declared.json_part.JsonPart.TheVariants as part
 
 abbrev pub part_tokens : JsonPart → List Token
 part_tokens part.Object = begin_object ∷ []

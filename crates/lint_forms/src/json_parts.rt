@@ -2,10 +2,10 @@
 
 ghost use Rattle.std.specs.Prelude.{◌≡◌, ◌++◌, IfOk, flat_map};
 ghost use Rattle.json.specs.Print.{print};
-ghost use Rattle.json_parts.specs.AddsTokens.{AddsTokens};
-ghost use Rattle.json_parts.specs.Parts.{part_tokens};
+ghost use Rattle.lint_forms.specs.AddsTokens.{AddsTokens};
+ghost use Rattle.lint_forms.specs.JsonParts.{part_tokens};
 
-use crate::part::JsonPart;
+use crate::json_part::JsonPart;
 use json::Writer;
 use std::alloc::AllocError;
 
@@ -52,7 +52,7 @@ pub fn write_parts(writer: &mut Writer, parts: &[JsonPart<'_>]) -> Result<(), Al
 }
 
 /// A text with these parts appended.
-pub fn with_parts(text: Vec<u8>, parts: &[JsonPart<'_>]) -> Result<Vec<u8>, AllocError>
+pub(crate) fn with_parts(text: Vec<u8>, parts: &[JsonPart<'_>]) -> Result<Vec<u8>, AllocError>
     ensures { IfOk result (λ l. l.items ≡ text.items ++ print (flat_map part_tokens parts.now)) }
 {
     let mut writer = Writer::new(text);

@@ -1,3 +1,0 @@
-pub mod AddsTokens
-pub mod Parts
-pub mod Values
