@@ -13,8 +13,8 @@ use Rattle.module_config.specs.declared.configure.Configured.{Configured}
 use Rattle.open_files.specs.OpenTexts.{OpenText, file_uri, with_open}
 use Rattle.text_places.specs.declared.place.Units.{Units}
 use Rattle.tf_rules.specs.declared.issue.Issue.{Issue}
-use Rattle.tree_lint.specs.Verdicts.{bytes_of_name, names_in}
-use Rattle.tree_lint.specs.declared.policy.Governed.{Governed}
+use Rattle.module_find.specs.Modules.{bytes_of_name, names_in}
+use Rattle.module_find.specs.declared.policy.Governed.{Governed}
 use Rattle.editor_modules.specs.FileDiagnostics.{file_diagnostics}
 use Rattle.editor_modules.specs.Messages.{AreMessages, DocumentMessage, message_of, message_seen}
 use Rattle.editor_modules.specs.Modules.{HasModule, IsGoverned}

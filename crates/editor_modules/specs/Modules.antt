@@ -7,7 +7,7 @@ use Rattle.module_config.specs.Configs.{Configures}
 use Rattle.module_config.specs.declared.configure.Configured.{Configured}
 use Rattle.module_find.specs.Modules.{AreAlone}
 use Rattle.module_find.specs.declared.module.Module.{Module}
-use Rattle.tree_lint.specs.declared.policy.Governed.{Governed}
+use Rattle.module_find.specs.declared.policy.Governed.{Governed}
 
 -- it is one whose options are known, if any is
 abbrev pub IsGoverned : Configured → Option Governed → Type 0

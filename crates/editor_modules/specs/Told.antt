@@ -6,7 +6,7 @@ use Rattle.hcl_source.specs.FaultTexts.{fault_text}
 use Rattle.module_check.specs.Checks.{IsChecked}
 use Rattle.module_check.specs.declared.check.Checked.{Checked}
 use Rattle.module_check.specs.declared.state.FileState.{FileState}
-use Rattle.module_find.specs.Modules.{folder_of, is_module_file}
+use Rattle.module_find.specs.Modules.{bytes_of_name, folder_of, is_module_file, names_in}
 use Rattle.module_find.specs.declared.module.Module.{Module}
 use Rattle.open_files.specs.OpenTexts.{OpenText, file_uri, rest_after, text_of, with_open}
 use Rattle.module_check.specs.Faults.{HasFault}
@@ -14,8 +14,7 @@ use Rattle.module_check.specs.declared.fault.MarkedFault.{MarkedFault}
 use Rattle.text_places.specs.declared.place.Units.{Units}
 use Rattle.tf_rules.specs.declared.issue.Issue.{Issue}
 use Rattle.tfrules_command.specs.Line.{max_files}
-use Rattle.tree_lint.specs.Verdicts.{bytes_of_name, names_in}
-use Rattle.tree_lint.specs.declared.policy.Governed.{Governed}
+use Rattle.module_find.specs.declared.policy.Governed.{Governed}
 use Rattle.editor_messages.specs.Diagnostics.{Diagnostic}
 use Rattle.editor_modules.specs.FileDiagnostics.{file_diagnostics, refusal}
 use Rattle.editor_modules.specs.Modules.{HasModule}

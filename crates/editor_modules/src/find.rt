@@ -11,10 +11,10 @@ use file_tree::names::is_passed_over;
 use file_tree::tree::Tree;
 use module_config::NOTHING;
 use module_config::configure::configure;
+use module_find::Governed;
 use module_find::modules::modules_in;
 use module_find::names::{folder_of, is_module_file};
 use std::alloc::{AllocError, Global};
-use tree_lint::policy::Governed;
 
 /// Whether the file of this path, which is in this folder, is one of the folder's module.
 fn is_in_module(folder: &[u8], path: &[u8]) -> bool

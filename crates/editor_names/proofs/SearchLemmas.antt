@@ -12,9 +12,8 @@ use Rattle.hcl_source.specs.declared.fault.Fault.{Fault}
 use Rattle.hcl_source.specs.declared.fault.LoadError.{LoadError}
 use Rattle.hcl_source.specs.declared.fault.LoadError.TheVariants as error
 use Rattle.tfrules_command.proofs.GatherLemmas.{fault_of_whole}
-use Rattle.module_find.specs.Modules.{AreAlone, AreModules}
+use Rattle.module_find.specs.Modules.{AreAlone, AreModules, bytes_of_name, names_in}
 use Rattle.module_find.specs.declared.module.Module.{Module}
-use Rattle.tree_lint.specs.Verdicts.{bytes_of_name, names_in}
 use Rattle.open_files.specs.OpenTexts.{OpenText, file_uri, version_open, with_open}
 use Rattle.editor_messages.specs.Views.{document_ranges_seen}
 use Rattle.editor_messages.specs.declared.range.DocumentRanges.{DocumentRanges as DocumentRangesOf}

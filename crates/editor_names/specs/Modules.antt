@@ -5,11 +5,10 @@ use Rattle.file_tree.specs.Files.{Files, Name}
 use Rattle.hcl_source.specs.Devices.{Tells}
 use Rattle.hcl_tokens.specs.Scanned.{Scanned}
 use Rattle.text_places.specs.declared.ranges.Range.{Range}
-use Rattle.module_find.specs.Modules.{AreAlone}
+use Rattle.module_find.specs.Modules.{AreAlone, bytes_of_name, names_in}
 use Rattle.module_find.specs.declared.module.Module.{Module}
 use Rattle.open_files.specs.OpenTexts.{OpenText, file_uri, version_open, with_open}
 use Rattle.text_outline.specs.Files.{IsFile, IsRefused}
-use Rattle.tree_lint.specs.Verdicts.{bytes_of_name, names_in}
 use Rattle.editor_messages.specs.Names.{DocumentRanges}
 use Rattle.editor_names.specs.Names.{Query, declares, ranges_in}
 use Rattle.editor_names.specs.declared.file.FileRanges.{FileRanges}

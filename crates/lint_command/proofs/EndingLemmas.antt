@@ -9,14 +9,14 @@ use Rattle.lint_forms.specs.Remarks.{said_by}
 use Rattle.lint_forms.specs.declared.kind.Form.{Form}
 use Rattle.lint_forms.specs.declared.remark.Remark as code
 use Rattle.module_find.specs.declared.module.Module.{Module}
-use Rattle.tree_lint.specs.Faults.{fault_lines, refusal_in}
-use Rattle.tree_lint.specs.KeptRefusals.{KeepsAll, kept_remark}
-use Rattle.tree_lint.specs.declared.kept.KeptRefusals.{KeptRefusals}
-use Rattle.tree_lint.proofs.KeptLemmas.{keeps_more}
-use Rattle.tree_lint.specs.Refusals.{tree_linter}
+use Rattle.lint_forms.specs.Faults.{fault_lines, refusal_in}
+use Rattle.lint_forms.specs.KeptRefusals.{KeepsAll, kept_remark}
+use Rattle.lint_forms.specs.declared.kept.KeptRefusals.{KeptRefusals}
+use Rattle.lint_forms.proofs.KeptLemmas.{keeps_more}
+use Rattle.lint_forms.specs.Refusals.{tree_linter}
 use Rattle.tree_lint.specs.Runs.{IsLintRun, worse_status}
 use Rattle.tree_lint.specs.declared.counts.Counts.{Counts}
-use Rattle.tree_lint.specs.declared.policy.Governed.{Governed}
+use Rattle.module_find.specs.declared.policy.Governed.{Governed}
 use Rattle.tree_lint.specs.declared.run.RunEnd.{RunEnd}
 use Rattle.tree_lint.specs.declared.written.Manner.{Manner}
 use Rattle.tree_lint.specs.declared.written.Terminals.{Terminals}

@@ -22,13 +22,13 @@ use Rattle.tree_words.specs.Shards.{picked_of}
 use Rattle.tree_words.specs.Line.{texts_in}
 use Rattle.tree_words.specs.WrongWords.{bad_line_words}
 use Rattle.tree_words.specs.declared.shard.Shard.{Shard}
-use Rattle.tree_lint.specs.Faults.{fault_lines, refusal_in}
-use Rattle.tree_lint.specs.KeptRefusals.{kept_remark, refusal_remark}
+use Rattle.lint_forms.specs.Faults.{fault_lines, refusal_in}
+use Rattle.lint_forms.specs.KeptRefusals.{kept_remark, refusal_remark}
 use Rattle.tree_lint.specs.Numbers.{summary_line}
-use Rattle.tree_lint.specs.Refusals.{tree_linter}
+use Rattle.lint_forms.specs.Refusals.{tree_linter}
 use Rattle.tree_lint.specs.Runs.{IsLintRun, worse_status}
 use Rattle.tree_lint.specs.declared.counts.Counts.{Counts}
-use Rattle.tree_lint.specs.declared.kept.KeptRefusals.{KeptRefusals}
+use Rattle.lint_forms.specs.declared.kept.KeptRefusals.{KeptRefusals}
 use Rattle.tree_lint.specs.declared.run.RunEnd.{RunEnd}
 use Rattle.tree_lint.specs.declared.written.Manner.{Manner}
 use Rattle.tree_lint.specs.declared.written.Terminals.{Terminals}

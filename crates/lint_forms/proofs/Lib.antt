@@ -1,4 +1,6 @@
 pub mod AddsLemmas
+mod FaultLemmas
+pub mod KeptLemmas
 pub mod NumberLemmas
 pub mod NumberingLemmas
 pub mod SarifLemmas

@@ -1,5 +1,6 @@
 //! The forms in which forges and editors read the remarks on modules: their issues, comments that are meant to silence
-//! a rule and don't, and why files are refused. And JSON, written part by part.
+//! a rule and don't, and why files are refused. JSON, written part by part. The lines about refusals, and refusals that
+//! are kept for the end of a form.
 //!
 //! The module [`laws`] has laws of the definitions alone.
 #![tactic(auto)]
@@ -9,10 +10,12 @@ pub mod form;
 mod gitlab;
 mod json_part;
 mod json_parts;
+pub mod kept;
 mod kind;
 pub mod laws;
 mod lines;
 mod places;
+pub mod refusal;
 mod remark;
 pub mod rule_texts;
 mod sarif;

@@ -5,7 +5,7 @@ ghost use Rattle.std.specs.Prelude.{◌≡◌, false};
 use crate::checks::{Modules, PIPES, same_bytes, same_counts, same_number};
 use command_line::Streams;
 use hcl_scan::MemorySink;
-use module_find::Module;
+use module_find::{Governed, Module, Policy};
 use std::alloc::{AllocError, Global};
 use std::process::Abort;
 use tf_rules::{Naming, RuleSet, Settings, Severity};
@@ -15,7 +15,6 @@ use tree_devices::entry::{MemoryEntry, Stands};
 use tree_devices::memory_tree::MemoryTree;
 use tree_lint::counts::Counts;
 use tree_lint::module_tree::ModuleTree;
-use tree_lint::policy::{Governed, Policy};
 use tree_lint::run::{RunEnd, run_over};
 use tree_lint::written::{Manner, Written};
 

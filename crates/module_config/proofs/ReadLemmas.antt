@@ -9,7 +9,7 @@ use Rattle.hcl_source.specs.declared.fault.LoadError.{LoadError}
 use Rattle.hcl_source.specs.declared.fault.LoadError.TheVariants as error
 use Rattle.module_find.specs.declared.module.Module.{Module}
 use Rattle.tfrules_command.proofs.GatherLemmas.{fault_of_whole, tells_all}
-use Rattle.tree_lint.specs.Verdicts.{bytes_of_name}
+use Rattle.module_find.specs.Modules.{bytes_of_name}
 use Rattle.module_config.specs.Configs.{AreRead, IsRead}
 use Rattle.module_config.specs.Governors.{ArePlaced, IsPlaced, wants}
 use Rattle.module_config.specs.Inner.Reading.{AddsFile, AddsPlaced, IsTextOf}

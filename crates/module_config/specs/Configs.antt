@@ -10,7 +10,7 @@ use Rattle.module_config.specs.Readings.{read_of}
 use Rattle.module_config.specs.Lines.{Options}
 use Rattle.module_config.specs.Reads.{read_text}
 use Rattle.module_find.specs.declared.module.Module.{Module}
-use Rattle.tree_lint.specs.Verdicts.{bytes_of_name}
+use Rattle.module_find.specs.Modules.{bytes_of_name}
 use Rattle.module_config.specs.Governors.{ArePlaced, IsStart, wants}
 use Rattle.module_config.specs.Settled.{governed_in, pair_of}
 use Rattle.module_config.specs.declared.config_file.ConfigFile.{ConfigFile}

@@ -12,8 +12,8 @@ use Rattle.rule_set.specs.declared.rule.Severity.{Severity}
 use Rattle.rule_set.specs.declared.rule.Severity.TheVariants.{Notice}
 use Rattle.tf_rules.specs.Issues.{Asked, asked_of}
 use Rattle.tf_rules.specs.declared.naming.Naming.TheVariants.{SnakeCase}
-use Rattle.tree_lint.specs.declared.policy.Governed.{Governed}
-use Rattle.tree_lint.specs.declared.policy.Policy.{Policy}
+use Rattle.module_find.specs.declared.policy.Governed.{Governed}
+use Rattle.module_find.specs.declared.policy.Policy.{Policy}
 use Rattle.module_config.specs.declared.config_file.ConfigFile.{ConfigFile}
 use Rattle.module_config.specs.declared.config_file.ConfigText.{ConfigText}
 use Rattle.module_config.specs.declared.config_file.ConfigText.TheVariants.{Says}

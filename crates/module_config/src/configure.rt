@@ -16,9 +16,8 @@ use crate::start::Start;
 use file_tree::fault::TreeFault;
 use file_tree::tree::Tree;
 use file_tree::walk::{Found, in_order};
-use module_find::Module;
+use module_find::{Governed, Module};
 use std::alloc::{AllocError, Global};
-use tree_lint::policy::Governed;
 
 /// The known options of modules before they are linted.
 #[derive(Drop)]

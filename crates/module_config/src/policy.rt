@@ -10,10 +10,10 @@ ghost use Rattle.module_config.specs.Settled.{default_rules, first_said, good_te
 use crate::config_file::{ConfigFile, ConfigText};
 use crate::governor::{Governor, Placed};
 use crate::said::{NOTHING, Said};
+use module_find::{Governed, Policy};
 use rule_set::{RuleSet, Severity};
 use std::alloc::{AllocError, Global};
 use tf_rules::{Naming, Settings};
-use tree_lint::policy::{Governed, Policy};
 
 /// The rules of the file, or the default ones.
 fn own_rules(own: Option<RuleSet>) -> RuleSet

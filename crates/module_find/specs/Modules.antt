@@ -1,5 +1,5 @@
 -- Which folders are modules, and which files are those of a module. Our own choice.
-use Rattle.std.specs.Prelude.{◌≡◌, ◌⊎◌, ◌==◌, ◌||◌, ◌&&◌, ◌-◌, not, Bool, true, false, List, [], ◌∷◌, ◌++◌, Option, Some, None, codes, flat_map, length, map, string_bytes, take, if◌then◌else◌}
+use Rattle.std.specs.Prelude.{◌≡◌, ◌⊎◌, ◌==◌, ℕ, ◌||◌, ◌&&◌, ◌-◌, not, Bool, true, false, List, [], ◌∷◌, ◌++◌, Option, Some, None, codes, flat_map, length, map, string_bytes, take, if◌then◌else◌}
 use Rattle.std.specs.List.{Contains, list_all, suffix_len}
 use Rattle.std.specs.Str.{is_utf8}
 use Rattle.file_tree.specs.Files.{Faults, Files, Name}
@@ -162,6 +162,14 @@ AreModules files looked (d ∷ ds) (m ∷ ms) told was is =
     × IsModule files looked d.name.items m here was between
     × AreModules files looked ds ms rest between is
 AreModules _ _ _ _ told was is = ⊥
+
+-- the bytes of the file to which a name leads
+abbrev pub bytes_of_name : Files → Name → Option (List ℕ)
+bytes_of_name files name = files.told (files.real name)
+
+-- the names of a module's files
+abbrev pub names_in : Module → List Name
+names_in m = map string_bytes m.files.items
 
 -- the module of one folder
 pub record AreAlone (files : Files) (folder : Name) (modules : List Module) : Type 0 where

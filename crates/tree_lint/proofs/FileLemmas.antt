@@ -31,9 +31,10 @@ use Rattle.tfrules_command.specs.declared.gather.ScannedFile.{ScannedFile}
 use Rattle.tfrules_command.specs.declared.stop.Stop.{Stop as FileStop}
 use Rattle.tfrules_command.specs.declared.stop.Stop.TheVariants as file_stop
 use Rattle.tree_lint.specs.Inner.Gathering.{AddedFile, AddsComments, AddsFile, AddsRead, IsEmpty, KeepsFile, KeepsScanned, ReachedAll, ReadsFile, StopsLoad, StopsWith, texts_kept}
-use Rattle.tree_lint.specs.Verdicts.{HaveFound, Linted, StopsAt, StopsBy, comments_looked_for, shows_lines, texts_shown, bytes_of_name}
+use Rattle.module_find.specs.Modules.{bytes_of_name}
+use Rattle.tree_lint.specs.Verdicts.{HaveFound, Linted, StopsAt, StopsBy, comments_looked_for, shows_lines, texts_shown}
 use Rattle.tree_lint.specs.declared.gather.Gathered.{Gathered}
-use Rattle.tree_lint.specs.declared.policy.Policy.{Policy}
+use Rattle.module_find.specs.declared.policy.Policy.{Policy}
 use Rattle.tree_lint.specs.declared.stop.Stop.{Stop}
 use Rattle.tree_lint.specs.declared.stop.Stop.TheVariants as stop
 use Rattle.tree_lint.specs.declared.written.Terminals.{Terminals}

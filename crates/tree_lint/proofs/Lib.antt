@@ -1,6 +1,5 @@
 pub mod CommentLemmas
 mod FileLemmas
-pub mod KeptLemmas
 pub mod NameLemmas
 mod PartedLemmas
 mod ShownLemmas

@@ -6,31 +6,28 @@ use Rattle.tree_lint.specs.declared.comment_fault.CommentFault as code
 use Rattle.command_line.specs.Rows.{TookBy, Writer}
 use Rattle.command_line.proofs.WriterLemmas.{appends_nothing}
 use Rattle.command_line.proofs.ListCutLemmas.{from_here}
-use Rattle.file_tree.specs.FaultTexts.{tree_fault_text}
 use Rattle.file_tree.specs.Files.{Faults, Files, Name}
-use Rattle.file_tree.specs.declared.fault.TreeFault.{TreeFault}
 use Rattle.file_tree.specs.Quotes.{shown_name}
-use Rattle.file_tree.specs.declared.walk.Found.{Found}
 use Rattle.lint_forms.specs.Forms.{module_text}
 use Rattle.lint_forms.specs.declared.kind.Form.{Form}
 use Rattle.lint_forms.specs.declared.kind.Form.TheVariants.{Json, Sarif, Checkstyle, Junit, Gitlab, Github}
 use Rattle.module_find.specs.declared.module.Module.{Module}
 use Rattle.tf_rules.specs.declared.issue.Issue.{Issue}
 use Rattle.tfrules_command.specs.Line.{max_files}
-use Rattle.tree_lint.specs.Faults.{fault_lines, refusal_by}
 use Rattle.tree_lint.specs.Inner.Showing.{HasOrNoMemory, Shows, is_nothing, refused_end}
-use Rattle.tree_lint.specs.KeptRefusals.{KeepsAll}
+use Rattle.lint_forms.specs.KeptRefusals.{KeepsAll}
 use Rattle.tree_lint.specs.Parted.{after_empty_line}
-use Rattle.tree_lint.specs.Refusals.{Refusal, refusal_line, refusal_of, reported_fault}
+use Rattle.lint_forms.specs.Refusals.{Refusal, refusal_line}
 use Rattle.tree_lint.specs.Runs.{comment_line, comment_remark, has_output, issue_remark, linted_output, remarks_by, report_of, verdict_message, verdict_output, verdict_status}
-use Rattle.tree_lint.specs.Verdicts.{CanBeRead, HaveFound, IsVerdict, Linted, StopsAt, Verdict, names_in, no_memory, stop_refusal, bytes_of_name, too_many}
+use Rattle.module_find.specs.Modules.{names_in, bytes_of_name}
+use Rattle.tree_lint.specs.Verdicts.{CanBeRead, HaveFound, IsVerdict, Linted, StopsAt, Verdict, no_memory, stop_refusal, too_many}
 use Rattle.tree_lint.specs.declared.counts.Ended.{Ended}
-use Rattle.tree_lint.specs.declared.kept.KeptRefusals.{KeptRefusals}
-use Rattle.tree_lint.specs.declared.policy.Policy.{Policy}
+use Rattle.lint_forms.specs.declared.kept.KeptRefusals.{KeptRefusals}
+use Rattle.module_find.specs.declared.policy.Policy.{Policy}
 use Rattle.tree_lint.specs.declared.run.ModuleTask.{ModuleTask}
 use Rattle.tree_lint.specs.declared.stop.Stop.{Stop}
 use Rattle.tree_lint.specs.declared.written.Terminals.{Terminals}
-use Rattle.tree_lint.proofs.KeptLemmas.{keeps_none}
+use Rattle.lint_forms.proofs.KeptLemmas.{keeps_none}
 use Rattle.tree_lint.proofs.PartedLemmas.{nothing_parted}
 
 pub shows_as : (task : ModuleTask) (m : Module) (P Q : Verdict → Type 0) (out err : Writer) (before after : KeptRefusals) (ended : Ended) → ((v : Verdict) → P v → Q v) → Shows task m P out err before after ended → Shows task m Q out err before after ended
@@ -177,15 +174,3 @@ module _ (files : Files) (terminals : Terminals) (policy : Policy) (m : Module) 
   pub for_found : CanBeRead m → is ≡ was → (names : List Name) → names ≡ names_in m → (linted : Linted) → HaveFound (bytes_of_name files) terminals policy names linted → (v : Verdict) → HasOrNoMemory m linted v → IsVerdict files terminals policy m was is v
   for_found can w names same linted have v (inl e) = subst (IsVerdict files terminals policy m was is) (sym e) (can, w, subst (λ l. HaveFound (bytes_of_name files) terminals policy l linted) same have)
   for_found can w names same linted have v (inr e) = for_memory can w v e
-
--- ---- names that can't be linted
-
-pub fault_said : (f : Found) (fault told : TreeFault) (name text : List ℕ) → f.fault ≡ Option.Some fault → told ≡ reported_fault fault → name ≡ f.name.items → text ≡ tree_fault_text told → refusal_line (refusal_of name text) ≡ fault_lines f
-fault_said f fault told name text e et en ex =
-    (λ i. refusal_line (refusal_of (en i) (ex i))) ∙ ap (λ t. refusal_line (refusal_of f.name.items (tree_fault_text t))) et
-    ∙ sym (append-nil (refusal_line (refusal_of f.name.items (tree_fault_text (reported_fault fault)))))
-    ∙ ap (λ o. flat_map refusal_line (refusal_by o f.name.items)) (sym e)
-
--- the lines for one name and for those after it
-pub fault_here : (faults : List Found) (i : ℕ) (f : Found) → i < length faults → f ≡ get_or faults i f → flat_map fault_lines (drop i faults) ≡ fault_lines f ++ flat_map fault_lines (drop (i + 1) faults)
-fault_here faults i f lt is = ap (flat_map fault_lines) (from_here faults i f lt is)

@@ -4,7 +4,7 @@ use Rattle.std.specs.List.{count_by, sum_by}
 use Rattle.module_find.specs.declared.module.Module.{Module}
 use Rattle.tree_lint.specs.Verdicts.{Verdict}
 use Rattle.tree_lint.specs.declared.counts.Counts.{Counts}
-use Rattle.tree_lint.specs.declared.policy.Governed.{Governed}
+use Rattle.module_find.specs.declared.policy.Governed.{Governed}
 
 -- whether a module counts as one: it has a file, or isn't whole
 abbrev pub is_module : Module → Bool

@@ -16,13 +16,14 @@ use Rattle.tf_rules.specs.Issues.{asked_of}
 use Rattle.tf_rules.specs.declared.issue.Issue.{Issue}
 use Rattle.tfrules_command.specs.Line.{Request}
 use Rattle.tfrules_command.specs.Report.{issue_line, report, report_by, status}
-use Rattle.tree_lint.specs.KeptRefusals.{HoldsAll}
+use Rattle.lint_forms.specs.KeptRefusals.{HoldsAll}
 use Rattle.tree_lint.specs.Numbers.{counts_of}
 use Rattle.tree_lint.specs.Parted.{after_empty_line}
-use Rattle.tree_lint.specs.Refusals.{Refusal, refusal_line}
-use Rattle.tree_lint.specs.Verdicts.{IsVerdict, Linted, Verdict, names_in}
-use Rattle.tree_lint.specs.declared.policy.Governed.{Governed}
-use Rattle.tree_lint.specs.declared.policy.Policy.{Policy}
+use Rattle.lint_forms.specs.Refusals.{Refusal, refusal_line}
+use Rattle.module_find.specs.Modules.{names_in}
+use Rattle.tree_lint.specs.Verdicts.{IsVerdict, Linted, Verdict}
+use Rattle.module_find.specs.declared.policy.Governed.{Governed}
+use Rattle.module_find.specs.declared.policy.Policy.{Policy}
 use Rattle.tree_lint.specs.declared.run.RunEnd.{RunEnd}
 use Rattle.tree_lint.specs.declared.written.Manner.{Manner}
 use Rattle.tree_lint.specs.declared.written.Terminals.{Terminals}

@@ -1,6 +1,6 @@
 -- The verdict on a module: it has issues, as `tfrules` finds them in its files, and comments that silence nothing, if
 -- they are checked; or it is refused, for a reason. The choice of the reason that is reported is our own.
-use Rattle.std.specs.Prelude.{◌≡◌, ◌⊎◌, ◌||◌, ◌≤◌, ◌<◌, ◌+◌, ℕ, Bool, true, false, List, [], ◌∷◌, ◌++◌, Option, Some, Result, Ok, Err, codes, if◌then◌else◌, length, map, string_bytes}
+use Rattle.std.specs.Prelude.{◌≡◌, ◌⊎◌, ◌||◌, ◌≤◌, ◌<◌, ◌+◌, ℕ, Bool, true, false, List, [], ◌∷◌, ◌++◌, Option, Some, Result, Ok, Err, codes, if◌then◌else◌, length, map}
 use Rattle.hcl_grammar.specs.Verdict.{IsTextVerdict}
 use Rattle.tree_lint.specs.CommentFaults.{CommentFault, comment_faults}
 use Rattle.file_tree.specs.FaultTexts.{tree_fault_text}
@@ -11,6 +11,7 @@ use Rattle.hcl_source.specs.FaultTexts.{fault_text}
 use Rattle.hcl_source.specs.Load.{IsLoadFault, IsText}
 use Rattle.hcl_source.specs.declared.fault.Fault.{Fault}
 use Rattle.hcl_tokens.specs.Scanned.{Scanned}
+use Rattle.module_find.specs.Modules.{bytes_of_name, names_in}
 use Rattle.module_find.specs.declared.module.Module.{Module}
 use Rattle.source_snippet.specs.Snippets.{snippet_if}
 use Rattle.tf_rules.specs.Answers.{AreIssues}
@@ -20,18 +21,11 @@ use Rattle.tfrules_command.specs.Answer.{names_of}
 use Rattle.tfrules_command.specs.Files.{AreAccepted, IsTooMuch, NamedFile, max_module, numbered_files, size_of}
 use Rattle.tfrules_command.specs.Line.{max_files}
 use Rattle.tfrules_command.specs.Rows.{AreFiles}
-use Rattle.tree_lint.specs.Refusals.{Refusal, refusal_of}
-use Rattle.tree_lint.specs.declared.policy.Policy.{Policy}
+use Rattle.lint_forms.specs.Refusals.{Refusal, refusal_of}
+use Rattle.module_find.specs.declared.policy.Policy.{Policy}
 use Rattle.tree_lint.specs.declared.stop.Stop.{Stop}
 use Rattle.tree_lint.specs.declared.stop.Stop.TheVariants as stop
 use Rattle.tree_lint.specs.declared.written.Terminals.{Terminals}
-
--- the bytes of the file to which a name leads
-abbrev pub bytes_of_name : Files → Name → Option (List ℕ)
-bytes_of_name files name = files.told (files.real name)
-
-abbrev pub names_in : Module → List Name
-names_in m = map string_bytes m.files.items
 
 -- ---- its files
 

@@ -5,7 +5,8 @@ ghost use Rattle.tree_lint.specs.CommentFaults.{fault_view};
 ghost use Rattle.tfrules_command.specs.Files.{max_module};
 ghost use Rattle.tfrules_command.specs.Line.{max_files};
 ghost use Rattle.tree_lint.specs.Readers.{Leaves, has_reader_out};
-ghost use Rattle.tree_lint.specs.Verdicts.{shows_lines, bytes_of_name};
+ghost use Rattle.module_find.specs.Modules.{bytes_of_name};
+ghost use Rattle.tree_lint.specs.Verdicts.{shows_lines};
 ghost use Rattle.tree_lint.specs.Inner.Gathering.{AddsComments, AddsFile, AddsRead, Gathers, IsEmpty, KeepsFile, KeepsScanned, StopsWith, texts_kept};
 ghost use Rattle.tree_lint.specs.Inner.Showing.{linted_view};
 

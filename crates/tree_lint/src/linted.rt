@@ -7,9 +7,9 @@ ghost use Rattle.tfrules_command.specs.Report.{status};
 ghost use Rattle.tree_lint.specs.Runs.{failing_under};
 
 use crate::comment_fault::CommentFault;
-use crate::policy::Policy;
 use hcl_scan::Source;
 use lint_forms::Form;
+use module_find::Policy;
 use tf_rules::IssueList;
 use tfrules_command::report::has_severe;
 

@@ -4,7 +4,7 @@ ghost use Rattle.std.specs.Prelude.{◌≡◌, IfOk, false, is_err, not, true};
 ghost use Rattle.file_tree.specs.Files.{fault_of, fault_of_reader, with_fault};
 ghost use Rattle.file_tree.specs.Unchanged.{Unchanged};
 ghost use Rattle.tree_lint.specs.Readers.{Leaves, has_reader_out};
-ghost use Rattle.tree_lint.specs.Verdicts.{bytes_of_name};
+ghost use Rattle.module_find.specs.Modules.{bytes_of_name};
 ghost use Rattle.tree_lint.specs.Inner.Gathering.{ReadsFile, StopsLoad};
 
 use crate::stop::Stop;

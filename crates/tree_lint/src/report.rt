@@ -5,18 +5,18 @@ ghost use Rattle.command_line.specs.Rows.{Took, writer};
 ghost use Rattle.tree_lint.specs.CommentFaults.{fault_view};
 ghost use Rattle.lint_forms.specs.Forms.{module_text};
 ghost use Rattle.tree_lint.specs.Parted.{after_empty_line};
-ghost use Rattle.tree_lint.specs.Refusals.{refusal_line, refusal_view};
-ghost use Rattle.tree_lint.specs.KeptRefusals.{KeepsAll};
+ghost use Rattle.lint_forms.specs.Refusals.{refusal_line, refusal_view};
+ghost use Rattle.lint_forms.specs.KeptRefusals.{KeepsAll};
 ghost use Rattle.tree_lint.specs.Runs.{comment_line, linted_output, remarks_by, report_of};
-ghost use Rattle.tree_lint.specs.Verdicts.{names_in, no_memory, too_many};
-ghost use Rattle.tree_lint.specs.Inner.Showing.{HasOrNoMemory, Shows, linted_view, refused_end};
+ghost use Rattle.module_find.specs.Modules.{names_in};
+ghost use Rattle.tree_lint.specs.Verdicts.{no_memory, too_many};
+ghost use Rattle.tree_lint.specs.Inner.Showing.{HasOrNoMemory, Shows, comment_refusal, linted_view, refused_end};
 
+use crate::comment_fault::CommentFault;
 use crate::counts::Ended;
 use crate::issue_remarks::{linted_text, name_of};
-use crate::kept::KeptRefusals;
 use crate::linted::Linted;
 use crate::module_lines::ModuleLines;
-use crate::refusal::{Refusal, tell_comment, tell_refusal};
 use crate::run::ModuleTask;
 use crate::shown::Shown;
 use crate::terminal::show_lines;
@@ -24,6 +24,8 @@ use command_line::{Streams, write_parts};
 use file_tree::path::place;
 use hcl_scan::{ByteSink, Failed, write_fully};
 use lint_forms::Form;
+use lint_forms::kept::KeptRefusals;
+use lint_forms::refusal::{Refusal, tell_refusal};
 use module_find::Module;
 use std::alloc::{AllocError, Global};
 use tfrules_command::report::show_issues;
@@ -188,6 +190,29 @@ fn show_linted<O: ByteSink>(
         Some(form) => show_form(alloc, form, task.is_after, one, linted, out),
         None => show_text(alloc, task, one, linted, out),
     }
+}
+
+/// Writes the line of a comment in the file of this name, and the part of the file that is shown there.
+fn tell_comment<'c, S: ByteSink>(
+    sink: &mut S,
+    name: &'c str,
+    fault: &'c CommentFault,
+    snippet: &'c [u8],
+) -> Result<(), Failed>
+    requires { S.failed sink.old ≡ false }
+    ensures took { Took (writer S.ByteSink sink.old sink.new)
+        (comment_refusal name.now snippet.now fault.now) }
+    ensures failed { S.failed sink.new ≡ is_err result }
+{
+    tell_refusal(
+        sink,
+        Refusal {
+            name: name.as_bytes(),
+            at: Some(fault.at),
+            text: fault.text.as_str(),
+            snippet,
+        },
+    )
 }
 
 /// Writes the lines of comments in the files of these names, up to a write that fails.

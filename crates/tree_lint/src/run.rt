@@ -11,15 +11,14 @@ ghost use Rattle.tree_lint.specs.Inner.Showing.{Shows};
 
 use crate::counts::{Counts, Ended};
 use crate::gather::{Gathered, gather};
-use crate::kept::KeptRefusals;
 use crate::module_tree::ModuleTree;
-use crate::policy::{Governed, Policy};
 use crate::report::{REFUSED, no_memory, refuse, show, too_many};
 use crate::written::{Manner, Written};
 use command_line::Streams;
 use file_tree::tree::Tree;
 use hcl_scan::{ByteSink, write_fully};
-use module_find::Module;
+use lint_forms::kept::KeptRefusals;
+use module_find::{Governed, Module, Policy};
 use std::alloc::Global;
 use tf_rules::Facts;
 use tfrules_command::file_names::MAX_FILES;

@@ -2,11 +2,11 @@
 
 ghost use Rattle.std.specs.Prelude.{◌≡◌};
 ghost use Rattle.tree_lint.specs.Verdicts.{stop_refusal};
-ghost use Rattle.tree_lint.specs.Refusals.{refusal_view};
+ghost use Rattle.lint_forms.specs.Refusals.{refusal_view};
 
-use crate::refusal::Refusal;
 use file_tree::fault::TreeFault;
 use hcl_scan::Fault;
+use lint_forms::refusal::Refusal;
 
 /// Why a file isn't kept.
 #[derive(Drop)]

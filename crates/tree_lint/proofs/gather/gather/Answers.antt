@@ -2,7 +2,7 @@ use Rattle.std.proofs.Common.{◌≡◌, ◌∙◌, ◌≤◌, ◌<◌, [], ap, 
 use Rattle.std.proofs.lemmas.List.{length-map, take_all}
 use Rattle.std.specs.Prelude.{string_bytes}
 use Rattle.tree_lint.specs.Inner.Gathering.{ReachedAll}
-use Rattle.tree_lint.specs.Verdicts.{bytes_of_name}
+use Rattle.module_find.specs.Modules.{bytes_of_name}
 use Rattle.tree_lint.specs.declared.written.Terminals.{Terminals}
 use Rattle.tree_lint.proofs.FileLemmas.{name_here, reached_all_more, reached_all_none, stops_at, told_here}
 use Rattle.tree_lint.proofs.gather.gather.Goals as goal

@@ -2,7 +2,7 @@ use Rattle.std.proofs.Common.{◌≡◌, ◌≤◌, false, map, take}
 use Rattle.std.specs.Prelude.{string_bytes}
 use Rattle.tfrules_command.specs.Files.{max_module}
 use Rattle.tree_lint.specs.Inner.Gathering.{ReachedAll}
-use Rattle.tree_lint.specs.Verdicts.{bytes_of_name}
+use Rattle.module_find.specs.Modules.{bytes_of_name}
 use Rattle.tree_lint.proofs.gather.gather.Given as goal
 
 abbrev pub invariant-loop-number : goal.invariant-loop-number

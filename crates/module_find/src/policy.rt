@@ -1,6 +1,6 @@
 //! The policies of modules.
 
-use module_find::Module;
+use crate::module::Module;
 use tf_rules::{Settings, Severity};
 
 /// The policy of a module.

@@ -3,11 +3,9 @@
 ghost use Rattle.std.specs.Prelude.{◌≡◌, ◌++◌, Some, false, flat_map, is_err, map};
 ghost use Rattle.std.specs.List.{concat};
 ghost use Rattle.command_line.specs.Rows.{Took, writer};
-ghost use Rattle.tree_lint.specs.Refusals.{named_words, refusal_line, refusal_of, refusal_view, refusal_words, reported_fault};
-ghost use Rattle.tree_lint.specs.Faults.{fault_lines, refusal_by};
-ghost use Rattle.tree_lint.specs.Inner.Showing.{comment_refusal};
+ghost use Rattle.lint_forms.specs.Refusals.{named_words, refusal_line, refusal_of, refusal_view, refusal_words, reported_fault};
+ghost use Rattle.lint_forms.specs.Faults.{fault_lines, refusal_by};
 
-use crate::comment_fault::CommentFault;
 use command_line::write_parts;
 use file_tree::fault::TreeFault;
 use file_tree::quote::write_quoted;
@@ -107,29 +105,6 @@ pub fn tell_refusal<S: ByteSink>(sink: &mut S, refusal: Refusal<'_>) -> Result<(
         return Err(Failed);
     }
     tell_named(sink, refusal)
-}
-
-/// Writes the line of a comment in the file of this name, and the part of the file that is shown there.
-pub(crate) fn tell_comment<'c, S: ByteSink>(
-    sink: &mut S,
-    name: &'c str,
-    fault: &'c CommentFault,
-    snippet: &'c [u8],
-) -> Result<(), Failed>
-    requires { S.failed sink.old ≡ false }
-    ensures took { Took (writer S.ByteSink sink.old sink.new)
-        (comment_refusal name.now snippet.now fault.now) }
-    ensures failed { S.failed sink.new ≡ is_err result }
-{
-    tell_refusal(
-        sink,
-        Refusal {
-            name: name.as_bytes(),
-            at: Some(fault.at),
-            text: fault.text.as_str(),
-            snippet,
-        },
-    )
 }
 
 /// The fault that is reported: `-` is a missing name like any other.

@@ -2,14 +2,15 @@
 
 ghost use Rattle.std.specs.Prelude.{◌≡◌, ◌++◌, ◌∷◌, [], IfOk, flat_map, map, true};
 ghost use Rattle.lint_forms.specs.Remarks.{said_by};
-ghost use Rattle.tree_lint.specs.KeptRefusals.{HoldsAll, KeepsAll, column_told, kept_remark, line_told, refusal_remark};
-ghost use Rattle.tree_lint.specs.Refusals.{refusal_view};
-ghost use Rattle.tree_lint.specs.Faults.{refusal_in};
+ghost use Rattle.lint_forms.specs.KeptRefusals.{HoldsAll, KeepsAll, column_told, kept_remark, line_told, refusal_remark};
+ghost use Rattle.lint_forms.specs.Refusals.{refusal_view};
+ghost use Rattle.lint_forms.specs.Faults.{refusal_in};
 
 use crate::refusal::{Refusal, reported_fault};
+use crate::remark::Remark;
+use crate::subject::Subject;
 use file_tree::walk::Found;
 use hcl_scan::Position;
-use lint_forms::{Remark, Subject};
 use std::alloc::{AllocError, Global};
 
 /// A refusal that owns its texts.
@@ -83,7 +84,7 @@ fn remark_of(kept: &KeptRefusal) -> Remark<'_>
 
 impl KeptRefusals {
     /// No refusals, which are to be kept or not.
-    pub(crate) fn new(alloc: Global, keeps: bool) -> KeptRefusals
+    pub fn new(alloc: Global, keeps: bool) -> KeptRefusals
         ensures { HoldsAll result [] }
     {
         KeptRefusals {

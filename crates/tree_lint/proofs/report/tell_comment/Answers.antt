@@ -1,8 +1,8 @@
 use Rattle.std.specs.Prelude.{Some}
 use Rattle.std.proofs.Common.{subst}
 use Rattle.command_line.specs.Rows.{TookBy}
-use Rattle.tree_lint.specs.Refusals.{Refusal, refusal_line}
-use Rattle.tree_lint.proofs.refusal.tell_comment.Goals as goal
+use Rattle.lint_forms.specs.Refusals.{Refusal, refusal_line}
+use Rattle.tree_lint.proofs.report.tell_comment.Goals as goal
 
 pub returns-clause-took : goal.returns-clause-took
 returns-clause-took g c =
