@@ -9,11 +9,11 @@ use Rattle.lint_forms.specs.Remarks.{said_by}
 use Rattle.lint_forms.specs.declared.kind.Form.{Form}
 use Rattle.lint_forms.specs.declared.remark.Remark as code
 use Rattle.module_find.specs.declared.module.Module.{Module}
-use Rattle.lint_forms.specs.Faults.{fault_lines, refusal_in}
-use Rattle.lint_forms.specs.KeptRefusals.{KeepsAll, kept_remark}
-use Rattle.lint_forms.specs.declared.kept.KeptRefusals.{KeptRefusals}
-use Rattle.lint_forms.proofs.KeptLemmas.{keeps_more}
-use Rattle.lint_forms.specs.Refusals.{tree_linter}
+use Rattle.module_find.specs.Faults.{fault_lines, refusal_in}
+use Rattle.module_find.specs.KeptRefusals.{KeepsAll, kept_remark}
+use Rattle.module_find.specs.declared.kept.KeptRefusals.{KeptRefusals}
+use Rattle.module_find.proofs.KeptLemmas.{keeps_more}
+use Rattle.module_find.specs.Refusals.{tree_linter}
 use Rattle.tree_lint.specs.Runs.{IsLintRun, worse_status}
 use Rattle.tree_lint.specs.declared.counts.Counts.{Counts}
 use Rattle.module_find.specs.declared.policy.Governed.{Governed}

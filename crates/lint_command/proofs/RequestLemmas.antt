@@ -2,7 +2,7 @@
 use Rattle.std.proofs.Common.{◌≡◌, ℕ, Bool, false, List, Option, subst, sym}
 use Rattle.command_line.specs.Rows.{End, Shows, out_of_memory}
 use Rattle.file_tree.specs.Files.{Faults, Files, Name}
-use Rattle.lint_forms.specs.Refusals.{tree_linter}
+use Rattle.module_find.specs.Refusals.{tree_linter}
 use Rattle.tree_lint.specs.declared.written.Terminals.{Terminals}
 use Rattle.tree_words.specs.Ends.{EndsBy}
 use Rattle.lint_command.specs.Ends.{Lints}

@@ -6,7 +6,7 @@ use Rattle.file_tree.specs.Quotes.{in_quotes}
 use Rattle.command_line.proofs.EndLemmas.{shows_as}
 use Rattle.lint_command.specs.Ends.{usage_row, wrong_value}
 use Rattle.lint_command.specs.Inner.Runs.{SaysOnly, ShowsUsage}
-use Rattle.lint_forms.specs.Refusals.{tree_linter}
+use Rattle.module_find.specs.Refusals.{tree_linter}
 use Rattle.lint_command.specs.declared.usage.Usage.{Usage}
 
 pub shows_usage : (texts : List Text) (usage is : Usage) (p : Program) (end : End) → usage ≡ is → p ≡ tree_linter → Shows p (usage_row texts is) end

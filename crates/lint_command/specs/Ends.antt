@@ -22,13 +22,13 @@ use Rattle.tree_words.specs.Shards.{picked_of}
 use Rattle.tree_words.specs.Line.{texts_in}
 use Rattle.tree_words.specs.WrongWords.{bad_line_words}
 use Rattle.tree_words.specs.declared.shard.Shard.{Shard}
-use Rattle.lint_forms.specs.Faults.{fault_lines, refusal_in}
-use Rattle.lint_forms.specs.KeptRefusals.{kept_remark, refusal_remark}
+use Rattle.module_find.specs.Faults.{fault_lines, refusal_in}
+use Rattle.module_find.specs.KeptRefusals.{kept_remark, refusal_remark}
 use Rattle.tree_lint.specs.Numbers.{summary_line}
-use Rattle.lint_forms.specs.Refusals.{tree_linter}
+use Rattle.module_find.specs.Refusals.{tree_linter}
 use Rattle.tree_lint.specs.Runs.{IsLintRun, worse_status}
 use Rattle.tree_lint.specs.declared.counts.Counts.{Counts}
-use Rattle.lint_forms.specs.declared.kept.KeptRefusals.{KeptRefusals}
+use Rattle.module_find.specs.declared.kept.KeptRefusals.{KeptRefusals}
 use Rattle.tree_lint.specs.declared.run.RunEnd.{RunEnd}
 use Rattle.tree_lint.specs.declared.written.Manner.{Manner}
 use Rattle.tree_lint.specs.declared.written.Terminals.{Terminals}

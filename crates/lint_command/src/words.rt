@@ -3,7 +3,7 @@
 ghost use Rattle.std.specs.Prelude.{◌≡◌, ℕ, List, false, map};
 ghost use Rattle.command_line.specs.Rows.{end_of_streams};
 ghost use Rattle.lint_command.specs.Inner.Runs.{ShowsUsage};
-ghost use Rattle.lint_forms.specs.Refusals.{tree_linter};
+ghost use Rattle.module_find.specs.Refusals.{tree_linter};
 ghost use Rattle.lint_command.specs.declared.usage.Usage.TheVariants.{BadLine, Explain, ListRules};
 
 use crate::explain::{explanation_of, rule_list};

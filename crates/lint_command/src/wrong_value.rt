@@ -7,7 +7,7 @@ ghost use Rattle.file_tree.specs.Quotes.{in_quotes};
 ghost use Rattle.lint_command.specs.Ends.{value_in, wrong_value};
 ghost use Rattle.lint_command.specs.Inner.Runs.{SaysOnly};
 ghost use Rattle.module_config.specs.Lists.{unknown_in};
-ghost use Rattle.lint_forms.specs.Refusals.{tree_linter};
+ghost use Rattle.module_find.specs.Refusals.{tree_linter};
 
 use crate::options::command;
 use crate::words::tree_linter;

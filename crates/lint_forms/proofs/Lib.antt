@@ -1,6 +1,4 @@
 pub mod AddsLemmas
-mod FaultLemmas
-pub mod KeptLemmas
 pub mod NumberLemmas
 pub mod NumberingLemmas
 pub mod SarifLemmas

@@ -1,17 +1,14 @@
 pub mod AddsTokens
 pub mod Documents
-pub mod Faults
 pub mod Forms
 pub mod Gitlab
 pub mod Inner
 pub mod JsonParts
 pub mod JsonValues
-pub mod KeptRefusals
 pub mod Laws
 pub mod Lines
 pub mod Marks
 pub mod Places
-pub mod Refusals
 pub mod Remarks
 pub mod RuleTexts
 pub mod Sarif

@@ -1,6 +1,5 @@
 //! The forms in which forges and editors read the remarks on modules: their issues, comments that are meant to silence
-//! a rule and don't, and why files are refused. JSON, written part by part. The lines about refusals, and refusals that
-//! are kept for the end of a form.
+//! a rule and don't, and why files are refused. JSON, written part by part.
 //!
 //! The module [`laws`] has laws of the definitions alone.
 #![tactic(auto)]
@@ -10,12 +9,10 @@ pub mod form;
 mod gitlab;
 mod json_part;
 mod json_parts;
-pub mod kept;
 mod kind;
 pub mod laws;
 mod lines;
 mod places;
-pub mod refusal;
 mod remark;
 pub mod rule_texts;
 mod sarif;

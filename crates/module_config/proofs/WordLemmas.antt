@@ -5,7 +5,7 @@ use Rattle.command_line.proofs.ListCutLemmas.{from_here}
 use Rattle.file_tree.specs.Files.{Name}
 use Rattle.file_tree.specs.FaultTexts.{tree_fault_text}
 use Rattle.file_tree.specs.declared.fault.TreeFault.{TreeFault}
-use Rattle.lint_forms.specs.Refusals.{refusal_line, refusal_of}
+use Rattle.module_find.specs.Refusals.{refusal_line, refusal_of}
 use Rattle.hcl_source.specs.FaultTexts.{fault_text}
 use Rattle.hcl_source.specs.declared.fault.Fault.{Fault}
 use Rattle.module_config.specs.Governors.{shown_from}

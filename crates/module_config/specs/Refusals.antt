@@ -6,7 +6,7 @@ use Rattle.file_tree.specs.declared.fault.TreeFault.{TreeFault}
 use Rattle.file_tree.specs.declared.walk.Found.{Found}
 use Rattle.hcl_source.specs.FaultTexts.{fault_text}
 use Rattle.module_config.specs.declared.config_lines.BadLine.{BadLine}
-use Rattle.lint_forms.specs.Refusals.{Refusal, refusal_of}
+use Rattle.module_find.specs.Refusals.{Refusal, refusal_of}
 use Rattle.module_config.specs.Governors.{shown_from}
 use Rattle.module_config.specs.declared.config_file.ConfigFile.{ConfigFile}
 use Rattle.module_config.specs.declared.config_file.ConfigText.{ConfigText}

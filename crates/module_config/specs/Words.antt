@@ -8,7 +8,7 @@ use Rattle.file_tree.specs.declared.fault.TreeFault.{TreeFault}
 use Rattle.file_tree.specs.declared.walk.Found.{Found}
 use Rattle.hcl_source.specs.FaultTexts.{fault_text}
 use Rattle.module_config.specs.declared.config_lines.BadLine.{BadLine}
-use Rattle.lint_forms.specs.Refusals.{refusal_line, refusal_of, tree_linter}
+use Rattle.module_find.specs.Refusals.{refusal_line, refusal_of, tree_linter}
 use Rattle.module_config.specs.Governors.{shown_from}
 use Rattle.module_config.specs.declared.config_file.ConfigFile.{ConfigFile}
 use Rattle.module_config.specs.declared.config_file.ConfigText.{ConfigText}

@@ -2,7 +2,7 @@
 
 ghost use Rattle.std.specs.Prelude.{◌≡◌, ◌∷◌, [], flat_map, map};
 ghost use Rattle.module_config.specs.Refusals.{config_refusals, configured_refusals, failure_refusals, line_number, line_refusal};
-ghost use Rattle.lint_forms.specs.KeptRefusals.{KeepsAll};
+ghost use Rattle.module_find.specs.KeptRefusals.{KeepsAll};
 
 use crate::config_file::{ConfigFile, ConfigText};
 use crate::config_lines::BadLine;
@@ -10,8 +10,8 @@ use crate::configure::Configured;
 use crate::start::Start;
 use file_tree::walk::Found;
 use hcl_source::Position;
-use lint_forms::kept::KeptRefusals;
-use lint_forms::refusal::Refusal;
+use module_find::kept::KeptRefusals;
+use module_find::refusal::Refusal;
 use std::alloc::Global;
 
 /// The number of a line, if it fits.

@@ -14,7 +14,7 @@ use file_tree::quote::write_quoted;
 use file_tree::walk::Found;
 use hcl_source::{ByteSink, Failed};
 use itoa::Buffer;
-use lint_forms::refusal::{Refusal, tell_refusal};
+use module_find::refusal::{Refusal, tell_refusal};
 
 /// Writes the text after the name of a file with a bad line.
 fn tell_line_words<S: ByteSink>(sink: &mut S, bad: &BadLine) -> Result<(), Failed>

@@ -1,1 +1,3 @@
+mod FaultLemmas
+pub mod KeptLemmas
 mod ModuleLemmas

@@ -15,19 +15,19 @@ use Rattle.module_find.specs.declared.module.Module.{Module}
 use Rattle.tf_rules.specs.declared.issue.Issue.{Issue}
 use Rattle.tfrules_command.specs.Line.{max_files}
 use Rattle.tree_lint.specs.Inner.Showing.{HasOrNoMemory, Shows, is_nothing, refused_end}
-use Rattle.lint_forms.specs.KeptRefusals.{KeepsAll}
+use Rattle.module_find.specs.KeptRefusals.{KeepsAll}
 use Rattle.tree_lint.specs.Parted.{after_empty_line}
-use Rattle.lint_forms.specs.Refusals.{Refusal, refusal_line}
+use Rattle.module_find.specs.Refusals.{Refusal, refusal_line}
 use Rattle.tree_lint.specs.Runs.{comment_line, comment_remark, has_output, issue_remark, linted_output, remarks_by, report_of, verdict_message, verdict_output, verdict_status}
 use Rattle.module_find.specs.Modules.{names_in, bytes_of_name}
 use Rattle.tree_lint.specs.Verdicts.{CanBeRead, HaveFound, IsVerdict, Linted, StopsAt, Verdict, no_memory, stop_refusal, too_many}
 use Rattle.tree_lint.specs.declared.counts.Ended.{Ended}
-use Rattle.lint_forms.specs.declared.kept.KeptRefusals.{KeptRefusals}
+use Rattle.module_find.specs.declared.kept.KeptRefusals.{KeptRefusals}
 use Rattle.module_find.specs.declared.policy.Policy.{Policy}
 use Rattle.tree_lint.specs.declared.run.ModuleTask.{ModuleTask}
 use Rattle.tree_lint.specs.declared.stop.Stop.{Stop}
 use Rattle.tree_lint.specs.declared.written.Terminals.{Terminals}
-use Rattle.lint_forms.proofs.KeptLemmas.{keeps_none}
+use Rattle.module_find.proofs.KeptLemmas.{keeps_none}
 use Rattle.tree_lint.proofs.PartedLemmas.{nothing_parted}
 
 pub shows_as : (task : ModuleTask) (m : Module) (P Q : Verdict → Type 0) (out err : Writer) (before after : KeptRefusals) (ended : Ended) → ((v : Verdict) → P v → Q v) → Shows task m P out err before after ended → Shows task m Q out err before after ended

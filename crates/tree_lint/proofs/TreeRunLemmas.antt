@@ -13,16 +13,16 @@ use Rattle.file_tree.specs.Files.{Faults, Files}
 use Rattle.tfrules_command.specs.Report.{weighs}
 use Rattle.tree_lint.specs.Inner.Growth.{HasRoom, counts_with, one_if}
 use Rattle.tree_lint.specs.Inner.Showing.{Shows}
-use Rattle.lint_forms.specs.KeptRefusals.{HoldsAll, KeepsAll, refusal_remark}
+use Rattle.module_find.specs.KeptRefusals.{HoldsAll, KeepsAll, refusal_remark}
 use Rattle.tree_lint.specs.Numbers.{counts_of, has_issues, is_module, is_refused, issue_count}
 use Rattle.tree_lint.specs.Runs.{AreJudged, IsLintRun, is_shown, is_some, messages, refusals_of, reports_after, verdict_message, statuses, verdict_output, verdict_status, worse_status, worst_status}
-use Rattle.lint_forms.specs.Refusals.{Refusal}
+use Rattle.module_find.specs.Refusals.{Refusal}
 use Rattle.tree_lint.specs.Verdicts.{IsVerdict, Verdict}
 use Rattle.lint_forms.specs.declared.kind.Form.{Form}
 use Rattle.tree_lint.specs.declared.counts.Counts.{Counts}
 use Rattle.tree_lint.specs.declared.counts.Ended.{Ended}
 use Rattle.module_find.specs.declared.policy.Governed.{Governed}
-use Rattle.lint_forms.specs.declared.kept.KeptRefusals.{KeptRefusals}
+use Rattle.module_find.specs.declared.kept.KeptRefusals.{KeptRefusals}
 use Rattle.module_find.specs.declared.policy.Policy.{Policy}
 use Rattle.tree_lint.specs.declared.run.RunEnd.{RunEnd}
 use Rattle.tree_lint.specs.declared.written.Manner.{Manner}

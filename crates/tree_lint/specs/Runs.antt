@@ -16,10 +16,10 @@ use Rattle.tf_rules.specs.Issues.{asked_of}
 use Rattle.tf_rules.specs.declared.issue.Issue.{Issue}
 use Rattle.tfrules_command.specs.Line.{Request}
 use Rattle.tfrules_command.specs.Report.{issue_line, report, report_by, status}
-use Rattle.lint_forms.specs.KeptRefusals.{HoldsAll}
+use Rattle.module_find.specs.KeptRefusals.{HoldsAll}
 use Rattle.tree_lint.specs.Numbers.{counts_of}
 use Rattle.tree_lint.specs.Parted.{after_empty_line}
-use Rattle.lint_forms.specs.Refusals.{Refusal, refusal_line}
+use Rattle.module_find.specs.Refusals.{Refusal, refusal_line}
 use Rattle.module_find.specs.Modules.{names_in}
 use Rattle.tree_lint.specs.Verdicts.{IsVerdict, Linted, Verdict}
 use Rattle.module_find.specs.declared.policy.Governed.{Governed}

@@ -21,7 +21,7 @@ use Rattle.tfrules_command.specs.Answer.{names_of}
 use Rattle.tfrules_command.specs.Files.{AreAccepted, IsTooMuch, NamedFile, max_module, numbered_files, size_of}
 use Rattle.tfrules_command.specs.Line.{max_files}
 use Rattle.tfrules_command.specs.Rows.{AreFiles}
-use Rattle.lint_forms.specs.Refusals.{Refusal, refusal_of}
+use Rattle.module_find.specs.Refusals.{Refusal, refusal_of}
 use Rattle.module_find.specs.declared.policy.Policy.{Policy}
 use Rattle.tree_lint.specs.declared.stop.Stop.{Stop}
 use Rattle.tree_lint.specs.declared.stop.Stop.TheVariants as stop

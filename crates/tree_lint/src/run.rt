@@ -17,7 +17,7 @@ use crate::written::{Manner, Written};
 use command_line::Streams;
 use file_tree::tree::Tree;
 use hcl_scan::{ByteSink, write_fully};
-use lint_forms::kept::KeptRefusals;
+use module_find::kept::KeptRefusals;
 use module_find::{Governed, Module, Policy};
 use std::alloc::Global;
 use tf_rules::Facts;

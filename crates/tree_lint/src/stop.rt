@@ -2,11 +2,11 @@
 
 ghost use Rattle.std.specs.Prelude.{◌≡◌};
 ghost use Rattle.tree_lint.specs.Verdicts.{stop_refusal};
-ghost use Rattle.lint_forms.specs.Refusals.{refusal_view};
+ghost use Rattle.module_find.specs.Refusals.{refusal_view};
 
 use file_tree::fault::TreeFault;
 use hcl_scan::Fault;
-use lint_forms::refusal::Refusal;
+use module_find::refusal::Refusal;
 
 /// Why a file isn't kept.
 #[derive(Drop)]

@@ -4,7 +4,7 @@ use Rattle.command_line.specs.Rows.{Took, Writer, error_line}
 use Rattle.file_tree.specs.declared.walk.Found.{Found}
 use Rattle.lint_forms.specs.declared.kind.Form.{Form}
 use Rattle.module_config.specs.declared.configure.Configured.{Configured}
-use Rattle.lint_forms.specs.Refusals.{tree_linter}
+use Rattle.module_find.specs.Refusals.{tree_linter}
 use Rattle.tree_lint.specs.Runs.{worse_status}
 use Rattle.tree_lint.specs.declared.run.RunEnd.{RunEnd}
 use Rattle.lint_command.specs.Ends.{IsFoot, fault_status, last_words}

@@ -5,7 +5,7 @@ use Rattle.command_line.specs.Rows.{End, Row, Shows, fails_with, out_of_memory}
 use Rattle.file_tree.specs.Files.{Faults, Files, Name, Tells}
 use Rattle.file_tree.specs.declared.walk.Found.{Found}
 use Rattle.module_find.specs.declared.module.Module.{Module}
-use Rattle.lint_forms.specs.Refusals.{tree_linter}
+use Rattle.module_find.specs.Refusals.{tree_linter}
 use Rattle.tree_lint.specs.declared.written.Terminals.{Terminals}
 use Rattle.tree_words.specs.Paths.{paths_of_input, paths_of_line}
 use Rattle.lint_command.specs.Ends.{EndsFor, Lints, LintsModules, usage_row}

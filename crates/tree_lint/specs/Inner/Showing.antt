@@ -5,13 +5,13 @@ use Rattle.tree_lint.specs.declared.comment_fault.CommentFault as found
 use Rattle.command_line.specs.Rows.{Took, Writer}
 use Rattle.file_tree.specs.Files.{Name}
 use Rattle.module_find.specs.declared.module.Module.{Module}
-use Rattle.lint_forms.specs.KeptRefusals.{KeepsAll}
+use Rattle.module_find.specs.KeptRefusals.{KeepsAll}
 use Rattle.tree_lint.specs.Numbers.{issue_count}
-use Rattle.lint_forms.specs.Refusals.{refusal_line}
+use Rattle.module_find.specs.Refusals.{refusal_line}
 use Rattle.tree_lint.specs.Runs.{is_shown, refusals_of, verdict_message, verdict_output, verdict_status}
 use Rattle.tree_lint.specs.Verdicts.{Linted, Verdict, no_memory}
 use Rattle.tree_lint.specs.declared.counts.Ended.{Ended}
-use Rattle.lint_forms.specs.declared.kept.KeptRefusals.{KeptRefusals}
+use Rattle.module_find.specs.declared.kept.KeptRefusals.{KeptRefusals}
 use Rattle.tree_lint.specs.declared.linted.Linted as code
 use Rattle.tree_lint.specs.declared.run.ModuleTask.{ModuleTask}
 

@@ -1,5 +1,5 @@
 use Rattle.std.proofs.Common.{flat_map, take}
-use Rattle.lint_forms.specs.KeptRefusals.{KeepsAll}
+use Rattle.module_find.specs.KeptRefusals.{KeepsAll}
 use Rattle.module_config.specs.Refusals.{config_refusals}
 use Rattle.module_config.proofs.keep.keep_files.Given as goal
 

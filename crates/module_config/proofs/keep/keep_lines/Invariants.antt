@@ -1,5 +1,5 @@
 use Rattle.std.proofs.Common.{map, take}
-use Rattle.lint_forms.specs.KeptRefusals.{KeepsAll}
+use Rattle.module_find.specs.KeptRefusals.{KeepsAll}
 use Rattle.module_config.specs.Refusals.{line_refusal}
 use Rattle.module_config.proofs.keep.keep_lines.Given as goal
 

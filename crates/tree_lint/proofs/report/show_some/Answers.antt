@@ -1,7 +1,7 @@
 use Rattle.std.proofs.Common.{◌∙◌, ap, map, refl}
 use Rattle.std.specs.Prelude.{string_bytes}
 use Rattle.tree_lint.specs.Inner.Showing.{linted_view}
-use Rattle.lint_forms.proofs.KeptLemmas.{keeps_none}
+use Rattle.module_find.proofs.KeptLemmas.{keeps_none}
 use Rattle.tree_lint.proofs.ShownLemmas.{comments_told, or_memory, refused_one, shown, shows_as}
 use Rattle.tree_lint.proofs.report.show_some.Goals as goal
 

@@ -1,7 +1,7 @@
 use Rattle.std.specs.Prelude.{Some}
 use Rattle.std.proofs.Common.{subst}
 use Rattle.command_line.specs.Rows.{TookBy}
-use Rattle.lint_forms.specs.Refusals.{Refusal, refusal_line}
+use Rattle.module_find.specs.Refusals.{Refusal, refusal_line}
 use Rattle.tree_lint.proofs.report.tell_comment.Goals as goal
 
 pub returns-clause-took : goal.returns-clause-took

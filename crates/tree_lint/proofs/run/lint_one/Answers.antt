@@ -1,6 +1,6 @@
 use Rattle.std.proofs.Common.{◌≤◌, ◌<◌, arith, length, refl}
 use Rattle.tfrules_command.specs.Line.{max_files}
-use Rattle.lint_forms.proofs.KeptLemmas.{keeps_none}
+use Rattle.module_find.proofs.KeptLemmas.{keeps_none}
 use Rattle.tree_lint.proofs.ShownLemmas.{for_broken, for_number, refused_one, refused_untold, shows_as}
 use Rattle.tree_lint.proofs.run.lint_one.Goals as goal
 

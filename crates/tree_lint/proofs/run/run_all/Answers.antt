@@ -11,7 +11,7 @@ use Rattle.tree_lint.proofs.TreeRunLemmas.{first_good, has_room, run_cut, run_wh
 use Rattle.tree_lint.proofs.run.run_all.Goals as goal
 
 pub loop-one-init : goal.loop-one-init
-loop-one-init g c = (c.requires.out, c.requires.err, c.requires.back, refl, refl, so_far_none (g.T.Tree.files c.args.files.now.tree) c.args.manner [] _ _ _ _ _ _ (appends_nothing _) c.new-counts.ensures c.new-kept.ensures)
+loop-one-init g c = (c.requires.out, c.requires.err, c.requires.back, refl, refl, so_far_none (g.T.Tree.files c.args.files.now.tree) c.args.manner [] _ _ _ _ _ _ (appends_nothing _) c.new-counts.ensures c.new-kept.ensures.none)
 
 pub loop-one-preserved : goal.loop-one-preserved
 loop-one-preserved g c =

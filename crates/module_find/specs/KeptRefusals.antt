@@ -4,9 +4,9 @@ use Rattle.std.specs.Str.Lossy.{utf8_lossy}
 use Rattle.hcl_source.specs.declared.fault.Position.{Position}
 use Rattle.lint_forms.specs.Remarks.{Remark}
 use Rattle.lint_forms.specs.declared.subject.Subject.TheVariants as subject
-use Rattle.lint_forms.specs.Refusals.{Refusal}
-use Rattle.lint_forms.specs.declared.kept.KeptRefusals.{KeptRefusals}
-use Rattle.lint_forms.specs.declared.kept.KeptRefusal.{KeptRefusal}
+use Rattle.module_find.specs.Refusals.{Refusal}
+use Rattle.module_find.specs.declared.kept.KeptRefusals.{KeptRefusals}
+use Rattle.module_find.specs.declared.kept.KeptRefusal.{KeptRefusal}
 
 -- a refusal without a place has the place 1:1
 abbrev pub line_told : Option Position → ℕ

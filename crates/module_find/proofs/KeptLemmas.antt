@@ -1,9 +1,9 @@
 -- Refusals that are kept, one after another.
 use Rattle.std.proofs.Common.{◌∙◌, ◌++◌, [], List, ap, append-nil, append_assoc, map, sym}
 use Rattle.std.proofs.lemmas.List.{map-append}
-use Rattle.lint_forms.specs.KeptRefusals.{KeepsAll, kept_remark, refusal_remark}
-use Rattle.lint_forms.specs.Refusals.{Refusal}
-use Rattle.lint_forms.specs.declared.kept.KeptRefusals.{KeptRefusals}
+use Rattle.module_find.specs.KeptRefusals.{KeepsAll, kept_remark, refusal_remark}
+use Rattle.module_find.specs.Refusals.{Refusal}
+use Rattle.module_find.specs.declared.kept.KeptRefusals.{KeptRefusals}
 
 -- no refusal is kept
 pub keeps_none : (kept : KeptRefusals) → KeepsAll kept kept []

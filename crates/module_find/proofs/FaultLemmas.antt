@@ -4,8 +4,8 @@ use Rattle.command_line.proofs.ListCutLemmas.{from_here}
 use Rattle.file_tree.specs.FaultTexts.{tree_fault_text}
 use Rattle.file_tree.specs.declared.fault.TreeFault.{TreeFault}
 use Rattle.file_tree.specs.declared.walk.Found.{Found}
-use Rattle.lint_forms.specs.Faults.{fault_lines, refusal_by}
-use Rattle.lint_forms.specs.Refusals.{refusal_line, refusal_of, reported_fault}
+use Rattle.module_find.specs.Faults.{fault_lines, refusal_by}
+use Rattle.module_find.specs.Refusals.{refusal_line, refusal_of, reported_fault}
 
 pub fault_said : (f : Found) (fault told : TreeFault) (name text : List ℕ) → f.fault ≡ Option.Some fault → told ≡ reported_fault fault → name ≡ f.name.items → text ≡ tree_fault_text told → refusal_line (refusal_of name text) ≡ fault_lines f
 fault_said f fault told name text e et en ex =

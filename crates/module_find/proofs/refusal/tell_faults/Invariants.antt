@@ -1,8 +1,8 @@
 use Rattle.std.proofs.Common.{◌≡◌, false, drop}
 use Rattle.std.specs.Prelude.{flat_map}
 use Rattle.command_line.proofs.WriterLemmas.{Goes}
-use Rattle.lint_forms.specs.Faults.{fault_lines}
-use Rattle.lint_forms.proofs.refusal.tell_faults.Given as goal
+use Rattle.module_find.specs.Faults.{fault_lines}
+use Rattle.module_find.proofs.refusal.tell_faults.Given as goal
 
 -- if the writer takes the remaining lines, it has taken all of them
 abbrev pub invariant-loop-found : goal.invariant-loop-found

@@ -4,7 +4,7 @@ use Rattle.file_tree.specs.FaultTexts.{tree_fault_text}
 use Rattle.file_tree.specs.Files.{Name}
 use Rattle.file_tree.specs.declared.fault.TreeFault.{TreeFault}
 use Rattle.file_tree.specs.declared.walk.Found.{Found}
-use Rattle.lint_forms.specs.Refusals.{Refusal, refusal_line, refusal_of, reported_fault}
+use Rattle.module_find.specs.Refusals.{Refusal, refusal_line, refusal_of, reported_fault}
 
 abbrev pub refusal_by : Option TreeFault → Name → List Refusal
 refusal_by None name = []

@@ -2,15 +2,14 @@
 
 ghost use Rattle.std.specs.Prelude.{◌≡◌, ◌++◌, ◌∷◌, [], IfOk, flat_map, map, true};
 ghost use Rattle.lint_forms.specs.Remarks.{said_by};
-ghost use Rattle.lint_forms.specs.KeptRefusals.{HoldsAll, KeepsAll, column_told, kept_remark, line_told, refusal_remark};
-ghost use Rattle.lint_forms.specs.Refusals.{refusal_view};
-ghost use Rattle.lint_forms.specs.Faults.{refusal_in};
+ghost use Rattle.module_find.specs.KeptRefusals.{HoldsAll, KeepsAll, column_told, kept_remark, line_told, refusal_remark};
+ghost use Rattle.module_find.specs.Refusals.{refusal_view};
+ghost use Rattle.module_find.specs.Faults.{refusal_in};
 
 use crate::refusal::{Refusal, reported_fault};
-use crate::remark::Remark;
-use crate::subject::Subject;
 use file_tree::walk::Found;
-use hcl_scan::Position;
+use hcl_source::Position;
+use lint_forms::{Remark, Subject};
 use std::alloc::{AllocError, Global};
 
 /// A refusal that owns its texts.
@@ -85,7 +84,8 @@ fn remark_of(kept: &KeptRefusal) -> Remark<'_>
 impl KeptRefusals {
     /// No refusals, which are to be kept or not.
     pub fn new(alloc: Global, keeps: bool) -> KeptRefusals
-        ensures { HoldsAll result [] }
+        ensures none { HoldsAll result [] }
+        ensures whole { result.is_whole ≡ keeps }
     {
         KeptRefusals {
             refusals: Vec::new(alloc),

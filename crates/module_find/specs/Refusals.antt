@@ -6,7 +6,7 @@ use Rattle.file_tree.specs.Quotes.{shown_name}
 use Rattle.file_tree.specs.declared.fault.TreeFault.{TreeFault}
 use Rattle.file_tree.specs.declared.fault.TreeFault.TheVariants.{Missing, NoInput}
 use Rattle.hcl_source.specs.declared.fault.Position.{Position}
-use Rattle.lint_forms.specs.declared.refusal.Refusal as code
+use Rattle.module_find.specs.declared.refusal.Refusal as code
 
 -- the program, for its messages
 abbrev pub tree_linter : Program

@@ -3,14 +3,14 @@
 ghost use Rattle.std.specs.Prelude.{◌≡◌, ◌++◌, Some, false, flat_map, is_err, map};
 ghost use Rattle.std.specs.List.{concat};
 ghost use Rattle.command_line.specs.Rows.{Took, writer};
-ghost use Rattle.lint_forms.specs.Refusals.{named_words, refusal_line, refusal_of, refusal_view, refusal_words, reported_fault};
-ghost use Rattle.lint_forms.specs.Faults.{fault_lines, refusal_by};
+ghost use Rattle.module_find.specs.Refusals.{named_words, refusal_line, refusal_of, refusal_view, refusal_words, reported_fault};
+ghost use Rattle.module_find.specs.Faults.{fault_lines, refusal_by};
 
 use command_line::write_parts;
 use file_tree::fault::TreeFault;
 use file_tree::quote::write_quoted;
 use file_tree::walk::Found;
-use hcl_scan::{ByteSink, Failed, Position};
+use hcl_source::{ByteSink, Failed, Position};
 use itoa::Buffer;
 
 /// Why a module isn't linted, or one of several reasons.

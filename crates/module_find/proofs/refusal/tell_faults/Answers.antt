@@ -1,6 +1,6 @@
 use Rattle.command_line.proofs.WriterLemmas.{all_taken, goes_on}
-use Rattle.lint_forms.proofs.FaultLemmas.{fault_here}
-use Rattle.lint_forms.proofs.refusal.tell_faults.Goals as goal
+use Rattle.module_find.proofs.FaultLemmas.{fault_here}
+use Rattle.module_find.proofs.refusal.tell_faults.Goals as goal
 
 pub loop-found-preserved : goal.loop-found-preserved
 loop-found-preserved g c = (

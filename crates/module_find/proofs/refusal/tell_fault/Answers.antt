@@ -1,8 +1,8 @@
 use Rattle.std.proofs.Common.{◌∙◌, List, ℕ, ap, subst}
 use Rattle.command_line.specs.Rows.{TookBy}
-use Rattle.lint_forms.specs.Refusals.{refusal_line}
-use Rattle.lint_forms.proofs.FaultLemmas.{fault_said}
-use Rattle.lint_forms.proofs.refusal.tell_fault.Goals as goal
+use Rattle.module_find.specs.Refusals.{refusal_line}
+use Rattle.module_find.proofs.FaultLemmas.{fault_said}
+use Rattle.module_find.proofs.refusal.tell_fault.Goals as goal
 
 pub returns-in-Some-clause-took : goal.returns-in-Some-clause-took
 returns-in-Some-clause-took g c =
